@@ -1,0 +1,32 @@
+-- Lists over ascending numbers. Assumes nothing.
+use mathlib.Core.Path.{_≡_, refl, sym, ap, ap₂, _∙_}
+use mathlib.Core.List.{List, [], _∷_, map}
+use Prim.Native.Nat.{ℕ, zero, suc, _+_, _<_}
+use native.Mathlib.Nat.{add-zero, zero-add, add-suc, suc-add, not-suc-le-zero, le-of-suc-le-suc}
+use native.Mathlib.Omega.{arith}
+use lib.ListN.{length, getD}
+use Rattle.field.specs.Lists.{upFrom}
+
+pub length-up : (k n : ℕ) → length (upFrom k n) ≡ n
+unfolding upFrom
+length-up k zero = refl
+length-up k (suc n) = ap suc (length-up (suc k) n)
+
+-- what a map over the numbers from k on has at place i
+pub getD-map-up : {A : Type 0} (f : ℕ → A) (k n i : ℕ) (d : A) → i < n → getD (map f (upFrom k n)) i d ≡ f (k + i)
+unfolding upFrom
+getD-map-up f k zero i d h = absurd (not-suc-le-zero h)
+getD-map-up f k (suc n) zero d h = ap f (sym (add-zero k))
+getD-map-up f k (suc n) (suc i) d h = getD-map-up f (suc k) n i d (le-of-suc-le-suc h) ∙ ap f (suc-add k i ∙ sym (add-suc k i))
+
+-- the same from 0 on
+pub getD-map-below : {A : Type 0} (f : ℕ → A) (n i : ℕ) (d : A) → i < n → getD (map f (upFrom 0 n)) i d ≡ f i
+getD-map-below f n i d h = getD-map-up f 0 n i d h ∙ ap f (zero-add i)
+
+-- two maps that agree on the numbers are equal
+pub map-up-same : {A : Type 0} (f g : ℕ → A) (k n : ℕ) → ((i : ℕ) → i < n → f (k + i) ≡ g (k + i)) → map f (upFrom k n) ≡ map g (upFrom k n)
+unfolding upFrom
+map-up-same f g k zero h = refl
+map-up-same f g k (suc n) h =
+    ap₂ _∷_ (ap f (sym (add-zero k)) ∙ h 0 (omega arith) ∙ ap g (add-zero k))
+    (map-up-same f g (suc k) n (λ i l. ap f (suc-add k i ∙ sym (add-suc k i)) ∙ h (suc i) (omega arith) ∙ ap g (add-suc k i ∙ sym (suc-add k i))))

@@ -1,0 +1,40 @@
+-- `field::inverse` meets its contract. Assumes nothing.
+use borrow.Author.Needs.{needs}
+use Rattle.field.proofs.Table.{inverse-1, inverse-14}
+use Rattle.field.proofs.inverse.Statement.{statement}
+use Rattle.field.proofs.inverse.Tie as tie
+
+returns : tie.Need-returns
+returns c = inverse-1 _ _ (c .if1 .taken)
+
+product-requires : tie.Need-product-requires
+product-requires c κs = search needs
+
+product-requires-2 : tie.Need-product-requires-2
+product-requires-2 c κs = search needs
+
+product-requires-3 : tie.Need-product-requires-3
+product-requires-3 c κs = search needs
+
+product-requires-4 : tie.Need-product-requires-4
+product-requires-4 c κs = search needs
+
+product-requires-5 : tie.Need-product-requires-5
+product-requires-5 c κs = search needs
+
+returns-2 : tie.Need-returns-2
+returns-2 c =
+    inverse-14 _ _ _ _ _ _ _ (c .before .before .before .before .before .if1 .left) (c .before .before .before .before .product .ensures)
+    (c .before .before .before .product2 .ensures) (c .before .before .product3 .ensures) (c .before .product4 .ensures) (c .product5 .ensures)
+
+pub inverse-spec : {M : Type 1} → statement M
+inverse-spec =
+    tie.close
+    (tie.spec
+    returns
+    product-requires
+    product-requires-2
+    product-requires-3
+    product-requires-4
+    product-requires-5
+    returns-2)

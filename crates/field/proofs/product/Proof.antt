@@ -1,0 +1,42 @@
+-- `field::product` meets its contract. Assumes nothing.
+use borrow.Author.Needs.{needs}
+use Rattle.field.proofs.Table.{entry, bits-product, bits-small}
+use Rattle.field.proofs.product.Statement.{statement}
+use Rattle.field.proofs.product.Tie as tie
+
+mul-result : tie.Need-mul-result
+mul-result c = record { fits = bits-small _ _ }
+
+returns : tie.Need-returns
+returns c = bits-product _ _ _ (c .if1 .taken)
+
+cast-entry : tie.Need-cast-entry
+cast-entry c = search needs
+
+mul-entry : tie.Need-mul-entry
+mul-entry c = search needs
+
+cast-entry-2 : tie.Need-cast-entry-2
+cast-entry-2 c = search needs
+
+add-entry : tie.Need-add-entry
+add-entry c = search needs
+
+element-copy-out-result : tie.Need-element-copy-out-result
+element-copy-out-result c = search needs
+
+returns-2 : tie.Need-returns-2
+returns-2 c = entry _ _ _ _ (c .before .before .pre) (c .before .if1 .left)
+
+pub product-spec : {M : Type 1} → statement M
+product-spec =
+    tie.close
+    (tie.spec
+    mul-result
+    returns
+    cast-entry
+    mul-entry
+    cast-entry-2
+    add-entry
+    element-copy-out-result
+    returns-2)

@@ -1,0 +1,1 @@
+// Systems of equations over our fields, and filling the marked places of a vector.
