@@ -1,0 +1,3 @@
+-- What is shown of the definitions.
+pub mod Sheet
+pub mod Samples

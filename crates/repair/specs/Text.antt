@@ -1,0 +1,85 @@
+-- The text that `mend` prints, for any bytes that it reads.
+use Prim.Native.Nat.{ℕ, zero, suc, _+_, _/_, _%_}
+use Prim.Native.Char.{code}
+use Prim.Native.String.{String, [] as ε, _∷_ as _∶_}
+use mathlib.Core.Bool.{Bool, true, false}
+use mathlib.Core.List.{List, [], _∷_, _++_, map, flatMap}
+use lib.Dec.{eqb, ltb}
+use lib.ListN.{length, take}
+use Rattle.field.specs.Lists.{if_then_else_, upFrom}
+use Rattle.repair.specs.Plan.{Plan, planOf, rowAt, marksAt}
+use Rattle.repair.specs.Answers.{answerNumber}
+use Rattle.repair.specs.Refusal.{unasked}
+use Rattle.repair.specs.Rounds.{mendReport, mendStripe, mendMarks}
+use Rattle.repair.specs.File.{planIn, marksIn, symbolsIn, fileRefusal}
+use Rattle.repair.specs.declared.Place.{Place}
+use Rattle.repair.specs.declared.Place.the-variants.{Row, Across}
+use Rattle.repair.specs.declared.Report.{Report}
+use Rattle.repair.specs.declared.Answer.{Answer}
+use Rattle.repair.specs.declared.Answer.the-variants.{Restored, Stuck, Clash, Refused}
+
+-- ---- bytes
+
+-- a text's characters by their numbers
+unfoldable pub bytes : String → List ℕ
+bytes ε = []
+bytes (c ∶ s) = code c ∷ bytes s
+
+unfoldable pub digitsIn : (most : ℕ) → ℕ → List ℕ
+digitsIn zero n = []
+digitsIn (suc k) n = let high = digitsIn k (n / 10) in (if ltb n 10 then [] else high) ++ ((48 + n % 10) ∷ [])
+
+-- decimal, without leading zeros
+unfoldable pub decimal : ℕ → List ℕ
+decimal n = digitsIn (suc n) n
+
+-- a lowercase hex digit
+unfoldable pub hex : ℕ → ℕ
+hex x = if ltb x 10 then 48 + x else 87 + x
+
+-- a word and a number
+unfoldable pub item : String → ℕ → List ℕ
+item word n = bytes word ++ decimal n
+
+unfoldable pub lineEnd : List ℕ
+lineEnd = 10 ∷ []
+
+-- ---- lines
+
+-- a row's symbols, `?` at a place still marked
+unfoldable pub shown : List Bool → List ℕ → List ℕ
+shown [] xs = []
+shown (m ∷ ms) [] = []
+shown (true ∷ ms) (x ∷ xs) = 63 ∷ shown ms xs
+shown (false ∷ ms) (x ∷ xs) = hex x ∷ shown ms xs
+
+unfoldable pub grid : Plan → List ℕ → List ℕ → List ℕ
+grid P stripe marks = flatMap (λ r. shown (marksAt P marks r) (rowAt P stripe r) ++ lineEnd) (upFrom 0 (P .rows))
+
+unfoldable pub placeText : Place → List ℕ
+placeText (Row row level) = item " level " level ++ item " place row " row
+placeText (Across level) = item " level " level ++ bytes " place across"
+
+-- rows restored at each level of the plan
+unfoldable pub summary : ℕ → Report → List ℕ
+summary p r =
+    item " level " (r .level) ++ item " left " (r .left) ++ bytes " rows"
+    ++ flatMap (item " ") (take (length (planOf p .levels)) (r .rows)) ++ lineEnd
+
+unfoldable pub reportText : ℕ → Report → Answer → (stripe marks : List ℕ) → List ℕ
+reportText p r Restored stripe marks = summary p r ++ grid (planOf p) stripe marks
+reportText p r Stuck stripe marks = summary p r ++ grid (planOf p) stripe marks
+reportText p r (Clash place) stripe marks = placeText place ++ lineEnd
+reportText p r (Refused n) stripe marks = lineEnd
+
+unfoldable pub mendText : ℕ → (stripe marks : List ℕ) → List ℕ
+mendText p stripe marks =
+    let r = mendReport p stripe marks in
+    item "plan " p ++ item " answer " (answerNumber (r .answer))
+    ++ reportText p r (r .answer) (mendStripe p stripe marks) (mendMarks p stripe marks)
+
+-- what is printed for a file
+unfoldable pub printed : List ℕ → List ℕ
+printed file =
+    let n = fileRefusal file unasked in
+    if eqb n 0 then mendText (planIn file) (symbolsIn file) (marksIn file) else item "refused " n ++ lineEnd
