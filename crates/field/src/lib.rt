@@ -260,7 +260,7 @@ const PRODUCTS: [u8; 256] = [
     8,
     7,
     5,
-    10
+    10,
 ];
 
 // The table of products, to be copied to a local once and lent to `product` and `inverse`.
