@@ -1,4 +1,4 @@
--- What is shown of the fields. Other crates cite Sum, Laws, Fields and Powers.
+-- What is shown of the fields. Other crates cite Sum, Ring, Laws, Fields, Lists, Words and Powers.
 pub mod Sum
 pub mod Test
 pub mod Ring
@@ -6,3 +6,5 @@ pub mod Laws
 pub mod Fields
 pub mod Lists
 pub mod Table
+pub mod Words
+pub mod Powers

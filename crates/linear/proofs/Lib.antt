@@ -1,0 +1,5 @@
+-- What is shown of filling. Other crates cite Tests, Choices, Vectors and Filling.
+pub mod Tests
+pub mod Choices
+pub mod Vectors
+pub mod Filling
