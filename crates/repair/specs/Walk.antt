@@ -1,0 +1,47 @@
+-- What the code's walk over the rows of a round says, in terms of the turns.
+use Prim.Native.Nat.{ℕ, pred, _+_, _≤_, _<_}
+use mathlib.Core.Path.{_≡_}
+use mathlib.Core.List.{List}
+use lib.Dec.{ltb}
+use lib.ListN.{length, getD, set}
+use Rattle.field.specs.Lists.{if_then_else_}
+use Rattle.linear.specs.Marks.{bitsOf}
+use Rattle.linear.specs.Fill.{Fill, tied, none, one, fill}
+use Rattle.repair.specs.Plan.{Plan, planOf, checksTo, rowAt}
+use Rattle.repair.specs.Refusal.{sumsAt, benchRefusal, unasked}
+use Rattle.repair.specs.Rounds.{Standing, Turn, clash, turns}
+use Rattle.repair.specs.declared.Bench.{Bench}
+use Rattle.repair.specs.declared.steps.Filling.{Filling}
+use Rattle.repair.specs.declared.steps.Filling.the-variants.{Tied, None, One}
+use Rattle.repair.specs.declared.Place.the-variants.{Row}
+
+-- a bench by its parts
+abbrev pub benchOf : (p t : ℕ) (symbols marks sums : List ℕ) → Bench
+benchOf p t symbols marks sums = record { plan = p; level = t; symbols = symbols; marks = marks; sums = sums }
+
+abbrev pub standingOf : Bench → (turn : ℕ) → (restored : List ℕ) → Standing
+standingOf b turn restored = record { bench = b; turn = turn; restored = restored }
+
+-- the code's answer of a fill, and the vector that it leaves
+unfoldable pub answerOf : Fill → Filling
+answerOf tied = Tied
+answerOf none = None
+answerOf (one w) = One
+
+unfoldable pub vectorOf : Fill → List ℕ → List ℕ
+vectorOf tied v = v
+vectorOf none v = v
+vectorOf (one w) v = w
+
+-- k rows more restored at level t
+unfoldable pub more : (t k : ℕ) → List ℕ → List ℕ
+more t k restored = set restored (pred t) (getD restored (pred t) 0 + k)
+
+-- the row turns of a round lead from bench b to bench c and to the level step's turn; or to a Clash in row `row`, which is below R
+pub record Walked (b c : Bench) (row filled : ℕ) : Type 0 where
+  pub fit : benchRefusal c unasked ≡ 0
+  pub upto : row ≤ planOf (b .plan) .rows
+  pub few : filled ≤ planOf (b .plan) .rows
+  pub turned : (n : ℕ) (restored : List ℕ) → pred (b .level) < length restored
+      → turns (planOf (b .plan) .rows + n) (standingOf b 0 restored)
+      ≡ (if ltb row (planOf (b .plan) .rows) then clash (Row row (b .level)) else turns n (standingOf c (planOf (b .plan) .rows) (more (b .level) filled restored)))
