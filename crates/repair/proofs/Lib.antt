@@ -1,3 +1,6 @@
 -- What is shown of the definitions.
 pub mod Sheet
 pub mod Samples
+pub mod Rows
+pub mod Levels
+pub mod Shape
