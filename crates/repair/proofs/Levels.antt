@@ -1,11 +1,11 @@
 -- The checks of levels 1 to t, and a row's sums: what a further level adds to them. Assumes nothing.
-use mathlib.Core.Path.{_≡_, refl, sym, ap, ap₂, _∙_, subst}
+use mathlib.Core.Path.{_≡_, refl, sym, ap, ap₂, _∙_}
 use mathlib.Core.List.{List, [], _∷_, _++_, flatMap, append-assoc, append-nil}
 use Prim.Native.Nat.{ℕ, suc, _+_, _*_, _-_, _<_, _≤_, zero-le}
-use native.Mathlib.Nat.{add-sub-of-le, zero-add}
+use native.Mathlib.Nat.{add-sub-of-le}
 use native.Mathlib.Omega.{arith}
-use lib.ListN.{length, take, drop, getD, length-append, length-map, length-take, length-drop, drop-of-length-le}
-use lib.Seq.{take-add, take-suc, take-take, sets, sets-eq, length-take-le}
+use lib.ListN.{length, take, drop, getD, length-append, length-map, length-drop, drop-of-length-le}
+use lib.Seq.{take-add, take-suc, take-take, sets-eq, length-take-le}
 use Rattle.field.specs.Lists.{upFrom}
 use Rattle.repair.specs.Plan.{Plan, Level, noLevel, levelOf, checksTo}
 use Rattle.repair.specs.Refusal.{room, sumsAt}

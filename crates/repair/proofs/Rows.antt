@@ -1,19 +1,17 @@
 -- Rows of flat lists: what stands in each row after one was written, in each row's sums after a level was learned, and in the room. Assumes nothing.
 use mathlib.Core.Path.{_≡_, refl, sym, ap, ap₂, _∙_, subst}
-use mathlib.Core.Logic.{_≢_, inl, inr}
-use mathlib.Core.Bool.{Bool}
+use mathlib.Core.Logic.{_⊎_, _≢_, inl, inr}
 use mathlib.Core.List.{List, [], _∷_, _++_, map, append-nil}
 use Prim.Native.Nat.{ℕ, zero, suc, _+_, _*_, _-_, _<_, _≤_}
 use native.Mathlib.Nat.{mul-le-mul-right, suc-mul, zero-mul, add-suc, add-zero, zero-add, le-of-eq, eq-or-lt-of-le}
 use native.Mathlib.Omega.{arith}
-use borrow.Author.Tests.{ltb-true, ltb-false}
-use lib.Dec.{ltb, T, ltb→lt, nltb→le}
-use lib.ListN.{length, take, drop, getD, set, length-append, length-map, length-take, length-drop, length-set, take-append-drop, drop-of-length-le}
-use lib.Seq.{sets, sets-eq, length-sets, set-out, drop-set-lt, drop-set-add, take-add, drop-drop, length-take-le, take-take, take-append-le, drop-append-le}
+use lib.Dec.{T, eqb, ltb, eqb→eq, eqb-refl, ltb→lt, nltb→le, T-not}
+use lib.ListN.{length, take, drop, getD, set, length-map, length-take, length-drop, length-set, take-append-drop, drop-of-length-le}
+use lib.Seq.{sets, sets-eq, length-sets, set-out, drop-set-lt, drop-set-add, take-add, drop-drop, length-take-le, take-append-le, drop-append-le}
 use Rattle.field.specs.Lists.{upFrom}
 use Rattle.linear.proofs.Tests.{either}
-use Rattle.repair.specs.Plan.{Plan, levelOf, checksTo, rowAt}
-use Rattle.repair.specs.Refusal.{room, sumsAt}
+use Rattle.repair.specs.Plan.{Plan, rowAt}
+use Rattle.repair.specs.Refusal.{room}
 use Rattle.repair.specs.Steps.{keepSums}
 
 -- ---- a run of stores, and parts of a list
@@ -60,6 +58,17 @@ written : (m i at : ℕ) (x l : List ℕ) → take m (drop i (sets l (i + at) x)
 written m i at x l = ap (take m) (drop-sets i x l at) ∙ take-sets m x (drop i l) at
 
 -- ---- rows of N places: row r stands at r * N
+
+pub same-or-other : (k r : ℕ) → (k ≡ r) ⊎ (k ≢ r)
+same-or-other k r =
+    elim (either (eqb k r)) [
+      | inl t ↦ inl (eqb→eq k r t)
+      | inr t ↦ inr (λ e. T-not (eqb k r) t (subst (λ j. T (eqb k j)) e (eqb-refl k)))
+    ]
+
+-- what holds of row r and of each other row holds of every row
+pub of-rows : {R : ℕ} (Q : ℕ → Type 0) (r : ℕ) → Q r → ((k : ℕ) → k < R → k ≢ r → Q k) → (k : ℕ) → k < R → Q k
+of-rows Q r q h k l = elim (same-or-other k r) [ inl e ↦ subst Q (sym e) q | inr ne ↦ h k l ne ]
 
 pub row-end : (N : ℕ) {r R : ℕ} → r < R → r * N + N ≤ R * N
 row-end N {r} {R} h = omega (arith, mul-le-mul-right N h, suc-mul r N)
