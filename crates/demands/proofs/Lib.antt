@@ -1,0 +1,4 @@
+-- Why the demands hold.
+pub mod Marked
+pub mod Binary
+pub mod Few
