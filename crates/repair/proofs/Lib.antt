@@ -14,3 +14,4 @@ pub mod Unmarked
 pub mod Turns
 -- the rows of a round
 pub mod Walking
+pub mod Arms

@@ -21,7 +21,8 @@ use Rattle.repair.specs.declared.Stepped.{Stepped}
 use Rattle.repair.specs.declared.Step.{Step}
 use Rattle.repair.specs.declared.Step.the-variants.{Whole, Filled, Tied, Raised, Blocked, Top, Clash}
 use Rattle.repair.specs.declared.Place.the-variants.{Row, Across}
-use Rattle.repair.proofs.Fit.{BenchFit, row-step, level-step}
+use Rattle.repair.proofs.Fit.{BenchFit}
+use Rattle.repair.proofs.Sound.{row-step, level-step}
 
 -- ---- rows restored
 

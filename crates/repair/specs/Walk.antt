@@ -19,6 +19,10 @@ use Rattle.repair.specs.declared.Place.the-variants.{Row}
 abbrev pub benchOf : (p t : ℕ) (symbols marks sums : List ℕ) → Bench
 benchOf p t symbols marks sums = record { plan = p; level = t; symbols = symbols; marks = marks; sums = sums }
 
+-- its arrays are as long as the code's
+abbrev pub Arrays : Bench → Type 0
+Arrays b = (length (b .symbols) ≡ 256) × (length (b .marks) ≡ 8) × (length (b .sums) ≡ 128)
+
 abbrev pub standingOf : Bench → (turn : ℕ) → (restored : List ℕ) → Standing
 standingOf b turn restored = record { bench = b; turn = turn; restored = restored }
 
@@ -40,6 +44,7 @@ more t k restored = set restored (pred t) (getD restored (pred t) 0 + k)
 -- the row turns of a round lead from bench b to bench c and to the level step's turn; or to a Clash in row `row`, which is below R
 pub record Walked (b c : Bench) (row filled : ℕ) : Type 0 where
   pub fit : benchRefusal c unasked ≡ 0
+  pub sized : Arrays c
   pub upto : row ≤ planOf (b .plan) .rows
   pub few : filled ≤ planOf (b .plan) .rows
   pub turned : (n : ℕ) (restored : List ℕ) → pred (b .level) < length restored

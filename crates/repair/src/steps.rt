@@ -12,7 +12,7 @@ ghost use Rattle.linear.specs.Fill.{sumsOf, fill};
 ghost use Rattle.repair.specs.Plan.{planOf, known, checksTo, rowAt};
 ghost use Rattle.repair.specs.Refusal.{sumsAt, sumsFit, levelFits, benchRefusal, unasked};
 ghost use Rattle.repair.specs.Tables.{checkTable};
-ghost use Rattle.repair.specs.Walk.{benchOf, answerOf, vectorOf, Walked};
+ghost use Rattle.repair.specs.Walk.{Arrays, benchOf, answerOf, vectorOf, Walked};
 
 pub enum Filling {
     Tied,
@@ -77,6 +77,7 @@ fn walk_rows(
     requires { ⌜ now table ≡ products ⌝ }
     requires { ⌜ now checks ≡ checkTable (planOf plan) ⌝ }
     requires { ⌜ benchRefusal (benchOf plan level (now symbols) (now marks) (now sums)) unasked ≡ 0 ⌝ }
+    requires { ⌜ Arrays (benchOf plan level (now symbols) (now marks) (now sums)) ⌝ }
     ensures { λ w. ⌜ Walked (benchOf plan level (now (symbols .entry)) (now (marks .entry)) (now (sums .entry))) (benchOf plan level (now (symbols .exit)) (now (marks .exit)) (now (sums .entry))) (w .row) (w .filled) ⌝ }
 {
     let rows = plan::rows(plan);
@@ -85,7 +86,7 @@ fn walk_rows(
     let mut filled = 0;
     let clash = 'rows: loop {
         if row == rows {
-            break 'rows rows;
+            break 'rows row;
         }
         let word = marks[row];
         if word == 0 {

@@ -1,12 +1,17 @@
 -- `repair::steps::walk_rows` meets its contract. Assumes nothing.
 use Prim.Native.Nat.{ℕ, _+_, _*_, _-_, _≤_, _<_}
 use mathlib.Core.Path.{_≡_, refl, sym, ap, _∙_}
-use lib.ListN.{getD}
+use mathlib.Core.List.{List}
+use lib.ListN.{length, getD}
 use Rattle.linear.specs.Fill.{sumsOf}
 use Rattle.repair.specs.Plan.{planOf, checksTo, rowAt}
 use borrow.Author.Count.{below-more}
-use Rattle.repair.proofs.Fit.{bench-fit}
-use Rattle.repair.proofs.Walking.{Walking, walking-start, walking-tied, walking-whole, walking-filled, walked-clash, walked-end}
+use mathlib.Core.Logic.{⊎-elim}
+use Rattle.repair.proofs.Shape.{shape}
+use Rattle.repair.proofs.Levels.{checks-le}
+use Rattle.repair.proofs.Fit.{fit-sums}
+use Rattle.repair.proofs.Arms.{arm-tied, arm-none, arm-one}
+use Rattle.repair.proofs.Walking.{sound-of, Walking, walking-start, walking-checked, answered-tied, answered-one, walked-failed, answered-none, walked-end}
 use native.Mathlib.Omega.{arith}
 use borrow.Author.Needs.{needs}
 use Rattle.repair.proofs.steps.walk_rows.Statement.{statement}
@@ -33,6 +38,15 @@ abbrev μ-rows : tie.MeasureT-rows
 μ-rows plan level table checks symbols₀ marks₀ sums rows count row₀ filled₀ symbols marks row filled =
     planOf plan .rows - row
 
+-- a row has no more sums than places
+few : {p t : ℕ} {sums symbols₀ marks₀ symbols marks : List ℕ} {row filled : ℕ} → Walking p t sums symbols₀ marks₀ symbols marks row filled
+    → length (checksTo (planOf p) t) ≤ 16
+few {p} w = omega (arith, checks-le (planOf p) (w .sound .fit .level-le), shape p (w .sound .fit .plan-known) .sums-le)
+
+-- the row at hand is one of the plan's
+inside : (c : tie.Else1 Inv-loop μ-loop Inv-rows μ-rows) → c .before .rows .row < planOf (c .before .before .before .before .args .plan) .rows
+inside c = omega (arith, c .before .rows .inv .upto, c .if1 .left, c .before .before .before .rows2 .ensures)
+
 rows-requires : tie.Need-rows-requires Inv-loop μ-loop Inv-rows μ-rows
 rows-requires c κs = search needs
 
@@ -40,28 +54,31 @@ sums-to-requires : tie.Need-sums-to-requires Inv-loop μ-loop Inv-rows μ-rows
 sums-to-requires c κs = search needs
 
 rows-holds : tie.Need-rows-holds Inv-loop μ-loop Inv-rows μ-rows
-rows-holds c = walking-start _ _ _ _ _ (bench-fit _ _ (c .before .before .pre .1 .1) .0) (let h : _≡_ {A = ℕ} 0 1 = c .before .before .good .1 .1 .1 .1 .0 in ?sized)
+rows-holds c = walking-start _ _ _ _ _ (sound-of _ (c .before .before .pre .1 .1 .0) (c .before .before .pre .1 .1 .1))
 
 mul-word : tie.Need-mul-word Inv-loop μ-loop Inv-rows μ-rows
-mul-word c = search needs
+mul-word c = let w = c .before .rows .inv in record { fits = omega (arith, shape _ (w .sound .fit .plan-known) .rows-le, w .upto) }
 
 element-copy-out-word : tie.Need-element-copy-out-word Inv-loop μ-loop Inv-rows μ-rows
-element-copy-out-word c = search needs
+element-copy-out-word c = let w = c .before .rows .inv in omega (arith, shape _ (w .sound .fit .plan-known) .rows-le, w .upto, c .before .before .before .rows2 .ensures)
 
 loop-holds : tie.Need-loop-holds Inv-loop μ-loop Inv-rows μ-rows
 loop-holds c = search needs
 
 check-sum-requires : tie.Need-check-sum-requires Inv-loop μ-loop Inv-rows μ-rows
-check-sum-requires c κs = ?cs
+check-sum-requires c κs = 
+    let w = c .before .before .before .before .before .before .rows .inv in
+    let pre = c .before .before .before .before .before .before .before .before .before .pre in
+    (pre .0, (pre .1 .0, (w .sound .fit .plan-known, inside (c .before .before .before .before .before), omega (arith, c .before .before .before .before .before .before .before .sums-to .ensures))))
 
 mul-if3 : tie.Need-mul-if3 Inv-loop μ-loop Inv-rows μ-rows
-mul-if3 c = search needs
+mul-if3 c = let w = c .before .before .before .before .before .before .before .rows .inv in record { fits = omega (arith, shape _ (w .sound .fit .plan-known) .rows-le, w .upto) }
 
 add-if3 : tie.Need-add-if3 Inv-loop μ-loop Inv-rows μ-rows
-add-if3 c = search needs
+add-if3 c = let w = c .before .before .before .before .before .before .before .rows .inv in record { fits = omega (arith, shape _ (w .sound .fit .plan-known) .rows-le, w .upto, few w, c .before .before .before .before .before .before .before .before .sums-to .ensures) }
 
 element-copy-out-if3 : tie.Need-element-copy-out-if3 Inv-loop μ-loop Inv-rows μ-rows
-element-copy-out-if3 c = search needs
+element-copy-out-if3 c = let w = c .before .before .before .before .before .before .before .rows .inv in omega (arith, shape _ (w .sound .fit .plan-known) .rows-le, inside (c .before .before .before .before .before .before), few w, c .before .before .before .before .before .before .before .before .sums-to .ensures)
 
 add-j : tie.Need-add-j Inv-loop μ-loop Inv-rows μ-rows
 add-j c = search needs
@@ -70,10 +87,14 @@ loop-less : tie.Need-loop-less Inv-loop μ-loop Inv-rows μ-rows
 loop-less c = search needs
 
 loop-again : tie.Need-loop-again Inv-loop μ-loop Inv-rows μ-rows
-loop-again c = (search needs, below-more _ _ (c .before .before .before .before .before .loop .inv .1) ?l)
+loop-again c = (search needs, below-more _ _ (c .before .before .before .before .before .loop .inv .1) (sym (c .before .before .check-sum .ensures) ∙ c .if3 .left))
 
 fill-row-requires : tie.Need-fill-row-requires Inv-loop μ-loop Inv-rows μ-rows
-fill-row-requires c κs = ?fr
+fill-row-requires c κs = 
+    let w = c .before .before .before .before .rows .inv in
+    let pre = c .before .before .before .before .before .before .before .pre in
+    let i = inside (c .before .before .before) in
+    (pre .0, (pre .1 .0, (w .sound .fit .plan-known, i, w .sound .fit .mark-lt _ i, fit-sums _ _ _ (w .sound .fit .sums-fits))))
 
 enum-told : tie.Need-enum-told Inv-loop μ-loop Inv-rows μ-rows
 enum-told c = search needs
@@ -85,10 +106,10 @@ enum-told-3 : tie.Need-enum-told-3 Inv-loop μ-loop Inv-rows μ-rows
 enum-told-3 c = search needs
 
 mul-marks : tie.Need-mul-marks Inv-loop μ-loop Inv-rows μ-rows
-mul-marks c = search needs
+mul-marks c = let w = c .before .before .before .before .before .before .before .rows .inv in record { fits = omega (arith, shape _ (w .sound .fit .plan-known) .rows-le, w .upto) }
 
 element-write-marks : tie.Need-element-write-marks Inv-loop μ-loop Inv-rows μ-rows
-element-write-marks c = search needs
+element-write-marks c = let w = c .before .before .before .before .before .before .before .rows .inv in omega (arith, shape _ (w .sound .fit .plan-known) .rows-le, inside (c .before .before .before .before .before .before))
 
 add-filled : tie.Need-add-filled Inv-loop μ-loop Inv-rows μ-rows
 add-filled c = search needs
@@ -100,16 +121,28 @@ rows-less : tie.Need-rows-less Inv-loop μ-loop Inv-rows μ-rows
 rows-less c = search needs
 
 rows-again : tie.Need-rows-again Inv-loop μ-loop Inv-rows μ-rows
-rows-again c = ?again
+rows-again c = 
+    ⊎-elim
+    (λ w. rw (w .3, w .4, w .5) (walking-checked _ _ _ _ _ _ _ _ _ (c .before .before .before .rows .inv) (inside (c .before .before)) (w .0 .taken)
+    (λ i h. w .1 .inv .1 i (omega (arith, w .2 .left, c .before .before .before .before .sums-to .ensures)))))
+    (λ v.
+    ⊎-elim
+    (λ w. rw (w .5, w .6, w .7) (answered-tied _ _ _ _ _ _ _ _ _ (c .before .before .before .rows .inv) (inside (c .before .before)) _ _ (w .2 .ensures .0) (arm-tied _ (w .3 .keys1)) (w .2 .ensures .1)))
+    (λ w. rw (w .5, w .6, w .7) (answered-one _ _ _ _ _ _ _ _ _ (c .before .before .before .rows .inv) (inside (c .before .before)) _ _ (w .0 .left) (w .2 .ensures .0) (arm-one _ (w .3 .keys3)) (w .2 .ensures .1)))
+    v)
+    (c .if2 .came)
 
 returns : tie.Need-returns Inv-loop μ-loop Inv-rows μ-rows
-returns c = ?r
+returns c = walked-end _ _ _ _ _ _ _ _ _ (c .before .rows .inv) (c .if1 .taken ∙ c .before .before .before .rows2 .ensures)
 
 returns-2 : tie.Need-returns-2 Inv-loop μ-loop Inv-rows μ-rows
-returns-2 c = ?r2
+returns-2 c = 
+    walked-failed _ _ _ _ _ _ _ _ _ (c .before .before .before .before .before .before .before .before .before .rows .inv) (inside (c .before .before .before .before .before .before .before .before)) (c .before .before .before .before .before .before .if2 .taken) _ (omega (arith, c .before .before .before .before .loop-test .taken, c .before .before .before .before .before .before .before .before .before .before .sums-to .ensures))
+    (λ e. c .if3 .taken (c .before .before .check-sum .ensures ∙ e))
 
 returns-3 : tie.Need-returns-3 Inv-loop μ-loop Inv-rows μ-rows
-returns-3 c = ?r3
+returns-3 c = 
+    answered-none _ _ _ _ _ _ _ _ _ (c .before .before .before .before .before .before .before .rows .inv) (inside (c .before .before .before .before .before .before)) _ _ (c .before .before .fill-row .ensures .0) (arm-none _ (c .before .match .keys2)) (c .before .before .fill-row .ensures .1)
 
 pub walk-rows-spec : {M : Type 1} → statement M
 walk-rows-spec =
