@@ -1,3 +1,5 @@
 -- What is shown of the definitions.
 pub mod Sheet
 pub mod Samples
+pub mod Summing
+pub mod Lossy
