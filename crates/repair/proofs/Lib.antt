@@ -1,5 +1,7 @@
 -- What is shown of the definitions.
 pub mod Sheet
 pub mod Samples
+pub mod Plans
+pub mod Padded
 pub mod Summing
 pub mod Lossy
