@@ -9,6 +9,7 @@ ghost use Rattle.field.specs.Lists.{upFrom};
 ghost use Rattle.field.specs.Field.{dot};
 ghost use Rattle.field.specs.Ours.{fieldOf, products};
 ghost use Rattle.linear.specs.Marks.{bitsOf};
+ghost use Rattle.repair.specs.Tables.{padded, rowSums};
 
 // The sum of each symbol times its coefficient.
 pub fn row_sum(q: usize, table: &[u8; 256], check: &[u8], row: &[u8]) -> u8
@@ -23,6 +24,22 @@ pub fn row_sum(q: usize, table: &[u8; 256], check: &[u8], row: &[u8]) -> u8
         sum = sum ^ field::product(q, table, x, y);
     }
     sum
+}
+
+// The sums of the rows under one check, and zeros behind them. A row is as long as the check.
+pub fn across(q: usize, table: &[u8; 256], rows: usize, check: &[u8], symbols: &[u8]) -> [u8; 8]
+    requires { ⌜ now table ≡ products ⌝ }
+    requires { ⌜ (rows ≤ 8) × (rows * length (now check) ≤ length (now symbols)) ⌝ }
+    ensures { λ l. ⌜ l ≡ padded 8 (rowSums (fieldOf q) rows (now (symbols .entry)) (now (check .entry))) ⌝ }
+{
+    let n = check.len();
+    let mut sums = [0u8; 8];
+    for r in 0..rows {
+        let start = r * n;
+        let end = start + n;
+        sums[r] = row_sum(q, table, check, &symbols[start..end]);
+    }
+    sums
 }
 
 // The word whose bit r is set where row r has marks.
