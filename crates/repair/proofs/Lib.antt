@@ -1,6 +1,9 @@
 -- What is shown of the definitions.
 pub mod Sheet
 pub mod Samples
+pub mod Rows
+pub mod Levels
+pub mod Shape
 pub mod Plans
 pub mod Padded
 pub mod Summing
