@@ -8,3 +8,5 @@ pub mod Plans
 pub mod Padded
 pub mod Summing
 pub mod Lossy
+pub mod Walk
+pub mod Holding
