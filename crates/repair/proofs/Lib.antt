@@ -3,3 +3,5 @@ pub mod Sheet
 pub mod Samples
 pub mod Plans
 pub mod Padded
+pub mod Flat
+pub mod Tables
