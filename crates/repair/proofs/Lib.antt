@@ -6,6 +6,8 @@ pub mod Levels
 pub mod Shape
 pub mod Plans
 pub mod Padded
+pub mod Flat
+pub mod Tables
 pub mod Summing
 pub mod Lossy
 pub mod Walk
