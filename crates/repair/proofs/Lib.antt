@@ -4,6 +4,8 @@ pub mod Samples
 -- the code's facts and tables of a plan
 pub mod Plans
 pub mod Padded
+pub mod Flat
+pub mod Tables
 -- what the proofs of the code and of the demands rest on
 pub mod Rows
 pub mod Levels
@@ -12,6 +14,11 @@ pub mod Fit
 pub mod Sound
 pub mod Unmarked
 pub mod Turns
+-- sums under checks, and the codeword test
+pub mod Summing
+pub mod Lossy
+pub mod Walk
+pub mod Holding
 -- the rows of a round
 pub mod Walking
 pub mod Arms

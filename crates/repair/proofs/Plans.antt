@@ -1,11 +1,10 @@
 -- Plans by their numbers. Assumes nothing.
 use mathlib.Core.Path.{_≡_, refl, ap, _∙_, sym}
-use mathlib.Core.List.{List, [], _∷_, flatMap}
-use Prim.Native.Nat.{ℕ, zero, suc, pred, _≤_, _<_}
-use native.Mathlib.Nat.{le-trans}
+use mathlib.Core.List.{[], _∷_, flatMap}
+use Prim.Native.Nat.{ℕ, zero, suc, _≤_, _<_}
 use native.Mathlib.Omega.{arith}
 use lib.Dec.{lit≤}
-use lib.ListN.{length, take, List·getD-eq-default}
+use lib.ListN.{length, List·getD-eq-default}
 use lib.Seq.{take-all}
 use Rattle.repair.specs.Plan.{Plan, Level, ones, plan1, plan2, plan3, noPlan, planOf, noLevel, levelOf, checksTo}
 
