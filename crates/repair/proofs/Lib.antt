@@ -20,5 +20,7 @@ pub mod Lossy
 pub mod Walk
 pub mod Holding
 -- the rows of a round
+pub mod Sizes
+pub mod Checks
 pub mod Walking
 pub mod Arms

@@ -1,6 +1,7 @@
 // Row steps: a row filled, the rows of a round, and the step on a bench.
-use super::plan;
-use super::{Bench, Step, Stepped};
+use crate::plan;
+use crate::sums;
+
 ghost use mathlib.Core.Path.{_≡_};
 ghost use Prim.Native.Nat.{ℕ, _+_, _*_, _^_, _<_, _≤_};
 ghost use lib.Dec.{T};
@@ -25,17 +26,24 @@ fn check_sum(
     plan: usize,
     level: usize,
     table: &[u8; 256],
-    checks: &[u8; 512],
-    symbols: &[u8; 256],
+    checks: &[u8],
+    symbols: &[u8],
     row: usize,
     j: usize,
 ) -> u8
     requires { ⌜ now table ≡ products ⌝ }
     requires { ⌜ now checks ≡ checkTable (planOf plan) ⌝ }
-    requires { ⌜ T (known plan) × (row < planOf plan .rows) × (j < length (checksTo (planOf plan) level)) ⌝ }
+    requires { ⌜ T (known plan) × (row < planOf plan .rows) × (j < length (checksTo (planOf plan) level)) × (length (now symbols) ≡ 256) ⌝ }
     ensures { λ r. ⌜ r ≡ getD (sumsOf (planOf plan .field) (checksTo (planOf plan) level) (rowAt (planOf plan) (now (symbols .entry)) row)) j 0 ⌝ }
 {
-    0
+    let facts = plan::facts_of(plan);
+    let q = facts.field;
+    let n = facts.columns;
+    let first = j * n;
+    let last = first + n;
+    let start = row * n;
+    let end = start + n;
+    sums::row_sum(q, table, &checks[first..last], &symbols[start..end])
 }
 
 // Fills row `row`, whose marks are `word`, by the checks of levels 1 to t and its learned sums; or leaves the symbols as they were.
@@ -43,10 +51,10 @@ fn fill_row(
     plan: usize,
     level: usize,
     table: &[u8; 256],
-    checks: &[u8; 512],
-    symbols: &mut [u8; 256],
+    checks: &[u8],
+    symbols: &mut [u8],
     word: u32,
-    sums: &[u8; 128],
+    sums: &[u8],
     row: usize,
 ) -> Filling
     requires { ⌜ now table ≡ products ⌝ }
@@ -69,10 +77,10 @@ fn walk_rows(
     plan: usize,
     level: usize,
     table: &[u8; 256],
-    checks: &[u8; 512],
-    symbols: &mut [u8; 256],
-    marks: &mut [u32; 8],
-    sums: &[u8; 128],
+    checks: &[u8],
+    symbols: &mut [u8],
+    marks: &mut [u32],
+    sums: &[u8],
 ) -> Walk
     requires { ⌜ now table ≡ products ⌝ }
     requires { ⌜ now checks ≡ checkTable (planOf plan) ⌝ }
@@ -92,7 +100,7 @@ fn walk_rows(
         if word == 0 {
             let mut j = 0;
             while j < count {
-                if check_sum(plan, level, table, checks, &*symbols, row, j) != sums[row * 16 + j] {
+                if check_sum(plan, level, table, checks, &symbols[..], row, j) != sums[row * 16 + j] {
                     break 'rows row;
                 }
                 j += 1;

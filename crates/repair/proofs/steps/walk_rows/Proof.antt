@@ -16,12 +16,6 @@ use native.Mathlib.Omega.{arith}
 use borrow.Author.Needs.{needs}
 use Rattle.repair.proofs.steps.walk_rows.Statement.{statement}
 use Rattle.repair.proofs.steps.walk_rows.Tie as tie
-use Rattle.repair.proofs.steps.walk_rows.Reads as reads
-use Rattle.repair.proofs.steps.walk_rows.Lts as lts
-use Rattle.repair.proofs.plan.rows.Reads as rows-reads
-use Rattle.repair.proofs.plan.sums_to.Reads as sums-to-reads
-use Rattle.repair.proofs.steps.check_sum.Reads as check-sum-reads
-use Rattle.repair.proofs.steps.fill_row.Reads as fill-row-reads
 
 abbrev Inv-loop : tie.InvT-loop
 Inv-loop plan level table checks symbols marks sums rows count row filled word j₀ j =
@@ -44,7 +38,7 @@ few : {p t : ℕ} {sums symbols₀ marks₀ symbols marks : List ℕ} {row fille
 few {p} w = omega (arith, checks-le (planOf p) (w .sound .fit .level-le), shape p (w .sound .fit .plan-known) .sums-le)
 
 -- the row at hand is one of the plan's
-inside : (c : tie.Else1 Inv-loop μ-loop Inv-rows μ-rows) → c .before .rows .row < planOf (c .before .before .before .before .args .plan) .rows
+inside : (c : tie.Else1 Inv-loop μ-loop Inv-rows μ-rows) → c .before .rows .row < planOf (c .before .before .before .before .before .before .before .before .args .plan) .rows
 inside c = omega (arith, c .before .rows .inv .upto, c .if1 .left, c .before .before .before .rows2 .ensures)
 
 rows-requires : tie.Need-rows-requires Inv-loop μ-loop Inv-rows μ-rows
@@ -54,31 +48,28 @@ sums-to-requires : tie.Need-sums-to-requires Inv-loop μ-loop Inv-rows μ-rows
 sums-to-requires c κs = search needs
 
 rows-holds : tie.Need-rows-holds Inv-loop μ-loop Inv-rows μ-rows
-rows-holds c = walking-start _ _ _ _ _ (sound-of _ (c .before .before .pre .1 .1 .0) (c .before .before .pre .1 .1 .1))
+rows-holds c = walking-start _ _ _ _ _ (sound-of _ (c .before .before .before .before .before .before .pre .1 .1 .0) (c .before .before .before .before .before .before .pre .1 .1 .1))
 
 mul-word : tie.Need-mul-word Inv-loop μ-loop Inv-rows μ-rows
-mul-word c = let w = c .before .rows .inv in record { fits = omega (arith, shape _ (w .sound .fit .plan-known) .rows-le, w .upto) }
+mul-word c = record { fits = omega (arith, shape _ (c .before .rows .inv .sound .fit .plan-known) .rows-le, c .before .rows .inv .upto) }
 
-element-copy-out-word : tie.Need-element-copy-out-word Inv-loop μ-loop Inv-rows μ-rows
-element-copy-out-word c = let w = c .before .rows .inv in omega (arith, shape _ (w .sound .fit .plan-known) .rows-le, w .upto, c .before .before .before .rows2 .ensures)
+slice-read-word : tie.Need-slice-read-word Inv-loop μ-loop Inv-rows μ-rows
+slice-read-word c = omega (arith, shape _ (c .before .before .rows .inv .sound .fit .plan-known) .rows-le, c .before .before .rows .inv .sound .sized .marks, inside (c .before))
 
 loop-holds : tie.Need-loop-holds Inv-loop μ-loop Inv-rows μ-rows
 loop-holds c = search needs
 
 check-sum-requires : tie.Need-check-sum-requires Inv-loop μ-loop Inv-rows μ-rows
-check-sum-requires c κs = 
-    let w = c .before .before .before .before .before .before .rows .inv in
-    let pre = c .before .before .before .before .before .before .before .before .before .pre in
-    (pre .0, (pre .1 .0, (w .sound .fit .plan-known, inside (c .before .before .before .before .before), omega (arith, c .before .before .before .before .before .before .before .sums-to .ensures))))
+check-sum-requires c κs = (c .before .before .before .before .before .before .before .before .before .before .before .before .before .pre .0, (c .before .before .before .before .before .before .before .before .before .before .before .before .before .pre .1 .0, (c .before .before .before .before .before .before .rows .inv .sound .fit .plan-known, inside (c .before .before .before .before .before), omega (arith, c .before .before .before .before .before .before .before .sums-to .ensures), c .before .before .before .before .before .before .rows .inv .sound .sized .symbols)))
 
 mul-if3 : tie.Need-mul-if3 Inv-loop μ-loop Inv-rows μ-rows
-mul-if3 c = let w = c .before .before .before .before .before .before .before .rows .inv in record { fits = omega (arith, shape _ (w .sound .fit .plan-known) .rows-le, w .upto) }
+mul-if3 c = record { fits = omega (arith, shape _ (c .before .before .before .before .before .before .before .rows .inv .sound .fit .plan-known) .rows-le, c .before .before .before .before .before .before .before .rows .inv .upto) }
 
 add-if3 : tie.Need-add-if3 Inv-loop μ-loop Inv-rows μ-rows
-add-if3 c = let w = c .before .before .before .before .before .before .before .rows .inv in record { fits = omega (arith, shape _ (w .sound .fit .plan-known) .rows-le, w .upto, few w, c .before .before .before .before .before .before .before .before .sums-to .ensures) }
+add-if3 c = record { fits = omega (arith, shape _ (c .before .before .before .before .before .before .before .rows .inv .sound .fit .plan-known) .rows-le, c .before .before .before .before .before .before .before .rows .inv .upto, few (c .before .before .before .before .before .before .before .rows .inv), c .before .before .before .before .before .before .before .before .sums-to .ensures) }
 
-element-copy-out-if3 : tie.Need-element-copy-out-if3 Inv-loop μ-loop Inv-rows μ-rows
-element-copy-out-if3 c = let w = c .before .before .before .before .before .before .before .rows .inv in omega (arith, shape _ (w .sound .fit .plan-known) .rows-le, inside (c .before .before .before .before .before .before), few w, c .before .before .before .before .before .before .before .before .sums-to .ensures)
+shared-slice-read-if3 : tie.Need-shared-slice-read-if3 Inv-loop μ-loop Inv-rows μ-rows
+shared-slice-read-if3 c = omega (arith, shape _ (c .before .before .before .before .before .before .before .before .rows .inv .sound .fit .plan-known) .rows-le, inside (c .before .before .before .before .before .before .before), c .before .before .before .before .before .before .before .before .rows .inv .sound .sized .sums, few (c .before .before .before .before .before .before .before .before .rows .inv), c .before .before .before .before .before .before .before .before .before .sums-to .ensures)
 
 add-j : tie.Need-add-j Inv-loop μ-loop Inv-rows μ-rows
 add-j c = search needs
@@ -90,11 +81,7 @@ loop-again : tie.Need-loop-again Inv-loop μ-loop Inv-rows μ-rows
 loop-again c = (search needs, below-more _ _ (c .before .before .before .before .before .loop .inv .1) (sym (c .before .before .check-sum .ensures) ∙ c .if3 .left))
 
 fill-row-requires : tie.Need-fill-row-requires Inv-loop μ-loop Inv-rows μ-rows
-fill-row-requires c κs = 
-    let w = c .before .before .before .before .rows .inv in
-    let pre = c .before .before .before .before .before .before .before .pre in
-    let i = inside (c .before .before .before) in
-    (pre .0, (pre .1 .0, (w .sound .fit .plan-known, i, w .sound .fit .mark-lt _ i, fit-sums _ _ _ (w .sound .fit .sums-fits))))
+fill-row-requires c κs = (c .before .before .before .before .before .before .before .before .before .before .before .pre .0, (c .before .before .before .before .before .before .before .before .before .before .before .pre .1 .0, (c .before .before .before .before .rows .inv .sound .fit .plan-known, inside (c .before .before .before), c .before .before .before .before .rows .inv .sound .fit .mark-lt _ (inside (c .before .before .before)), fit-sums _ _ _ (c .before .before .before .before .rows .inv .sound .fit .sums-fits))))
 
 enum-told : tie.Need-enum-told Inv-loop μ-loop Inv-rows μ-rows
 enum-told c = search needs
@@ -106,10 +93,10 @@ enum-told-3 : tie.Need-enum-told-3 Inv-loop μ-loop Inv-rows μ-rows
 enum-told-3 c = search needs
 
 mul-marks : tie.Need-mul-marks Inv-loop μ-loop Inv-rows μ-rows
-mul-marks c = let w = c .before .before .before .before .before .before .before .rows .inv in record { fits = omega (arith, shape _ (w .sound .fit .plan-known) .rows-le, w .upto) }
+mul-marks c = record { fits = omega (arith, shape _ (c .before .before .before .before .before .before .before .before .before .rows .inv .sound .fit .plan-known) .rows-le, c .before .before .before .before .before .before .before .before .before .rows .inv .upto) }
 
-element-write-marks : tie.Need-element-write-marks Inv-loop μ-loop Inv-rows μ-rows
-element-write-marks c = let w = c .before .before .before .before .before .before .before .rows .inv in omega (arith, shape _ (w .sound .fit .plan-known) .rows-le, inside (c .before .before .before .before .before .before))
+slice-write-marks : tie.Need-slice-write-marks Inv-loop μ-loop Inv-rows μ-rows
+slice-write-marks c = omega (arith, shape _ (c .before .before .before .before .before .before .before .before .before .rows .inv .sound .fit .plan-known) .rows-le, inside (c .before .before .before .before .before .before .before .before), c .before .before .before .before .before .before .before .before .before .rows .inv .sound .sized .marks)
 
 add-filled : tie.Need-add-filled Inv-loop μ-loop Inv-rows μ-rows
 add-filled c = search needs
@@ -121,28 +108,48 @@ rows-less : tie.Need-rows-less Inv-loop μ-loop Inv-rows μ-rows
 rows-less c = search needs
 
 rows-again : tie.Need-rows-again Inv-loop μ-loop Inv-rows μ-rows
-rows-again c = 
+rows-again c =
     ⊎-elim
     (λ w. rw (w .3, w .4, w .5) (walking-checked _ _ _ _ _ _ _ _ _ (c .before .before .before .rows .inv) (inside (c .before .before)) (w .0 .taken)
     (λ i h. w .1 .inv .1 i (omega (arith, w .2 .left, c .before .before .before .before .sums-to .ensures)))))
     (λ v.
     ⊎-elim
-    (λ w. rw (w .5, w .6, w .7) (answered-tied _ _ _ _ _ _ _ _ _ (c .before .before .before .rows .inv) (inside (c .before .before)) _ _ (w .2 .ensures .0) (arm-tied _ (w .3 .keys1)) (w .2 .ensures .1)))
-    (λ w. rw (w .5, w .6, w .7) (answered-one _ _ _ _ _ _ _ _ _ (c .before .before .before .rows .inv) (inside (c .before .before)) _ _ (w .0 .left) (w .2 .ensures .0) (arm-one _ (w .3 .keys3)) (w .2 .ensures .1)))
+    (λ w. rw (w .7, w .8, w .9) (answered-tied _ _ _ _ _ _ _ _ _ (c .before .before .before .rows .inv) (inside (c .before .before)) _ _ (w .2 .ensures .0) (arm-tied _ (w .5 .keys1)) (w .2 .ensures .1)))
+    (λ w. rw (w .7, w .8, w .9) (answered-one _ _ _ _ _ _ _ _ _ (c .before .before .before .rows .inv) (inside (c .before .before)) _ _ (w .0 .left) (w .2 .ensures .0) (arm-one _ (w .5 .keys3)) (w .2 .ensures .1)))
     v)
     (c .if2 .came)
+
+same-length : tie.Need-same-length Inv-loop μ-loop Inv-rows μ-rows
+same-length c = search needs
+
+same-length-2 : tie.Need-same-length-2 Inv-loop μ-loop Inv-rows μ-rows
+same-length-2 c = search needs
 
 returns : tie.Need-returns Inv-loop μ-loop Inv-rows μ-rows
 returns c = walked-end _ _ _ _ _ _ _ _ _ (c .before .rows .inv) (c .if1 .taken ∙ c .before .before .before .rows2 .ensures)
 
+same-length-3 : tie.Need-same-length-3 Inv-loop μ-loop Inv-rows μ-rows
+same-length-3 c = search needs
+
+same-length-4 : tie.Need-same-length-4 Inv-loop μ-loop Inv-rows μ-rows
+same-length-4 c = search needs
+
 returns-2 : tie.Need-returns-2 Inv-loop μ-loop Inv-rows μ-rows
-returns-2 c = 
-    walked-failed _ _ _ _ _ _ _ _ _ (c .before .before .before .before .before .before .before .before .before .rows .inv) (inside (c .before .before .before .before .before .before .before .before)) (c .before .before .before .before .before .before .if2 .taken) _ (omega (arith, c .before .before .before .before .loop-test .taken, c .before .before .before .before .before .before .before .before .before .before .sums-to .ensures))
+returns-2 c =
+    walked-failed _ _ _ _ _ _ _ _ _ (c .before .before .before .before .before .before .before .before .before .rows .inv) (inside (c .before .before .before .before .before .before .before .before)) (c .before .before .before .before .before .before .if2 .taken) _
+    (omega (arith, c .before .before .before .before .loop-test .taken, c .before .before .before .before .before .before .before .before .before .before .sums-to .ensures))
     (λ e. c .if3 .taken (c .before .before .check-sum .ensures ∙ e))
 
+same-length-5 : tie.Need-same-length-5 Inv-loop μ-loop Inv-rows μ-rows
+same-length-5 c = search needs
+
+same-length-6 : tie.Need-same-length-6 Inv-loop μ-loop Inv-rows μ-rows
+same-length-6 c = search needs
+
 returns-3 : tie.Need-returns-3 Inv-loop μ-loop Inv-rows μ-rows
-returns-3 c = 
-    answered-none _ _ _ _ _ _ _ _ _ (c .before .before .before .before .before .before .before .rows .inv) (inside (c .before .before .before .before .before .before)) _ _ (c .before .before .fill-row .ensures .0) (arm-none _ (c .before .match .keys2)) (c .before .before .fill-row .ensures .1)
+returns-3 c =
+    answered-none _ _ _ _ _ _ _ _ _ (c .before .before .before .before .before .before .before .before .before .rows .inv) (inside (c .before .before .before .before .before .before .before .before)) _ _ (c .before .before .before .before .fill-row .ensures .0)
+    (arm-none _ (c .before .match .keys2)) (c .before .before .before .before .fill-row .ensures .1)
 
 pub walk-rows-spec : {M : Type 1} → statement M
 walk-rows-spec =
@@ -156,12 +163,12 @@ walk-rows-spec =
     sums-to-requires
     rows-holds
     mul-word
-    element-copy-out-word
+    slice-read-word
     loop-holds
     check-sum-requires
     mul-if3
     add-if3
-    element-copy-out-if3
+    shared-slice-read-if3
     add-j
     loop-less
     loop-again
@@ -170,11 +177,17 @@ walk-rows-spec =
     enum-told-2
     enum-told-3
     mul-marks
-    element-write-marks
+    slice-write-marks
     add-filled
     add-row
     rows-less
     rows-again
+    same-length
+    same-length-2
     returns
+    same-length-3
+    same-length-4
     returns-2
+    same-length-5
+    same-length-6
     returns-3)
