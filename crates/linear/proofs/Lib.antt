@@ -1,0 +1,3 @@
+-- What is shown of systems of equations and of filling.
+pub mod Inner
+pub mod Elimination
