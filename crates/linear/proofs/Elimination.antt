@@ -153,6 +153,10 @@ module _ (F : Field) (K : IsField F) where
         | no ne ↦ sym (miss x ne) ∙ h x b
       ]
 
+  -- where both rows are 0, so is their sum
+  pub added-zero : (M N : Matrix) (w i p f j : ℕ) → Added F M N w i p f → j < w → M i j ≡ 0 → M p j ≡ 0 → N i j ≡ 0
+  added-zero M N w i p f j A l e g = A .hit j l ∙ drop-zero _ _ _ g ∙ e
+
   -- ---- both steps together
 
   pub pivoted : (M N P : Matrix) (m w r i c f : ℕ) → r < m → i < m → r ≤ i → c < w → ((x : ℕ) → x < m → M x c < size F) → M i c ≢ 0

@@ -64,7 +64,7 @@ Same F M N m w = (z : ℕ → ℕ) → Ker F M m w z ↔ Ker F N m w z
 pub record Found (M : Matrix) (m r c i : ℕ) : Type 0 where
   pub least : r ≤ i
   pub most : i ≤ m
-  pub skipped : (x : ℕ) → r ≤ x → x < i → M x c ≡ 0
+  pub skipped : (x : ℕ) → x < i → r ≤ x → M x c ≡ 0
   pub nonzero : i < m → M i c ≢ 0
 
 -- row i and f times row p
