@@ -1,4 +1,4 @@
--- What is shown of the fields. Other crates cite Sum, Laws, Fields and Powers.
+-- What is shown of the fields. Other crates cite Sum, Ring, Laws, Fields and Powers.
 pub mod Sum
 pub mod Test
 pub mod Ring

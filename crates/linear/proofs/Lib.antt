@@ -1,4 +1,8 @@
--- What is shown of systems of equations and of filling.
+-- What is shown of filling and of systems of equations. Other crates cite Tests, Choices, Vectors and Filling.
+pub mod Tests
+pub mod Choices
+pub mod Vectors
+pub mod Filling
 pub mod Inner
 pub mod Elimination
 pub mod Rows
