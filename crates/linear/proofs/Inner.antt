@@ -1,13 +1,24 @@
 -- Sums of products of two vectors. Assumes nothing.
 use mathlib.Core.Path.{_≡_, refl, sym, ap, ap₂, _∙_}
 use mathlib.Core.Logic.{_≢_}
-use Prim.Native.Nat.{ℕ, zero, suc, _<_}
+use Prim.Native.Nat.{ℕ, zero, suc, _+_, _<_}
+use native.Mathlib.Numerals.{add-one}
 use native.Mathlib.Decide.{ℕ-discrete}
 use native.Mathlib.Omega.{arith}
 use Rattle.field.specs.Field.{Field, _⊕_, size, mul}
-use Rattle.field.proofs.Sum.{⊕-assoc, ⊕-four, ⊕-three, ⊕-zero, zero-⊕}
+use Rattle.field.proofs.Sum.{⊕-assoc, ⊕-comm, ⊕-four, ⊕-three, ⊕-zero, zero-⊕}
 use Rattle.field.proofs.Laws.{IsField, size-pos, mul-zero, mul-⊕}
 use Rattle.linear.specs.System.{inner}
+
+pub inner-more : (F : Field) (f z : ℕ → ℕ) (n : ℕ) → inner F f z n ⊕ mul F (f n) (z n) ≡ inner F f z (n + 1)
+unfolding inner
+inner-more F f z n = rw (add-one n)
+
+-- the first product apart
+pub inner-first : (F : Field) (f z : ℕ → ℕ) (n : ℕ) → inner F f z (suc n) ≡ mul F (f 0) (z 0) ⊕ inner F (λ j. f (suc j)) (λ j. z (suc j)) n
+unfolding inner
+inner-first F f z zero = ⊕-comm 0 (mul F (f 0) (z 0))
+inner-first F f z (suc n) = ap (λ x. x ⊕ mul F (f (suc n)) (z (suc n))) (inner-first F f z n) ∙ ⊕-assoc _ _ _
 
 -- equal products, entry by entry
 pub inner-same : (F : Field) (f z g y : ℕ → ℕ) (n : ℕ) → ((j : ℕ) → j < n → mul F (f j) (z j) ≡ mul F (g j) (y j)) → inner F f z n ≡ inner F g y n

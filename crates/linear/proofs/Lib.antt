@@ -7,3 +7,6 @@ pub mod Inner
 pub mod Elimination
 pub mod Rows
 pub mod Turns
+pub mod Flat
+pub mod Words
+pub mod Columns

@@ -16,7 +16,7 @@ use Rattle.linear.proofs.Rows.{rows-apart}
 use Rattle.linear.proofs.Elimination.{form-start, form-skip, form-step, free-start, free-skip, free-step, read-step}
 
 -- a store of an element
-set-elements : (F : Field) (a : List ℕ) (i v : ℕ) → v < size F → i < length a → Elements F (vec a) → Elements F (vec (set a i v))
+pub set-elements : (F : Field) (a : List ℕ) (i v : ℕ) → v < size F → i < length a → Elements F (vec a) → Elements F (vec (set a i v))
 set-elements F a i v l b h j = elim (ℕ-discrete j i)
     [ yes e ↦ rw (e, getD-set-same a i v 0 b) l | no ne ↦ rw (getD-set-other a i j v 0 ne) (h j) ]
 

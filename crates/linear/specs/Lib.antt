@@ -2,3 +2,4 @@
 pub mod Lists
 pub mod Fill
 pub mod System
+pub mod Marks
