@@ -92,3 +92,21 @@ pub length-scattered : (v : List ℕ) (at x : ℕ → ℕ) (t : ℕ) → length 
 unfolding scattered
 length-scattered v at x zero = refl
 length-scattered v at x (suc t) = length-set (scattered v at x t) (at t) (x t) ∙ length-scattered v at x t
+
+-- what stands at a place, and elsewhere
+pub scattered-at : (v : List ℕ) (at x : ℕ → ℕ) (k : ℕ) → ((t : ℕ) → t < k → at t < length v) → ((t : ℕ) → t < k → (s : ℕ) → s < t → at s ≢ at t)
+    → (t : ℕ) → t < k → vec (scattered v at x k) (at t) ≡ x t
+unfolding scattered
+scattered-at v at x zero within apart t l = absurd (omega arith)
+scattered-at v at x (suc k) within apart t l =
+    elim (ℕ-discrete t k) [
+      | yes e ↦ rw e (getD-set-same (scattered v at x k) (at k) (x k) 0 (omega (arith, length-scattered v at x k, within k (omega arith))))
+      | no ne ↦ getD-set-other (scattered v at x k) (at k) (at t) (x k) 0 (apart k (omega arith) t (omega arith))
+          ∙ scattered-at v at x k (λ s b. within s (omega arith)) (λ s b. apart s (omega arith)) t (omega arith)
+    ]
+
+pub scattered-off : (v : List ℕ) (at x : ℕ → ℕ) (k c : ℕ) → ((t : ℕ) → t < k → at t ≢ c) → vec (scattered v at x k) c ≡ vec v c
+unfolding scattered
+scattered-off v at x zero c off = refl
+scattered-off v at x (suc k) c off =
+    getD-set-other (scattered v at x k) (at k) c (x k) 0 (λ e. off k (omega arith) (sym e)) ∙ scattered-off v at x k c (λ t b. off t (omega arith))

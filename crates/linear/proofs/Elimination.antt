@@ -3,18 +3,14 @@ use Prim.Native.Nat.{ℕ, _+_, _≤_, _<_}
 use mathlib.Core.Path.{_≡_, refl, sym, ap, ap₂, _∙_}
 use mathlib.Core.Bool.{Bool, true, false, true≢false, false≢true}
 use mathlib.Core.Logic.{_≢_, inl, inr, ⊎-elim}
-use native.Mathlib.Numerals.{add-one}
 use native.Mathlib.Decide.{ℕ-discrete, decLt}
 use native.Mathlib.Omega.{arith}
 use borrow.Author.Count.{below-more}
-use borrow.Author.Tests.{eq-eqb, ne-eqb}
-use lib.Dec.{eqb}
-use Rattle.field.specs.Lists.{if_then_else_}
 use Rattle.field.specs.Field.{Field, _⊕_, size, mul, inverse}
 use Rattle.field.proofs.Sum.{⊕-self, ⊕-zero, zero-⊕, ⊕-undo, ⊕-cancel}
 use Rattle.field.proofs.Laws.{IsField, size-pos, zero-mul, mul-zero, mul-one, mul-⊕, mul-left-comm}
 use Rattle.linear.specs.System.{Matrix, inner, Elements, Ker, Solves, Consistency, Dependence, Same, Found, Added, Cleared, Pivoted, Form, Free, ReadOff}
-use Rattle.linear.proofs.Inner.{inner-same, inner-zero, inner-lt, inner-row, inner-put, inner-one}
+use Rattle.linear.proofs.Inner.{put, put-same, put-other, inner-more, inner-same, inner-zero, inner-lt, inner-row, inner-put, inner-one}
 
 -- ---- the form of the matrix, column by column
 
@@ -271,30 +267,24 @@ module _ (F : Field) (K : IsField F) where
 
   -- ---- and so of the matrix before: both speak of the vectors that give 0
 
-  -- x, and b in place k
-  extend : (ℕ → ℕ) → ℕ → ℕ → ℕ → ℕ
-  extend x k b j = if eqb j k then b else x j
-
-  inner-extend : (f x : ℕ → ℕ) (k b : ℕ) → inner F f (extend x k b) (k + 1) ≡ inner F f x k ⊕ mul F (f k) b
-  unfolding inner extend if_then_else_
-  inner-extend f x k b =
-      rw (add-one k)
-      (ap₂ _⊕_ (inner-same F f (extend x k b) f x k (λ j l. ap (λ t. mul F (f j) (if t then b else x j)) (ne-eqb j k (omega arith))))
-      (ap (λ t. mul F (f k) (if t then b else x k)) (eq-eqb k k refl)))
+  inner-last : (f x : ℕ → ℕ) (k b : ℕ) → inner F f (put x k b) (k + 1) ≡ inner F f x k ⊕ mul F (f k) b
+  inner-last f x k b =
+      sym (inner-more F f (put x k b) k)
+      ∙ ap₂ _⊕_ (inner-same F f (put x k b) f x k (λ j l. ap (mul F (f j)) (put-other x k b j (omega arith)))) (ap (mul F (f k)) (put-same x k b))
 
   module _ (M N : Matrix) (m k : ℕ) (carry : (z : ℕ → ℕ) → Ker F M m (k + 1) z → Ker F N m (k + 1) z) where
     ker-carry : (z : ℕ → ℕ) → Ker F M m k z → Ker F N m k z
-    ker-carry z h i l = sym (last N i) ∙ carry (extend z k 0) (λ x b. last M x ∙ h x b) i l
+    ker-carry z h i l = sym (last N i) ∙ carry (put z k 0) (λ x b. last M x ∙ h x b) i l
       where
-        last : (L : Matrix) (x : ℕ) → inner F (L x) (extend z k 0) (k + 1) ≡ inner F (L x) z k
-        last L x = inner-extend (L x) z k 0 ∙ drop-zero _ _ _ refl
+        last : (L : Matrix) (x : ℕ) → inner F (L x) (put z k 0) (k + 1) ≡ inner F (L x) z k
+        last L x = inner-last (L x) z k 0 ∙ drop-zero _ _ _ refl
 
     solves-carry : ((i : ℕ) → M i k < size F) → ((i : ℕ) → N i k < size F) → (x : ℕ → ℕ) → Solves F M m k x → Solves F N m k x
     solves-carry small-M small-N x h i l =
-        ⊕-cancel _ _ (sym (last N small-N i) ∙ carry (extend x k 1) (λ y b. last M small-M y ∙ ap (λ v. v ⊕ M y k) (h y b) ∙ ⊕-self _) i l)
+        ⊕-cancel _ _ (sym (last N small-N i) ∙ carry (put x k 1) (λ y b. last M small-M y ∙ ap (λ v. v ⊕ M y k) (h y b) ∙ ⊕-self _) i l)
       where
-        last : (L : Matrix) → ((y : ℕ) → L y k < size F) → (y : ℕ) → inner F (L y) (extend x k 1) (k + 1) ≡ inner F (L y) x k ⊕ L y k
-        last L small y = inner-extend (L y) x k 1 ∙ ap (λ v. inner F (L y) x k ⊕ v) (mul-one F K _ (small y))
+        last : (L : Matrix) → ((y : ℕ) → L y k < size F) → (y : ℕ) → inner F (L y) (put x k 1) (k + 1) ≡ inner F (L y) x k ⊕ L y k
+        last L small y = inner-last (L y) x k 1 ∙ ap (λ v. inner F (L y) x k ⊕ v) (mul-one F K _ (small y))
 
   module _ (M N : Matrix) (m k : ℕ) (S : Same F M N m (k + 1)) where
     pub same-consistency : (answer : Bool) (x : ℕ → ℕ) → ((i : ℕ) → M i k < size F) → ((i : ℕ) → N i k < size F)

@@ -5,6 +5,9 @@ use Prim.Native.Nat.{ℕ, zero, suc, _+_, _<_}
 use native.Mathlib.Numerals.{add-one}
 use native.Mathlib.Decide.{ℕ-discrete}
 use native.Mathlib.Omega.{arith}
+use borrow.Author.Tests.{eq-eqb, ne-eqb}
+use lib.Dec.{eqb}
+use Rattle.field.specs.Lists.{if_then_else_}
 use Rattle.field.specs.Field.{Field, _⊕_, size, mul}
 use Rattle.field.proofs.Sum.{⊕-assoc, ⊕-comm, ⊕-four, ⊕-three, ⊕-zero, zero-⊕}
 use Rattle.field.proofs.Laws.{IsField, size-pos, mul-zero, mul-⊕}
@@ -13,6 +16,18 @@ use Rattle.linear.specs.System.{inner}
 pub inner-more : (F : Field) (f z : ℕ → ℕ) (n : ℕ) → inner F f z n ⊕ mul F (f n) (z n) ≡ inner F f z (n + 1)
 unfolding inner
 inner-more F f z n = rw (add-one n)
+
+-- x, with b in place k
+pub put : (ℕ → ℕ) → ℕ → ℕ → ℕ → ℕ
+put x k b j = if eqb j k then b else x j
+
+pub put-same : (x : ℕ → ℕ) (k b : ℕ) → put x k b k ≡ b
+unfolding put if_then_else_
+put-same x k b = ap (λ t. if t then b else x k) (eq-eqb k k refl)
+
+pub put-other : (x : ℕ → ℕ) (k b j : ℕ) → j ≢ k → put x k b j ≡ x j
+unfolding put if_then_else_
+put-other x k b j ne = ap (λ t. if t then b else x j) (ne-eqb j k ne)
 
 -- the first product apart
 pub inner-first : (F : Field) (f z : ℕ → ℕ) (n : ℕ) → inner F f z (suc n) ≡ mul F (f 0) (z 0) ⊕ inner F (λ j. f (suc j)) (λ j. z (suc j)) n
@@ -71,3 +86,29 @@ module _ (F : Field) (K : IsField F) where
       inner-but F f z f (λ _. 0) p (mul F (f p) (z p)) n l (λ j b ne. h j b ne ∙ sym (mul-zero F K _))
       (sym (ap (λ x. x ⊕ mul F (f p) (z p)) (mul-zero F K _) ∙ zero-⊕ _))
       ∙ ap (λ x. x ⊕ mul F (f p) (z p)) (inner-zero F f (λ _. 0) n (λ j _. mul-zero F K _)) ∙ zero-⊕ _
+
+  -- z counts at the k places of `at` apart, which b leaves 0; elsewhere the two agree
+  pub inner-split : (at : ℕ → ℕ) (k n : ℕ) (f z b : ℕ → ℕ) → ((t : ℕ) → t < k → at t < n) → ((t : ℕ) → t < k → (s : ℕ) → s < t → at s ≢ at t)
+      → ((t : ℕ) → t < k → b (at t) ≡ 0) → ((c : ℕ) → c < n → ((t : ℕ) → t < k → at t ≢ c) → z c ≡ b c)
+      → inner F f z n ≡ inner F f b n ⊕ inner F (λ t. f (at t)) (λ t. z (at t)) k
+  unfolding inner
+  inner-split at zero n f z b within apart hole same =
+      inner-same F f z f b n (λ c l. ap (mul F (f c)) (same c l (λ t h. absurd (omega arith)))) ∙ sym (⊕-zero _)
+  inner-split at (suc k) n f z b within apart hole same =
+      inner-put f y z (at k) (z (at k)) n (within k (omega arith)) (λ c ne. sym (put-other z (at k) 0 c ne))
+      (sym (ap (λ x. x ⊕ z (at k)) (put-same z (at k) 0) ∙ zero-⊕ _))
+      ∙ ap (λ x. x ⊕ mul F (f (at k)) (z (at k)))
+      (inner-split at k n f y b (λ t l. within t (omega arith)) (λ t l. apart t (omega arith)) (λ t l. hole t (omega arith)) rest
+      ∙ ap (λ x. inner F f b n ⊕ x)
+      (inner-same F _ _ _ _ k (λ t l. ap (mul F (f (at t))) (put-other z (at k) 0 (at t) (apart k (omega arith) t l)))))
+      ∙ ⊕-assoc _ _ _
+    where
+      y : ℕ → ℕ
+      y = put z (at k) 0
+
+      rest : (c : ℕ) → c < n → ((t : ℕ) → t < k → at t ≢ c) → put z (at k) 0 c ≡ b c
+      rest c l off = elim (ℕ-discrete c (at k)) [
+        | yes e ↦ rw e (put-same z (at k) 0 ∙ sym (hole k (omega arith)))
+        | no ne ↦ put-other z (at k) 0 c ne
+            ∙ same c l (λ t h. elim (ℕ-discrete t k) [ yes g ↦ λ e. ne (sym e ∙ ap at g) | no nt ↦ off t (omega arith) ])
+      ]

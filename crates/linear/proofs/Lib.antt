@@ -10,3 +10,5 @@ pub mod Turns
 pub mod Flat
 pub mod Words
 pub mod Columns
+pub mod Marked
+pub mod Answers

@@ -1,16 +1,16 @@
 -- The loops of elimination, each as a record of what holds at its head, with its start, its turn and its end. Assumes nothing.
-use Prim.Native.Nat.{ℕ, _+_, _*_, _≤_, _<_}
+use Prim.Native.Nat.{ℕ, zero, suc, _+_, _*_, _≤_, _<_}
 use mathlib.Core.Path.{_≡_, refl, sym, ap, ap₂, _∙_}
 use mathlib.Core.Logic.{_≢_, _⊎_, inl, inr, ⊎-elim}
 use mathlib.Core.List.{List}
 use native.Mathlib.Decide.{ℕ-discrete}
 use native.Mathlib.Omega.{arith}
 use borrow.Author.Count.{below-more}
-use lib.ListN.{length, getD, set, length-set}
+use lib.ListN.{length, getD, set, replicate, length-set}
 use lib.Seq.{getD-set-same, getD-set-other}
 use Rattle.field.specs.Field.{Field, _⊕_, size, mul}
 use Rattle.field.proofs.Sum.{⊕-zero}
-use Rattle.field.proofs.Laws.{IsField, zero-mul, mul-zero}
+use Rattle.field.proofs.Laws.{IsField, size-pos, zero-mul, mul-zero}
 use Rattle.linear.specs.System.{vec, Matrix, ent, Elements, Same, Found, Added, Cleared, Pivoted, Form, Free, ReadOff}
 use Rattle.linear.proofs.Rows.{rows-apart}
 use Rattle.linear.proofs.Elimination.{form-start, form-skip, form-step, free-start, free-skip, free-step, read-step}
@@ -19,6 +19,12 @@ use Rattle.linear.proofs.Elimination.{form-start, form-skip, form-step,
 pub set-elements : (F : Field) (a : List ℕ) (i v : ℕ) → v < size F → i < length a → Elements F (vec a) → Elements F (vec (set a i v))
 set-elements F a i v l b h j = elim (ℕ-discrete j i)
     [ yes e ↦ rw (e, getD-set-same a i v 0 b) l | no ne ↦ rw (getD-set-other a i j v 0 ne) (h j) ]
+
+-- a buffer of zeros
+pub zero-elements : (F : Field) (K : IsField F) (n : ℕ) → Elements F (vec (replicate n 0))
+zero-elements F K zero j = size-pos F K
+zero-elements F K (suc n) zero = size-pos F K
+zero-elements F K (suc n) (suc j) = zero-elements F K n j
 
 -- ---- `add_row`, at column j
 

@@ -32,7 +32,8 @@ bit-bound n w c h e = elim (decLt c n) [
       absurd (omega (arith, ap (λ x. x % 2) z, e))
 ]
 
-bit-of-none : (d : ℕ) → bitAt 0 d ≡ 0
+-- 0 has no set bit
+pub bit-of-none : (d : ℕ) → bitAt 0 d ≡ 0
 bit-of-none d = ap (λ x. x % 2) (zero-div (2 ^ d))
 
 -- z is the place of the lowest set bit

@@ -17,6 +17,13 @@ use Rattle.linear.specs.declared.Outcome.the-variants.{Tied, None, One}
 
 -- ---- the answer
 
+-- how many checks and columns the code takes
+abbrev pub mostChecks : ℕ
+mostChecks = 16
+
+abbrev pub mostColumns : ℕ
+mostColumns = 32
+
 -- a flat list as m rows of n numbers
 unfoldable pub rowsOf : ℕ → ℕ → List ℕ → List (List ℕ)
 rowsOf zero n l = []

@@ -9,7 +9,7 @@ ghost use Rattle.field.specs.Ours.{fieldOf, products};
 ghost use Rattle.linear.specs.Lists.{same};
 ghost use Rattle.linear.specs.Fill.{sumsOf};
 ghost use Rattle.linear.specs.System.{vec, ent, inner, Elements};
-ghost use Rattle.linear.specs.Marks.{rowsOf, fillOf, answerOf, vectorOf, Places, hidden, Copied, Gathered, scattered};
+ghost use Rattle.linear.specs.Marks.{mostChecks, mostColumns, rowsOf, fillOf, answerOf, vectorOf, Places, hidden, Copied, Gathered, scattered};
 
 // How many checks and columns `fill` takes at most, and the room that its system takes.
 pub const CHECKS: usize = 16;
@@ -151,4 +151,54 @@ fn scatter(v: &mut [u8], places: &[usize], k: usize, x: &[u8])
         v[p] = x[t];
         t += 1;
     }
+}
+
+// Fills the marked places by the system of the marked columns.
+fn fill_marked(q: usize, table: &[u8; 256], checks: &[u8], target: &[u8], v: &mut [u8], marks: u32) -> Outcome
+    requires { ⌜ now table ≡ products ⌝ }
+    requires { ⌜ (length (now target) ≤ mostChecks) × (length (now v) ≤ mostColumns) × (marks < 2 ^ length (now v)) ⌝ }
+    requires { ⌜ length (now checks) ≡ length (now target) * length (now v) ⌝ }
+    requires { ⌜ Elements (fieldOf q) (vec (now checks)) × Elements (fieldOf q) (vec (now target)) ⌝ }
+    ensures { λ r. ⌜ r ≡ answerOf (fillOf q (now (checks .entry)) (now (target .entry)) (now (v .entry)) marks) ⌝ }
+    ensures { λ _. ⌜ now (v .exit) ≡ vectorOf (fillOf q (now (checks .entry)) (now (target .entry)) (now (v .entry)) marks) (now (v .entry)) ⌝ }
+{
+    let n = v.len();
+    let mut places: [usize; COLUMNS] = [0; COLUMNS];
+    let mut shown: [u8; COLUMNS] = [0; COLUMNS];
+    let mut system: [u8; ROOM] = [0; ROOM];
+    let mut pivots: [usize; COLUMNS] = [0; COLUMNS];
+    let mut solution: [u8; COLUMNS] = [0; COLUMNS];
+    let mut dependency: [u8; COLUMNS] = [0; COLUMNS];
+    let k = list_places(marks, n, &mut places[..]);
+    hide(marks, &v[..], &mut shown[..]);
+    gather(q, table, checks, target, &shown[..], n, &places[..], k, &mut system[..]);
+    let s = system::solve(q, table, &mut system[..], target.len(), k, &mut pivots[..], &mut solution[..], &mut dependency[..]);
+    if s.dependent {
+        return Outcome::Tied;
+    }
+    if !s.consistent {
+        return Outcome::None;
+    }
+    scatter(v, &places[..], k, &solution[..]);
+    Outcome::One
+}
+
+// Fills the marked places of v, in field `q`, so that its sums are the target: `checks` has a row of as many coefficients as v
+// has symbols for each sum, and bit c of `marks` marks column c. Writes v only where the answer is `One`, and never reads what
+// stands under a mark. Where nothing is marked, the sums are compared.
+pub fn fill(q: usize, table: &[u8; 256], checks: &[u8], target: &[u8], v: &mut [u8], marks: u32) -> Outcome
+    requires { ⌜ now table ≡ products ⌝ }
+    requires { ⌜ (length (now target) ≤ mostChecks) × (length (now v) ≤ mostColumns) × (marks < 2 ^ length (now v)) ⌝ }
+    requires { ⌜ length (now checks) ≡ length (now target) * length (now v) ⌝ }
+    requires { ⌜ Elements (fieldOf q) (vec (now checks)) × Elements (fieldOf q) (vec (now target)) ⌝ }
+    ensures { λ r. ⌜ r ≡ answerOf (fillOf q (now (checks .entry)) (now (target .entry)) (now (v .entry)) marks) ⌝ }
+    ensures { λ _. ⌜ now (v .exit) ≡ vectorOf (fillOf q (now (checks .entry)) (now (target .entry)) (now (v .entry)) marks) (now (v .entry)) ⌝ }
+{
+    if marks != 0 {
+        return fill_marked(q, table, checks, target, v, marks);
+    }
+    if has_sums(q, table, checks, target, &v[..]) {
+        return Outcome::One;
+    }
+    Outcome::None
 }
