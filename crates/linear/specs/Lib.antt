@@ -3,4 +3,3 @@ pub mod Lists
 pub mod Marks
 pub mod Fill
 pub mod System
-pub mod Marks

@@ -22,5 +22,6 @@ pub mod Holding
 -- the rows of a round
 pub mod Sizes
 pub mod Checks
+pub mod Lending
 pub mod Walking
 pub mod Arms

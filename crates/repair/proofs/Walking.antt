@@ -11,17 +11,17 @@ use lib.Dec.{ltb}
 use lib.ListN.{length, drop, getD, set, length-map}
 use lib.Seq.{sets, set-getD, ext-getD, getD-take, getD-drop}
 use Rattle.field.specs.Lists.{if_then_else_}
-use Rattle.linear.specs.Marks.{bitsOf}
+use Rattle.linear.specs.Marks.{bitsOf, answerOf, vectorOf}
 use Rattle.linear.specs.Fill.{sumsOf, Fill, tied, none, one, fill}
 use Rattle.repair.specs.Plan.{Plan, planOf, checksTo, rowAt, marksAt}
 use Rattle.repair.specs.Refusal.{room, sumsAt, unasked, benchRefusal}
 use Rattle.repair.specs.Steps.{rowFill, putRow}
 use Rattle.repair.specs.Rounds.{Standing, Turn, clash, turns}
-use Rattle.repair.specs.Walk.{benchOf, standingOf, Arrays, answerOf, vectorOf, more, Walked}
+use Rattle.repair.specs.Walk.{benchOf, standingOf, Arrays, more, Walked}
 use Rattle.repair.specs.declared.Bench.{Bench}
 use Rattle.repair.specs.declared.Place.the-variants.{Row}
-use Rattle.repair.specs.declared.steps.Filling.{Filling}
-use Rattle.repair.specs.declared.steps.Filling.the-variants.{Tied, None, One}
+use Rattle.linear.specs.declared.Outcome.{Outcome}
+use Rattle.linear.specs.declared.Outcome.the-variants.{Tied, None, One}
 use Rattle.repair.proofs.Rows.{row-length, row-again}
 use Rattle.repair.proofs.Fit.{Sized, bench-fit, fit-bench}
 use Rattle.repair.proofs.Shape.{shape}
@@ -178,7 +178,7 @@ module _ (p t : ℕ) (sums symbols₀ marks₀ : List ℕ) where
     same-row : (f : Fill) → vectorOf f (rowAt (planOf p) symbols row) ≡ rowAt (planOf p) symbols row → sets symbols (row * planOf p .columns) (vectorOf f (rowAt (planOf p) symbols row)) ≡ symbols
     same-row f e = ap (sets symbols (row * planOf p .columns)) e ∙ row-again (planOf p) row (rowAt (planOf p) symbols row) symbols (row-length (planOf p) symbols row place) place refl
 
-    pub answered-tied : (a : Filling) (symbols′ : List ℕ) → a ≡ answerOf found → a ≡ Tied → Left symbols′
+    pub answered-tied : (a : Outcome) (symbols′ : List ℕ) → a ≡ answerOf found → a ≡ Tied → Left symbols′
         → Walking p t sums symbols₀ marks₀ symbols′ marks (row + 1) filled
     unfolding answerOf vectorOf rowFill marksAt
     answered-tied a symbols′ e k l = go found refl (sym e ∙ k)
@@ -189,7 +189,7 @@ module _ (p t : ℕ) (sums symbols₀ marks₀ : List ℕ) where
         go none q h = let z : _≡_ {A = ℕ} 0 1 = cc in absurd (omega arith)
         go (one w) q h = let z : _≡_ {A = ℕ} 0 1 = cc in absurd (omega arith)
 
-    pub answered-none : (a : Filling) (symbols′ : List ℕ) → a ≡ answerOf found → a ≡ None → Left symbols′
+    pub answered-none : (a : Outcome) (symbols′ : List ℕ) → a ≡ answerOf found → a ≡ None → Left symbols′
         → Walked (benchOf p t symbols₀ marks₀ sums) (benchOf p t symbols′ marks sums) row filled
     unfolding answerOf vectorOf rowFill marksAt
     answered-none a symbols′ e k l = go found refl (sym e ∙ k)
@@ -200,7 +200,7 @@ module _ (p t : ℕ) (sums symbols₀ marks₀ : List ℕ) where
             (sym (l ∙ ap (λ f. sets symbols (row * planOf p .columns) (vectorOf f (rowAt (planOf p) symbols row))) q ∙ same-row none refl)) (walked-clash q)
         go (one w) q h = let z : _≡_ {A = ℕ} 0 1 = cc in absurd (omega arith)
 
-    pub answered-one : (a : Filling) (symbols′ : List ℕ) → (getD marks row 0 ≡ 0 → ⊥) → a ≡ answerOf found → a ≡ One → Left symbols′
+    pub answered-one : (a : Outcome) (symbols′ : List ℕ) → (getD marks row 0 ≡ 0 → ⊥) → a ≡ answerOf found → a ≡ One → Left symbols′
         → Walking p t sums symbols₀ marks₀ symbols′ (set marks row 0) (row + 1) (filled + 1)
     unfolding answerOf vectorOf rowFill marksAt
     answered-one a symbols′ nz e k l = go found refl (sym e ∙ k)

@@ -5,14 +5,10 @@ use mathlib.Core.List.{List}
 use lib.Dec.{ltb}
 use lib.ListN.{length, getD, set}
 use Rattle.field.specs.Lists.{if_then_else_}
-use Rattle.linear.specs.Marks.{bitsOf}
-use Rattle.linear.specs.Fill.{Fill, tied, none, one, fill}
 use Rattle.repair.specs.Plan.{Plan, planOf, checksTo, rowAt}
 use Rattle.repair.specs.Refusal.{sumsAt, benchRefusal, unasked}
 use Rattle.repair.specs.Rounds.{Standing, Turn, clash, turns}
 use Rattle.repair.specs.declared.Bench.{Bench}
-use Rattle.repair.specs.declared.steps.Filling.{Filling}
-use Rattle.repair.specs.declared.steps.Filling.the-variants.{Tied, None, One}
 use Rattle.repair.specs.declared.Place.the-variants.{Row}
 
 -- a bench by its parts
@@ -25,17 +21,6 @@ Arrays b = (length (b .symbols) ≡ 256) × (length (b .marks) ≡ 8) × (length
 
 abbrev pub standingOf : Bench → (turn : ℕ) → (restored : List ℕ) → Standing
 standingOf b turn restored = record { bench = b; turn = turn; restored = restored }
-
--- the code's answer of a fill, and the vector that it leaves
-unfoldable pub answerOf : Fill → Filling
-answerOf tied = Tied
-answerOf none = None
-answerOf (one w) = One
-
-unfoldable pub vectorOf : Fill → List ℕ → List ℕ
-vectorOf tied v = v
-vectorOf none v = v
-vectorOf (one w) v = w
 
 -- k rows more restored at level t
 unfoldable pub more : (t k : ℕ) → List ℕ → List ℕ

@@ -8,18 +8,12 @@ ghost use lib.Dec.{T};
 ghost use lib.ListN.{length, getD};
 ghost use lib.Seq.{sets};
 ghost use Rattle.field.specs.Ours.{products};
-ghost use Rattle.linear.specs.Marks.{bitsOf};
+ghost use Rattle.linear.specs.Marks.{bitsOf, answerOf, vectorOf};
 ghost use Rattle.linear.specs.Fill.{sumsOf, fill};
 ghost use Rattle.repair.specs.Plan.{planOf, known, checksTo, rowAt};
 ghost use Rattle.repair.specs.Refusal.{sumsAt, sumsFit, levelFits, benchRefusal, unasked};
 ghost use Rattle.repair.specs.Tables.{checkTable};
-ghost use Rattle.repair.specs.Walk.{Arrays, benchOf, answerOf, vectorOf, Walked};
-
-pub enum Filling {
-    Tied,
-    None,
-    One,
-}
+ghost use Rattle.repair.specs.Walk.{Arrays, benchOf, Walked};
 
 // The sum of row `row` under check j of levels 1 to t.
 fn check_sum(
@@ -56,14 +50,24 @@ fn fill_row(
     word: u32,
     sums: &[u8],
     row: usize,
-) -> Filling
+) -> linear::Outcome
     requires { ⌜ now table ≡ products ⌝ }
     requires { ⌜ now checks ≡ checkTable (planOf plan) ⌝ }
     requires { ⌜ T (known plan) × (row < planOf plan .rows) × (word < 2 ^ planOf plan .columns) × T (sumsFit (planOf plan) level (now sums)) ⌝ }
+    requires { ⌜ (length (now symbols) ≡ 256) × (length (now sums) ≡ 128) ⌝ }
     ensures { λ r. ⌜ r ≡ answerOf (fill (planOf plan .field) (checksTo (planOf plan) level) (sumsAt (planOf plan) level (now (sums .entry)) row) (bitsOf (planOf plan .columns) word) (rowAt (planOf plan) (now (symbols .entry)) row)) ⌝ }
     ensures { λ r. ⌜ now (symbols .exit) ≡ sets (now (symbols .entry)) (row * planOf plan .columns) (vectorOf (fill (planOf plan .field) (checksTo (planOf plan) level) (sumsAt (planOf plan) level (now (sums .entry)) row) (bitsOf (planOf plan .columns) word) (rowAt (planOf plan) (now (symbols .entry)) row)) (rowAt (planOf plan) (now (symbols .entry)) row)) ⌝ }
 {
-    Filling::Tied
+    let facts = plan::facts_of(plan);
+    let q = facts.field;
+    let n = facts.columns;
+    let m = plan::sums_to(plan, level);
+    let size = m * n;
+    let start = row * n;
+    let end = start + n;
+    let first = row * 16;
+    let last = first + m;
+    linear::fill(q, table, &checks[..size], &sums[first..last], &mut symbols[start..end], word)
 }
 
 // Where the walk over a round's rows came to: the first row whose checks fail, or R; and how many rows it filled.
@@ -107,11 +111,11 @@ fn walk_rows(
             }
         } else {
             match fill_row(plan, level, table, checks, symbols, word, sums, row) {
-                Filling::Tied => {}
-                Filling::None => {
+                linear::Outcome::Tied => {}
+                linear::Outcome::None => {
                     break 'rows row;
                 }
-                Filling::One => {
+                linear::Outcome::One => {
                     marks[row] = 0;
                     filled += 1;
                 }

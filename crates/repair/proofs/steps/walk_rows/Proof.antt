@@ -81,7 +81,10 @@ loop-again : tie.Need-loop-again Inv-loop μ-loop Inv-rows μ-rows
 loop-again c = (search needs, below-more _ _ (c .before .before .before .before .before .loop .inv .1) (sym (c .before .before .check-sum .ensures) ∙ c .if3 .left))
 
 fill-row-requires : tie.Need-fill-row-requires Inv-loop μ-loop Inv-rows μ-rows
-fill-row-requires c κs = (c .before .before .before .before .before .before .before .before .before .before .before .pre .0, (c .before .before .before .before .before .before .before .before .before .before .before .pre .1 .0, (c .before .before .before .before .rows .inv .sound .fit .plan-known, inside (c .before .before .before), c .before .before .before .before .rows .inv .sound .fit .mark-lt _ (inside (c .before .before .before)), fit-sums _ _ _ (c .before .before .before .before .rows .inv .sound .fit .sums-fits))))
+fill-row-requires c κs =
+    let w = c .before .before .before .before .rows .inv in
+    (c .before .before .before .before .before .before .before .before .before .before .before .pre .0, (c .before .before .before .before .before .before .before .before .before .before .before .pre .1 .0, ((w .sound .fit .plan-known, inside (c .before .before .before), w .sound .fit .mark-lt _ (inside (c .before .before .before)), fit-sums _ _ _ (w .sound .fit .sums-fits)),
+    (w .sound .sized .symbols, w .sound .sized .sums))))
 
 enum-told : tie.Need-enum-told Inv-loop μ-loop Inv-rows μ-rows
 enum-told c = search needs
