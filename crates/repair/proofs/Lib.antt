@@ -11,4 +11,6 @@ pub mod Tables
 pub mod Summing
 pub mod Lossy
 pub mod Walk
+pub mod Sizes
+pub mod Numbers
 pub mod Holding
