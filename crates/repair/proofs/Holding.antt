@@ -12,16 +12,17 @@ use Rattle.field.specs.Lists.{upFrom}
 use Rattle.field.specs.Field.{Field, dot}
 use Rattle.field.specs.Ours.{fieldOf}
 use Rattle.linear.specs.Lists.{all, vanish}
+use Rattle.linear.specs.Marks.{rowsOf}
 use Rattle.linear.specs.Fill.{sumsOf}
 use Rattle.repair.specs.Plan.{Plan, planOf, levelOf, checksTo, rowAt}
 use Rattle.repair.specs.Steps.{across}
 use Rattle.repair.specs.Codeword.{rowsHold, totalsHold}
-use Rattle.repair.specs.Tables.{padded, checkTable, weightTable, rowsFrom, rowSums}
+use Rattle.repair.specs.Tables.{padded, checkTable, weightTable, rowSums}
 use Rattle.repair.proofs.Rows.{row-end}
 use Rattle.repair.proofs.Flat.{rowIn}
 use Rattle.repair.proofs.Tables.{checks-in, level-checks-in, checks-more, sums-more}
 use Rattle.repair.proofs.Sizes.{checks-room, checks-length}
-use Rattle.repair.proofs.Summing.{part, part-of, part-length}
+use Rattle.repair.proofs.Parts.{part, part-of, part-length, rows-of}
 use Rattle.repair.proofs.Numbers.{Numbers, row-within, row-part, column-rows, column-is, weights-are, weights-suffice}
 use Rattle.repair.proofs.Walk.{all-map, Walking, walking-turns, walking-fails, walking-ends}
 
@@ -32,9 +33,10 @@ unfoldable pub gives0 : Field → (checks v : List ℕ) → ℕ → Bool
 gives0 F checks v i = eqb (dot F (take (length v) (drop (i * length v) checks)) v) 0
 
 module _ (F : Field) (checks : List ℕ) (m : ℕ) (v : List ℕ) where
-  vanish-walk : vanish (sumsOf F (rowsFrom 0 m (length v) checks) v) ≡ all (gives0 F checks v) (upFrom 0 m)
-  unfolding gives0 vanish sumsOf rowsFrom
-  vanish-walk = ap (all (λ x. eqb x 0)) (map-map _ _ (upFrom 0 m)) ∙ all-map (λ x. eqb x 0) _ (upFrom 0 m)
+  vanish-walk : vanish (sumsOf F (rowsOf m (length v) checks) v) ≡ all (gives0 F checks v) (upFrom 0 m)
+  unfolding gives0 vanish sumsOf
+  vanish-walk =
+      ap (λ cs. vanish (sumsOf F cs v)) (rows-of m (length v) checks) ∙ ap (all (λ x. eqb x 0)) (map-map _ _ (upFrom 0 m)) ∙ all-map (λ x. eqb x 0) _ (upFrom 0 m)
 
   module _ {i sum : ℕ} (more : i < m) (e : sum ≡ dot F (part (i * length v) (length v) checks) v) (w : Walking (gives0 F checks v) 0 m i) where
     its : sum ≡ dot F (take (length v) (drop (i * length v) checks)) v
@@ -44,11 +46,11 @@ module _ (F : Field) (checks : List ℕ) (m : ℕ) (v : List ℕ) where
     unfolding gives0
     vanish-turns z = walking-turns (gives0 F checks v) 0 m (omega arith) (eq-eqb _ 0 (sym its ∙ z)) w
 
-    pub vanish-fails : (sum ≡ 0 → ⊥) → false ≡ vanish (sumsOf F (rowsFrom 0 m (length v) checks) v)
+    pub vanish-fails : (sum ≡ 0 → ⊥) → false ≡ vanish (sumsOf F (rowsOf m (length v) checks) v)
     unfolding gives0
     vanish-fails nz = sym (vanish-walk ∙ walking-fails (gives0 F checks v) 0 m (omega arith) (ne-eqb _ 0 (λ z. nz (its ∙ z))) w)
 
-  pub vanish-ends : {i : ℕ} → m ≤ i → Walking (gives0 F checks v) 0 m i → true ≡ vanish (sumsOf F (rowsFrom 0 m (length v) checks) v)
+  pub vanish-ends : {i : ℕ} → m ≤ i → Walking (gives0 F checks v) 0 m i → true ≡ vanish (sumsOf F (rowsOf m (length v) checks) v)
   vanish-ends end w = sym (vanish-walk ∙ walking-ends (gives0 F checks v) 0 m (omega arith) w)
 
 -- ---- rows
@@ -57,9 +59,9 @@ module _ (F : Field) (checks : List ℕ) (m : ℕ) (v : List ℕ) where
 unfoldable pub rowHolds : Plan → List ℕ → ℕ → Bool
 rowHolds P stripe r = vanish (sumsOf (P .field) (levelOf P 1 .checks) (rowAt P stripe r))
 
-first-checks : (p : ℕ) → rowsFrom 0 (length (checksTo (planOf p) 1)) (planOf p .columns) (checkTable (planOf p)) ≡ levelOf (planOf p) 1 .checks
-unfolding rowsFrom checksTo flatMap
-first-checks p = checks-in p 1 ∙ checks-more (planOf p) 0
+first-checks : (p : ℕ) → rowsOf (length (checksTo (planOf p) 1)) (planOf p .columns) (checkTable (planOf p)) ≡ levelOf (planOf p) 1 .checks
+unfolding checksTo flatMap
+first-checks p = rows-of _ _ _ ∙ checks-in p 1 ∙ checks-more (planOf p) 0
 
 -- the rows before r hold
 pub record RowsHolding (p q rows n m : ℕ) (stripe : List ℕ) (r : ℕ) : Type 0 where
@@ -81,13 +83,13 @@ module _ {p q rows n m r : ℕ} {checks stripe : List ℕ} (long : planOf p .row
   pub rows-checks : m * length row ≤ length checks
   rows-checks = rw (s .count, row-length, lent, checks-length p) (checks-room p 1)
 
-  module _ {b : Bool} (e : b ≡ vanish (sumsOf (fieldOf q) (rowsFrom 0 m (length row) checks) row)) where
+  module _ {b : Bool} (e : b ≡ vanish (sumsOf (fieldOf q) (rowsOf m (length row) checks) row)) where
     its-row : b ≡ rowHolds (planOf p) stripe r
     unfolding rowHolds
     its-row =
         e ∙ ap₂ (λ cs w. vanish (sumsOf (fieldOf q) cs w))
-        (ap₂ (λ k l. rowsFrom 0 k (length row) l) (s .count) lent
-        ∙ ap (λ k. rowsFrom 0 (length (checksTo (planOf p) 1)) k (checkTable (planOf p))) row-length ∙ first-checks p)
+        (ap₂ (λ k l. rowsOf k (length row) l) (s .count) lent
+        ∙ ap (λ k. rowsOf (length (checksTo (planOf p) 1)) k (checkTable (planOf p))) row-length ∙ first-checks p)
         (row-part (s .is) stripe r)
         ∙ ap (λ F. vanish (sumsOf F (levelOf (planOf p) 1 .checks) (rowAt (planOf p) stripe r))) (s .is .field)
 
@@ -139,13 +141,13 @@ module _ {p t q rows n totals first last j : ℕ} {weights checks stripe : List 
     pub totals-weights : totals * length (take rows column) ≤ length weights
     totals-weights = rw (column-rows (s .is) lent (suc t) totals-here stripe made, s .count, s .weighs) (weights-suffice (s .is) (suc t))
 
-    module _ {b : Bool} (e : b ≡ vanish (sumsOf (fieldOf q) (rowsFrom 0 totals (length (take rows column)) weights) (take rows column))) where
+    module _ {b : Bool} (e : b ≡ vanish (sumsOf (fieldOf q) (rowsOf totals (length (take rows column)) weights) (take rows column))) where
       its-check : b ≡ checkHolds (planOf p) stripe t j
       unfolding checkHolds
       its-check =
           e ∙ ap₂ (λ cs w. vanish (sumsOf (fieldOf q) cs w))
-          (ap₂ (λ k l. rowsFrom 0 k (length (take rows column)) l) (s .count) (s .weighs)
-          ∙ ap (λ k. rowsFrom 0 (length (levelOf (planOf p) (suc t) .weights)) k (weightTable (planOf p) (suc t))) (column-rows (s .is) lent (suc t) totals-here stripe made)
+          (ap₂ (λ k l. rowsOf k (length (take rows column)) l) (s .count) (s .weighs)
+          ∙ ap (λ k. rowsOf (length (levelOf (planOf p) (suc t) .weights)) k (weightTable (planOf p) (suc t))) (column-rows (s .is) lent (suc t) totals-here stripe made)
           ∙ weights-are (s .is) (suc t))
           (column-is (s .is) lent (suc t) totals-here stripe made)
           ∙ ap (λ F. vanish (sumsOf F (levelOf (planOf p) (suc t) .weights) (across (planOf p) stripe (rowIn (planOf p .columns) (checkTable (planOf p)) j)))) (s .is .field)

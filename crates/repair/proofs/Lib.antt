@@ -8,6 +8,7 @@ pub mod Plans
 pub mod Padded
 pub mod Flat
 pub mod Tables
+pub mod Parts
 pub mod Summing
 pub mod Lossy
 pub mod Walk

@@ -9,16 +9,18 @@ use lib.Seq.{take-at, length-take-le}
 use Rattle.field.specs.Field.{dot}
 use Rattle.field.specs.Lists.{upFrom}
 use Rattle.field.specs.Ours.{fieldOf}
+use Rattle.linear.specs.Marks.{rowsOf}
 use Rattle.repair.specs.Plan.{planOf, levelOf, checksTo, rowAt}
 use Rattle.repair.specs.Steps.{across}
-use Rattle.repair.specs.Tables.{FactsOf, padded, checkTable, weightTable, rowsFrom, rowSums}
+use Rattle.repair.specs.Tables.{FactsOf, padded, checkTable, weightTable, rowSums}
 use Rattle.repair.specs.declared.plan.Facts.{Facts}
 use Rattle.repair.proofs.Rows.{row-end}
 use Rattle.repair.proofs.Sizes.{rows-most, checks-room, checks-length, weights-room, weights-length}
 use Rattle.repair.proofs.Padded.{length-padded}
 use Rattle.repair.proofs.Flat.{rowIn}
 use Rattle.repair.proofs.Tables.{weights-in}
-use Rattle.repair.proofs.Summing.{part, part-of, part-length, row-sums-length}
+use Rattle.repair.proofs.Parts.{part, part-of, part-length, rows-of}
+use Rattle.repair.proofs.Summing.{row-sums-length}
 
 pub record Numbers (p q rows n : ℕ) : Type 0 where
   pub field : fieldOf q ≡ planOf p .field
@@ -83,9 +85,8 @@ module _ {p q rows n : ℕ} (is : Numbers p q rows n) where
 
   -- ---- weights
 
-  pub weights-are : (t : ℕ) → rowsFrom 0 (length (levelOf (planOf p) t .weights)) rows (weightTable (planOf p) t) ≡ levelOf (planOf p) t .weights
-  unfolding rowsFrom
-  weights-are t = ap (λ k. rowsFrom 0 (length (levelOf (planOf p) t .weights)) k (weightTable (planOf p) t)) (is .high) ∙ weights-in p t
+  pub weights-are : (t : ℕ) → rowsOf (length (levelOf (planOf p) t .weights)) rows (weightTable (planOf p) t) ≡ levelOf (planOf p) t .weights
+  weights-are t = ap (λ k. rowsOf (length (levelOf (planOf p) t .weights)) k (weightTable (planOf p) t)) (is .high) ∙ rows-of _ _ _ ∙ weights-in p t
 
   pub weights-suffice : (t : ℕ) → length (levelOf (planOf p) t .weights) * rows ≤ length (weightTable (planOf p) t)
   weights-suffice t = rw (weights-length p t, is .high) (weights-room p t)

@@ -7,15 +7,16 @@ ghost use lib.ListN.{length};
 ghost use Rattle.field.specs.Ours.{fieldOf, products};
 ghost use Rattle.linear.specs.Lists.{vanish};
 ghost use Rattle.linear.specs.Fill.{sumsOf};
+ghost use Rattle.linear.specs.Marks.{rowsOf};
 ghost use Rattle.repair.specs.Plan.{planOf, levelOf};
 ghost use Rattle.repair.specs.Codeword.{rowsHold, totalsHold, tested};
-ghost use Rattle.repair.specs.Tables.{checkTable, rowsFrom};
+ghost use Rattle.repair.specs.Tables.{checkTable};
 
 // Whether each of the first m checks gives 0 with v. A check is as long as v.
 fn vanishes(q: usize, table: &[u8; 256], checks: &[u8], m: usize, v: &[u8]) -> bool
     requires { ⌜ now table ≡ products ⌝ }
     requires { ⌜ m * length (now v) ≤ length (now checks) ⌝ }
-    ensures { λ r. ⌜ r ≡ vanish (sumsOf (fieldOf q) (rowsFrom 0 m (length (now (v .entry))) (now (checks .entry))) (now (v .entry))) ⌝ }
+    ensures { λ r. ⌜ r ≡ vanish (sumsOf (fieldOf q) (rowsOf m (length (now (v .entry))) (now (checks .entry))) (now (v .entry))) ⌝ }
 {
     let n = v.len();
     for i in 0..m {
