@@ -15,3 +15,4 @@ pub mod Walk
 pub mod Sizes
 pub mod Numbers
 pub mod Holding
+pub mod Keeping

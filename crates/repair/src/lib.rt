@@ -1,5 +1,6 @@
 // The repair library: what a bench is, and what each call answers.
 pub mod codeword;
+pub mod level;
 pub mod plan;
 pub mod sums;
 
