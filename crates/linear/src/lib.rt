@@ -13,7 +13,9 @@ ghost use Rattle.linear.specs.Marks.{mostChecks, mostColumns, rowsOf, fi
 
 // How many checks and columns `fill` takes at most, and the room that its system takes.
 pub const CHECKS: usize = 16;
+
 pub const COLUMNS: usize = 32;
+
 const ROOM: usize = 528;
 
 // The marked columns are dependent; they are not, and nothing fills; or the one vector that does is in place.
@@ -154,7 +156,14 @@ fn scatter(v: &mut [u8], places: &[usize], k: usize, x: &[u8])
 }
 
 // Fills the marked places by the system of the marked columns.
-fn fill_marked(q: usize, table: &[u8; 256], checks: &[u8], target: &[u8], v: &mut [u8], marks: u32) -> Outcome
+fn fill_marked(
+    q: usize,
+    table: &[u8; 256],
+    checks: &[u8],
+    target: &[u8],
+    v: &mut [u8],
+    marks: u32,
+) -> Outcome
     requires { ⌜ now table ≡ products ⌝ }
     requires { ⌜ (length (now target) ≤ mostChecks) × (length (now v) ≤ mostColumns) × (marks < 2 ^ length (now v)) ⌝ }
     requires { ⌜ length (now checks) ≡ length (now target) * length (now v) ⌝ }
@@ -171,8 +180,27 @@ fn fill_marked(q: usize, table: &[u8; 256], checks: &[u8], target: &[u8], v: &mu
     let mut dependency: [u8; COLUMNS] = [0; COLUMNS];
     let k = list_places(marks, n, &mut places[..]);
     hide(marks, &v[..], &mut shown[..]);
-    gather(q, table, checks, target, &shown[..], n, &places[..], k, &mut system[..]);
-    let s = system::solve(q, table, &mut system[..], target.len(), k, &mut pivots[..], &mut solution[..], &mut dependency[..]);
+    gather(
+        q,
+        table,
+        checks,
+        target,
+        &shown[..],
+        n,
+        &places[..],
+        k,
+        &mut system[..],
+    );
+    let s = system::solve(
+        q,
+        table,
+        &mut system[..],
+        target.len(),
+        k,
+        &mut pivots[..],
+        &mut solution[..],
+        &mut dependency[..],
+    );
     if s.dependent {
         return Outcome::Tied;
     }
@@ -186,7 +214,14 @@ fn fill_marked(q: usize, table: &[u8; 256], checks: &[u8], target: &[u8], v: &mu
 // Fills the marked places of v, in field `q`, so that its sums are the target: `checks` has a row of as many coefficients as v
 // has symbols for each sum, and bit c of `marks` marks column c. Writes v only where the answer is `One`, and never reads what
 // stands under a mark. Where nothing is marked, the sums are compared.
-pub fn fill(q: usize, table: &[u8; 256], checks: &[u8], target: &[u8], v: &mut [u8], marks: u32) -> Outcome
+pub fn fill(
+    q: usize,
+    table: &[u8; 256],
+    checks: &[u8],
+    target: &[u8],
+    v: &mut [u8],
+    marks: u32,
+) -> Outcome
     requires { ⌜ now table ≡ products ⌝ }
     requires { ⌜ (length (now target) ≤ mostChecks) × (length (now v) ≤ mostColumns) × (marks < 2 ^ length (now v)) ⌝ }
     requires { ⌜ length (now checks) ≡ length (now target) * length (now v) ⌝ }

@@ -19,7 +19,7 @@ use Rattle.repair.proofs.Tables.{checks-in}
 use Rattle.repair.proofs.Rows.{row-end}
 use Rattle.repair.proofs.Shape.{shape}
 use Rattle.repair.proofs.Sizes.{checks-room, checks-length}
-use Rattle.repair.proofs.Summing.{part, part-of, part-length}
+use Rattle.repair.proofs.Parts.{part, part-of, part-length}
 
 module _ (p t j : ℕ) (h : j < length (checksTo (planOf p) t)) where
   pub check-at : getD (checksTo (planOf p) t) j [] ≡ take (planOf p .columns) (drop (j * planOf p .columns) (checkTable (planOf p)))

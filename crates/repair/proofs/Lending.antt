@@ -27,7 +27,7 @@ use Rattle.repair.proofs.Shape.{Shape, shape}
 use Rattle.repair.proofs.Fit.{sums-fit}
 use Rattle.repair.proofs.Levels.{sums-length}
 use Rattle.repair.proofs.Sizes.{checks-room, checks-length}
-use Rattle.repair.proofs.Summing.{part, part-of, part-length}
+use Rattle.repair.proofs.Parts.{part, part-of, part-length}
 use Rattle.repair.proofs.Checks.{row-places}
 
 -- ---- rows of a flat list

@@ -6,6 +6,7 @@ pub mod Plans
 pub mod Padded
 pub mod Flat
 pub mod Tables
+pub mod Sizes
 -- what the proofs of the code and of the demands rest on
 pub mod Rows
 pub mod Levels
@@ -15,13 +16,16 @@ pub mod Sound
 pub mod Unmarked
 pub mod Turns
 -- sums under checks, and the codeword test
+pub mod Parts
+pub mod Numbers
 pub mod Summing
 pub mod Lossy
 pub mod Walk
 pub mod Holding
 -- the rows of a round
-pub mod Sizes
 pub mod Checks
 pub mod Lending
 pub mod Walking
 pub mod Arms
+-- the level step
+pub mod Keeping

@@ -13,11 +13,7 @@ use lib.ListN.{getD}
 use Rattle.field.specs.Lists.{upFrom}
 use Rattle.field.proofs.Lists.{map-up-same}
 use Rattle.linear.specs.Marks.{bitsOf}
-
-map-up-shift : {A : Type 0} (f : ℕ → A) (k n : ℕ) → map f (upFrom (suc k) n) ≡ map (λ i. f (suc i)) (upFrom k n)
-unfolding upFrom
-map-up-shift f k zero = refl
-map-up-shift f k (suc n) = ap (λ l. f (suc k) ∷ l) (map-up-shift f (suc k) n)
+use Rattle.repair.proofs.Parts.{map-up-shift}
 
 -- a bit behind a word
 bits-behind : (n w b : ℕ) → b < 2 → bitsOf (suc n) (w * 2 + b) ≡ eqb b 1 ∷ bitsOf n w

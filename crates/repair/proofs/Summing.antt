@@ -12,6 +12,7 @@ use Rattle.field.specs.Lists.{upFrom}
 use Rattle.field.proofs.Sum.{⊕-assoc, ⊕-zero, zero-⊕}
 use Rattle.field.proofs.Lists.{length-up, getD-map-below}
 use Rattle.repair.specs.Tables.{padded, rowSums}
+use Rattle.repair.proofs.Parts.{part, part-of}
 use Rattle.repair.proofs.Padded.{Padding, padding-starts, padding-turns, padding-ends}
 
 -- the sum of the columns before c, and of those from c on, is the whole
@@ -36,18 +37,6 @@ module _ (F : Field) (check row : List ℕ) where
   pub summing-ends : {c sum : ℕ} → length check ≤ c → Summing F check row c sum → sum ≡ dot F check row
   unfolding dot
   summing-ends {c} {sum} all s = sym (⊕-zero sum) ∙ (rw (drop-of-length-le check all) at (s .whole))
-
--- ---- a part that is lent from its start to its end
-
-abbrev pub part : (start size : ℕ) → List ℕ → List ℕ
-part start size l = take (start + size - start) (drop start l)
-
-pub part-of : (start size : ℕ) (l : List ℕ) → part start size l ≡ take size (drop start l)
-part-of start size l = ap (λ n. take n (drop start l)) (add-sub-cancel-left start size)
-
-pub part-length : (start size : ℕ) (l : List ℕ) → start + size ≤ length l → length (part start size l) ≡ size
-part-length start size l h =
-    ap length (part-of start size l) ∙ length-take-le size (drop start l) (simp length-drop (omega arith))
 
 -- ---- the sums of all rows
 

@@ -17,7 +17,8 @@ use Rattle.repair.specs.Plan.{Plan, planOf, checksTo, rowAt, marksAt}
 use Rattle.repair.specs.Refusal.{room, sumsAt, unasked, benchRefusal}
 use Rattle.repair.specs.Steps.{rowFill, putRow}
 use Rattle.repair.specs.Rounds.{Standing, Turn, clash, turns}
-use Rattle.repair.specs.Walk.{benchOf, standingOf, Arrays, more, Walked}
+use Rattle.repair.specs.Learned.{benchOf}
+use Rattle.repair.specs.Walk.{standingOf, Arrays, more, Walked}
 use Rattle.repair.specs.declared.Bench.{Bench}
 use Rattle.repair.specs.declared.Place.the-variants.{Row}
 use Rattle.linear.specs.declared.Outcome.{Outcome}

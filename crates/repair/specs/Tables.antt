@@ -50,10 +50,6 @@ weightTable P t = flat 16 (levelOf P t .weights)
 unfoldable pub placeTable : Plan → List ℕ
 placeTable P = padded 8 (P .checkPlaces)
 
--- m rows of a table from row k on, n numbers each
-unfoldable pub rowsFrom : (k m n : ℕ) → List ℕ → List (List ℕ)
-rowsFrom k m n table = map (λ j. take n (drop (j * n) table)) (upFrom k m)
-
 -- ---- sums
 
 -- the sums of `rows` rows under one check, which is as long as a row

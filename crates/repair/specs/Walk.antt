@@ -8,14 +8,11 @@ use Rattle.field.specs.Lists.{if_then_else_}
 use Rattle.repair.specs.Plan.{Plan, planOf, checksTo, rowAt}
 use Rattle.repair.specs.Refusal.{sumsAt, benchRefusal, unasked}
 use Rattle.repair.specs.Rounds.{Standing, Turn, clash, turns}
+use Rattle.repair.specs.Learned.{benchOf}
 use Rattle.repair.specs.declared.Bench.{Bench}
 use Rattle.repair.specs.declared.Place.the-variants.{Row}
 
--- a bench by its parts
-abbrev pub benchOf : (p t : ℕ) (symbols marks sums : List ℕ) → Bench
-benchOf p t symbols marks sums = record { plan = p; level = t; symbols = symbols; marks = marks; sums = sums }
-
--- its arrays are as long as the code's
+-- a bench's arrays are as long as the code's
 abbrev pub Arrays : Bench → Type 0
 Arrays b = (length (b .symbols) ≡ 256) × (length (b .marks) ≡ 8) × (length (b .sums) ≡ 128)
 

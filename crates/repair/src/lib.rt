@@ -1,8 +1,9 @@
 // The repair library: what a bench is, and what each call answers.
-pub mod plan;
-pub mod sums;
 pub mod codeword;
+pub mod level;
+pub mod plan;
 pub mod steps;
+pub mod sums;
 
 // A plan's number, the level t that was reached, symbols and mark words row after row, and each row's learned sums, 16 places a row.
 pub struct Bench {

@@ -13,7 +13,8 @@ ghost use Rattle.linear.specs.Fill.{sumsOf, fill};
 ghost use Rattle.repair.specs.Plan.{planOf, known, checksTo, rowAt};
 ghost use Rattle.repair.specs.Refusal.{sumsAt, sumsFit, levelFits, benchRefusal, unasked};
 ghost use Rattle.repair.specs.Tables.{checkTable};
-ghost use Rattle.repair.specs.Walk.{Arrays, benchOf, Walked};
+ghost use Rattle.repair.specs.Learned.{benchOf};
+ghost use Rattle.repair.specs.Walk.{Arrays, Walked};
 
 // The sum of row `row` under check j of levels 1 to t.
 fn check_sum(

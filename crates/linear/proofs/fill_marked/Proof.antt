@@ -59,11 +59,20 @@ slice-aggregate-gather-3 c = search needs
 gather-requires : tie.Need-gather-requires
 gather-requires c κs = let s = c .before .before .before .before .before .before .before .before .before .before .before .before .before in
     let listed = c .before .before .before .before .before .before .before .before .list-places in
-    let pre = s .pre .1 in
-    (s .pre .0, ((omega (arith, pre .1 .0), system-fits _ _ (pre .0 .0) (omega (arith, listed .ensures .0, pre .0 .1))),
-    ((omega (arith, c .before .before .before .before .hide .kept .1 .1 .0, pre .0 .1), omega (arith, listed .kept .1 .1 .0, listed .ensures .0, pre .0 .1),
-    λ t l. bit-bound _ (s .args .marks) _ (pre .0 .2) (listed .ensures .1 .marked t l)),
-    (pre .1 .1 .0, pre .1 .1 .1, zero-elements _ (our-field (s .args .q)) 528))))
+    let pre = s .pre .1 in (
+      s .pre .0,
+      (
+        (omega (arith, pre .1 .0), system-fits _ _ (pre .0 .0) (omega (arith, listed .ensures .0, pre .0 .1))),
+        (
+          (
+            omega (arith, c .before .before .before .before .hide .kept .1 .1 .0, pre .0 .1),
+            omega (arith, listed .kept .1 .1 .0, listed .ensures .0, pre .0 .1),
+            λ t l. bit-bound _ (s .args .marks) _ (pre .0 .2) (listed .ensures .1 .marked t l),
+          ),
+          (pre .1 .1 .0, pre .1 .1 .1, zero-elements _ (our-field (s .args .q)) 528),
+        ),
+      ),
+    )
 
 slice-aggregate-solve : tie.Need-slice-aggregate-solve
 slice-aggregate-solve c = search needs
@@ -82,9 +91,18 @@ solve-requires c κs = let s = c .before .before .before .before .before .before
     let listed = c .before .before .before .before .before .before .before .before .before .before .before .before .before .before .list-places .ensures .0 in
     let pre = s .pre .1 .0 in
     let gathered = c .before .before .before .before .before .gather in
-    let fits = system-fits (length (s .args .target .now)) (c .before .before .before .before .before .before .before .before .before .before .before .before .before .before .list-places .result) (pre .0) (omega (arith, listed, pre .1)) in
-    (s .pre .0, ((omega (arith, gathered .kept .1 .1 .1 .1 .1 .1 .1 .1 .0, fits), omega (arith, listed, pre .1), omega (arith, listed, pre .1),
-    omega (arith, listed, pre .1)), gathered .ensures .1))
+    let fits = system-fits (length (s .args .target .now)) (c .before .before .before .before .before .before .before .before .before .before .before .before .before .before .list-places .result) (pre .0) (omega (arith, listed, pre .1)) in (
+      s .pre .0,
+      (
+        (
+          omega (arith, gathered .kept .1 .1 .1 .1 .1 .1 .1 .1 .0, fits),
+          omega (arith, listed, pre .1),
+          omega (arith, listed, pre .1),
+          omega (arith, listed, pre .1),
+        ),
+        gathered .ensures .1,
+      ),
+    )
 
 same-length : tie.Need-same-length
 same-length c = search needs
@@ -107,9 +125,11 @@ slice-aggregate-scatter-2 c = search needs
 scatter-requires : tie.Need-scatter-requires
 scatter-requires c κs = let s = c .before .before .before .before .before .before .before .before .before .before .before .before .before .before .before .before .before .before .before .before .before .before .before .before .before .before .before .before .before .before in
     let listed = c .before .before .before .before .before .before .before .before .before .before .before .before .before .before .before .before .before .before .before .before .before .before .before .before .before .list-places in
-    let pre = s .pre .1 .0 in
-    (omega (arith, listed .kept .1 .1 .0, listed .ensures .0, pre .1), omega (arith, c .before .before .before .before .before .before .before .before .before .before .solve .kept .1 .1 .1 .1 .1 .1 .0, listed .ensures .0, pre .1),
-    λ t l. bit-bound _ (s .args .marks) _ (pre .2) (listed .ensures .1 .marked t l))
+    let pre = s .pre .1 .0 in (
+      omega (arith, listed .kept .1 .1 .0, listed .ensures .0, pre .1),
+      omega (arith, c .before .before .before .before .before .before .before .before .before .before .solve .kept .1 .1 .1 .1 .1 .1 .0, listed .ensures .0, pre .1),
+      λ t l. bit-bound _ (s .args .marks) _ (pre .2) (listed .ensures .1 .marked t l),
+    )
 
 same-length-3 : tie.Need-same-length-3
 same-length-3 c = search needs

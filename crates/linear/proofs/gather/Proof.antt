@@ -56,8 +56,13 @@ add-a-2 c = let s = c .before .before .before .before .before .before .before .b
 
 slice-write-a : tie.Need-slice-write-a Inv-loop μ-loop
 slice-write-a c = let s = c .before .before .before .before .before .before .before .before .before .before .before .before .before in
-    omega (arith, c .before .before .before .before .gather-row .kept .1 .1 .1 .1 .1 .1 .0, c .before .before .before .before .before .before .before .loop .inv .1,
-    row-fits (length (s .args .target .now)) (s .args .k + 1) (c .before .before .before .before .before .before .before .loop .i) (omega arith), s .pre .1 .0 .1)
+    omega (
+      arith,
+      c .before .before .before .before .gather-row .kept .1 .1 .1 .1 .1 .1 .0,
+      c .before .before .before .before .before .before .before .loop .inv .1,
+      row-fits (length (s .args .target .now)) (s .args .k + 1) (c .before .before .before .before .before .before .before .loop .i) (omega arith),
+      s .pre .1 .0 .1,
+    )
 
 add-i : tie.Need-add-i Inv-loop μ-loop
 add-i c = search needs

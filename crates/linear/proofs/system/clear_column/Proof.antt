@@ -36,9 +36,13 @@ add-row-requires : tie.Need-add-row-requires Inv-loop μ-loop
 add-row-requires c κs = let s = c .before .before .before .before .before .before in
     let inv = c .before .before .before .before .loop .inv in
     let here = row-fits (s .args .m) (s .args .w) (c .before .before .before .before .loop .i) (omega arith) in
-    let there = row-fits (s .args .m) (s .args .w) (s .args .p) (omega arith) in
-    (s .pre .0, ((omega (arith, inv .size, here), omega (arith, inv .size, there), omega arith),
-    (inv .elements, λ j l. inv .kept j (omega arith) ∙ s .pre .1 .1 .1 j l)))
+    let there = row-fits (s .args .m) (s .args .w) (s .args .p) (omega arith) in (
+      s .pre .0,
+      (
+        (omega (arith, inv .size, here), omega (arith, inv .size, there), omega arith),
+        (inv .elements, λ j l. inv .kept j (omega arith) ∙ s .pre .1 .1 .1 j l),
+      ),
+    )
 
 add-i : tie.Need-add-i Inv-loop μ-loop
 add-i c = search needs

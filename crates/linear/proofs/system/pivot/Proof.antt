@@ -48,10 +48,17 @@ add-row-requires c κs = let s = c .before .before .before .before .before .befo
 clear-column-requires : tie.Need-clear-column-requires
 clear-column-requires c κs = let s = c .before .before .before .before .before .before .before .before .before .before in
     let added = c .before .before .before .add-row in
-    let low = s .pre .1 .1 .1 .1 in
-    (s .pre .0, ((omega (arith, added .kept .1 .1 .0), omega arith, omega arith), (added .ensures .1,
-    λ j l. added-zero _ (our-field (s .args .q)) _ _ _ _ _ _ _ (added .ensures .0) (omega arith)
-    (low (s .args .r) (omega arith) (omega arith) j l) (low (s .args .i) (omega arith) (omega arith) j l))))
+    let low = s .pre .1 .1 .1 .1 in (
+      s .pre .0,
+      (
+        (omega (arith, added .kept .1 .1 .0), omega arith, omega arith),
+        (
+          added .ensures .1,
+          λ j l. added-zero _ (our-field (s .args .q)) _ _ _ _ _ _ _ (added .ensures .0) (omega arith)
+              (low (s .args .r) (omega arith) (omega arith) j l) (low (s .args .i) (omega arith) (omega arith) j l),
+        ),
+      ),
+    )
 
 same-length : tie.Need-same-length
 same-length c = search needs

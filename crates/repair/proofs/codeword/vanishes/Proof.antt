@@ -6,7 +6,7 @@ use borrow.Author.Needs.{needs}
 use lib.ListN.{length}
 use Rattle.field.specs.Ours.{fieldOf}
 use Rattle.repair.proofs.Rows.{row-end}
-use Rattle.repair.proofs.Summing.{part-length}
+use Rattle.repair.proofs.Parts.{part-length}
 use Rattle.repair.proofs.Walk.{Walking, walking-starts}
 use Rattle.repair.proofs.Holding.{gives0, vanish-turns, vanish-fails, vanish-ends}
 use Rattle.repair.proofs.codeword.vanishes.Statement.{statement}

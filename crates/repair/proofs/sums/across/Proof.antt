@@ -8,7 +8,8 @@ use Rattle.field.specs.Ours.{fieldOf}
 use Rattle.repair.specs.Tables.{rowSums}
 use Rattle.repair.proofs.Padded.{Padding}
 use Rattle.repair.proofs.Rows.{row-end}
-use Rattle.repair.proofs.Summing.{part-length, across-starts, across-turns, across-ends}
+use Rattle.repair.proofs.Parts.{part-length}
+use Rattle.repair.proofs.Summing.{across-starts, across-turns, across-ends}
 use Rattle.repair.proofs.sums.across.Statement.{statement}
 use Rattle.repair.proofs.sums.across.Tie as tie
 
