@@ -1,6 +1,7 @@
 // The repair library: what a bench is, and what each call answers.
 pub mod codeword;
 pub mod level;
+pub mod mend;
 pub mod plan;
 pub mod steps;
 pub mod sums;

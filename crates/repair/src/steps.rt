@@ -78,7 +78,7 @@ pub struct Walk {
 }
 
 // Row steps on rows 0 to R - 1, up to the first row whose checks fail.
-fn walk_rows(
+pub fn walk_rows(
     plan: usize,
     level: usize,
     table: &[u8; 256],
