@@ -5,3 +5,5 @@ pub mod Plans
 pub mod Padded
 pub mod Flat
 pub mod Tables
+pub mod Scan
+pub mod Refusals
