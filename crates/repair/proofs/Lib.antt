@@ -7,3 +7,4 @@ pub mod Flat
 pub mod Tables
 pub mod Scan
 pub mod Refusals
+pub mod Starts
