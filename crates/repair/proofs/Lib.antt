@@ -29,3 +29,7 @@ pub mod Walking
 pub mod Arms
 -- the level step
 pub mod Keeping
+-- what is refused, and the start
+pub mod Scan
+pub mod Refusals
+pub mod Starts

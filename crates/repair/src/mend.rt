@@ -1,12 +1,14 @@
 // Mending in one call: rounds on a bench of its own, until they stop.
+use crate::copies;
 use crate::level;
+use crate::level::Learning;
 use crate::plan;
 use crate::steps;
 use crate::{Answer, Place, Report};
 
 ghost use mathlib.Core.Path.{_≡_};
 ghost use mathlib.Core.Bool.{not};
-ghost use mathlib.Core.List.{map};
+ghost use mathlib.Core.List.{[], map};
 ghost use Prim.Native.Nat.{suc, _*_, _≤_};
 ghost use lib.Dec.{eqb};
 ghost use lib.ListN.{length, getD, replicate};
@@ -14,34 +16,9 @@ ghost use Rattle.field.specs.Lists.{upFrom};
 ghost use Rattle.linear.specs.Lists.{only};
 ghost use Rattle.repair.specs.Plan.{planOf};
 ghost use Rattle.repair.specs.Refusal.{lentRefusal};
-ghost use Rattle.repair.specs.Steps.{fresh};
-ghost use Rattle.repair.specs.Rounds.{mended, bare};
-ghost use Rattle.repair.specs.Tables.{padded};
-ghost use Rattle.repair.specs.Walk.{Ended};
-
-// The symbols of a fresh bench: the lent ones, and zeros behind them.
-fn fresh_symbols(stripe: &[u8]) -> [u8; 256]
-    requires { ⌜ length (now stripe) ≤ 256 ⌝ }
-    ensures { λ r. ⌜ r ≡ padded 256 (now (stripe .entry)) ⌝ }
-{
-    let mut symbols = [0u8; 256];
-    for i in 0..stripe.len() {
-        symbols[i] = stripe[i];
-    }
-    symbols
-}
-
-// The mark words of a fresh bench: the lent ones, and zeros behind them.
-fn fresh_marks(words: &[u32]) -> [u32; 8]
-    requires { ⌜ length (now words) ≤ 8 ⌝ }
-    ensures { λ r. ⌜ r ≡ padded 8 (now (words .entry)) ⌝ }
-{
-    let mut marks = [0u32; 8];
-    for r in 0..words.len() {
-        marks[r] = words[r];
-    }
-    marks
-}
+ghost use Rattle.repair.specs.Rounds.{mended, bare, endReport};
+ghost use Rattle.repair.specs.Learned.{benchOf};
+ghost use Rattle.repair.specs.Walk.{standingOf, Ended};
 
 // How many of the rows have marks.
 fn rows_left(rows: usize, marks: &[u32]) -> usize
@@ -71,6 +48,28 @@ fn bare_report(answer: Answer) -> Report
     }
 }
 
+// What the rounds end in at Blocked or Top: Restored where no mark is left, else Stuck.
+fn end_report(plan: usize, level: usize, restored: [usize; 3], marks: &[u32]) -> Report
+    requires { ⌜ planOf plan .rows ≤ length (now marks) ⌝ }
+    ensures { λ r. ⌜ r ≡ endReport (standingOf (benchOf plan level [] (now (marks .entry)) []) 0 restored) ⌝ }
+{
+    let left = rows_left(plan::rows(plan), marks);
+    if left == 0 {
+        return Report {
+            answer: Answer::Restored,
+            level: level,
+            rows: restored,
+            left: left,
+        };
+    }
+    Report {
+        answer: Answer::Stuck,
+        level: level,
+        rows: restored,
+        left: left,
+    }
+}
+
 // Where the rounds ended: the report, and the bench's symbols and marks.
 struct Mended {
     report: Report,
@@ -87,46 +86,35 @@ fn rounds(plan: usize, stripe: &[u8], words: &[u32]) -> Mended
     let checks = plan::row_checks(plan);
     let rows = plan::rows(plan);
     let levels = plan::levels(plan);
-    let mut symbols = fresh_symbols(stripe);
-    let mut marks = fresh_marks(words);
+    let mut symbols = copies::symbols_of(stripe);
+    let mut marks = copies::words_of(words);
     let mut sums = [0u8; 128];
     let mut restored = [0usize; 3];
     let mut level = 1;
-    let answer = loop {
+    loop {
         let walk = steps::walk_rows(plan, level, &table, &checks, &mut symbols[..], &mut marks[..], &sums[..]);
         let row = walk.row;
         if row < rows {
-            break Answer::Clash(Place::Row { row, level });
+            let report = bare_report(Answer::Clash(Place::Row { row: row, level: level }));
+            return Mended { report: report, symbols: symbols, marks: marks };
         }
         restored[level - 1] = walk.filled;
         if level == levels {
-            break Answer::Stuck;
+            break;
         }
         match level::learn(plan, level, &table, &checks, &symbols, &marks, &mut sums) {
-            level::Learning::Blocked => {
-                break Answer::Stuck;
+            Learning::Blocked => {
+                break;
             }
-            level::Learning::Failing => {
-                break Answer::Clash(Place::Across { level: level + 1 });
+            Learning::Failing => {
+                let report = bare_report(Answer::Clash(Place::Across { level: level + 1 }));
+                return Mended { report: report, symbols: symbols, marks: marks };
             }
-            level::Learning::Learned => {
+            Learning::Learned => {
                 level += 1;
             }
         }
-    };
-    let report = end_report(answer, level, restored, rows_left(rows, &marks[..]));
-    Mended { report, symbols, marks }
-}
-
-fn end_report(answer: Answer, level: usize, rows: [usize; 3], left: usize) -> Report {
-    match answer {
-        Answer::Stuck => {
-            if left == 0 {
-                Report { answer: Answer::Restored, level, rows, left }
-            } else {
-                Report { answer: Answer::Stuck, level, rows, left }
-            }
-        }
-        _ => bare_report(answer),
     }
+    let report = end_report(plan, level, restored, &marks[..]);
+    Mended { report: report, symbols: symbols, marks: marks }
 }
