@@ -27,6 +27,8 @@ pub mod Checks
 pub mod Lending
 pub mod Walking
 pub mod Arms
+pub mod Leaving
+pub mod Rounding
 -- the level step
 pub mod Keeping
 -- what is refused, and the start
