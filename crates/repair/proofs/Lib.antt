@@ -16,3 +16,4 @@ pub mod Sizes
 pub mod Numbers
 pub mod Holding
 pub mod Keeping
+pub mod Learning
