@@ -2,23 +2,30 @@
 use mathlib.Core.Path.{_≡_, refl, sym, ap, ap₂, _∙_, subst}
 use mathlib.Core.Bool.{Bool, true, false}
 use mathlib.Core.List.{List, [], _∷_, _++_, map}
-use Prim.Native.Nat.{ℕ, zero, suc, _+_, _*_, _-_, _≤_, _<_}
+use Prim.Native.Nat.{ℕ, zero, suc, _+_, _*_, _^_, _≤_, _<_}
 use native.Mathlib.Omega.{arith}
 use lib.ListN.{length, getD, take, drop, List·getD-eq-default}
 use lib.Seq.{take-at, length-take-le, getD-take}
+use Rattle.field.specs.Lists.{upFrom}
 use Rattle.field.specs.Field.{size}
 use Rattle.field.specs.Ours.{fieldOf}
 use Rattle.field.proofs.Ring.{size-pos}
 use Rattle.linear.specs.Lists.{zeros}
 use Rattle.linear.specs.Marks.{rowsOf, bitsOf, fillOf, answerOf, vectorOf}
-use Rattle.linear.specs.Fill.{Fill, fill}
+use Rattle.linear.specs.Fill.{Fill, tied, none, one, fill}
+use Rattle.linear.specs.declared.Outcome.{Outcome}
+use Rattle.linear.specs.declared.Outcome.the-variants.{Tied, None, One}
 use Rattle.repair.specs.Plan.{Plan, planOf, levelOf, checksTo}
-use Rattle.repair.specs.Steps.{across}
+use Rattle.repair.specs.Steps.{lossy, Learned, blocked, failing, learned, levelFill, keepSums, raise}
 use Rattle.repair.specs.Tables.{padded, checkTable, weightTable, rowSums}
-use Rattle.repair.specs.Learned.{columnOf, columnFill}
+use Rattle.repair.specs.Learned.{columnOf, columnFill, benchOf, learningOf, sumsAfter}
+use Rattle.repair.specs.declared.level.Learning.{Learning}
+use Rattle.repair.specs.declared.level.Learning.the-variants.{Blocked, Failing, Learned as AllLearned}
 use Rattle.repair.proofs.Parts.{part, rows-front}
-use Rattle.repair.proofs.Sizes.{rows-most, totals-most}
-use Rattle.repair.proofs.Tables.{weights-lt}
+use Rattle.repair.proofs.Sizes.{totals-most, sums-most}
+use Rattle.repair.proofs.Tables.{weights-lt, sums-more}
+use Rattle.repair.proofs.Keeping.{keep-last}
+use Rattle.repair.proofs.Joining.{none-untied, Joining, joining-one, joining-tied, joining-none, joining-ends, level-fill}
 use Rattle.repair.proofs.Numbers.{Numbers, column-rows, column-is, weights-are, weights-suffice}
 
 -- ---- the weights of level t + 1, as they are lent, and a target of zeros
@@ -92,3 +99,105 @@ module _ {p t q rows n totals : ℕ} {weights : List ℕ} (w : Weighing p t q ro
         ∙ ap₂ (λ z k. fill (fieldOf q) W z (bitsOf k lossy) (take rows made))
         (ap (λ m. take m lentZeros) (w .count) ∙ zeros-few W (totals-most p (suc t))) (w .is .high)
         ∙ ap₂ (λ F v. fill F W (zeros W) (bitsOf (P .rows) lossy) v) (w .is .field) made-is
+
+-- ---- the checks of level t + 1, one after the other
+
+-- the sums under the checks before j are learned
+pub record LearnedTo (p t rows last word : ℕ) (symbols marks old : List ℕ) (j : ℕ) (kept : List ℕ) : Type 0 where
+  pub high : rows ≡ planOf p .rows
+  pub end : last ≡ length (checksTo (planOf p) (suc t))
+  pub bits : bitsOf (planOf p .rows) word ≡ lossy (planOf p) marks
+  pub small : word < 2 ^ planOf p .rows
+  pub columns : List (List ℕ)
+  pub walk : Joining (columnFill (planOf p) t symbols (lossy (planOf p) marks)) (length (checksTo (planOf p) t))
+      (length (levelOf (planOf p) (suc t) .checks)) columns j
+  pub written : kept ≡ keepSums (length (checksTo (planOf p) t)) columns old (upFrom 0 (planOf p .rows))
+
+-- what learning answers and leaves
+abbrev pub Learns : (p t : ℕ) (symbols marks old : List ℕ) → Learning → List ℕ → Type 0
+Learns p t symbols marks old r l =
+    let b = benchOf p t symbols marks old in (r ≡ learningOf (levelFill b)) × (l ≡ sumsAfter b (levelFill b))
+
+answer-tied : (f : Fill) → answerOf f ≡ Tied → f ≡ tied
+unfolding answerOf
+answer-tied tied e = refl
+answer-tied none e = let z : _≡_ {A = ℕ} 0 1 = cc in absurd (omega arith)
+answer-tied (one w) e = let z : _≡_ {A = ℕ} 0 1 = cc in absurd (omega arith)
+
+answer-none : (f : Fill) → answerOf f ≡ None → f ≡ none
+unfolding answerOf
+answer-none tied e = let z : _≡_ {A = ℕ} 0 1 = cc in absurd (omega arith)
+answer-none none e = refl
+answer-none (one w) e = let z : _≡_ {A = ℕ} 0 1 = cc in absurd (omega arith)
+
+answer-one : (f : Fill) (v : List ℕ) → answerOf f ≡ One → f ≡ one (vectorOf f v)
+unfolding answerOf vectorOf
+answer-one tied v e = let z : _≡_ {A = ℕ} 0 1 = cc in absurd (omega arith)
+answer-one none v e = let z : _≡_ {A = ℕ} 0 1 = cc in absurd (omega arith)
+answer-one (one w) v e = refl
+
+module _ (p t : ℕ) (symbols marks old : List ℕ) where
+  abbrev here : Learned
+  here = levelFill (benchOf p t symbols marks old)
+
+  learns-blocked : here ≡ blocked → Learns p t symbols marks old Blocked old
+  unfolding learningOf sumsAfter
+  learns-blocked e = (ap learningOf (sym e), ap (sumsAfter (benchOf p t symbols marks old)) (sym e))
+
+  learns-failing : here ≡ failing → Learns p t symbols marks old Failing old
+  unfolding learningOf sumsAfter
+  learns-failing e = (ap learningOf (sym e), ap (sumsAfter (benchOf p t symbols marks old)) (sym e))
+
+  learns-all : {cs : List (List ℕ)} → here ≡ learned cs
+      → Learns p t symbols marks old AllLearned (keepSums (length (checksTo (planOf p) t)) cs old (upFrom 0 (planOf p .rows)))
+  unfolding raise learningOf sumsAfter
+  learns-all e = (ap learningOf (sym e), ap (sumsAfter (benchOf p t symbols marks old)) (sym e))
+
+module _ {p t rows last word j : ℕ} {symbols marks old kept : List ℕ} (s : LearnedTo p t rows last word symbols marks old j kept) where
+  pub learned-ends : last ≤ j → Learns p t symbols marks old AllLearned kept
+  learned-ends all =
+      rw (s .written)
+      (learns-all p t symbols marks old
+      (level-fill p t symbols marks old ∙ joining-ends _ _ _ (rw (← sums-more (planOf p) t, ← s .end) all) (s .walk)))
+
+  module _ (more : j < last) where
+    pub learned-here : j < length (checksTo (planOf p) (suc t))
+    learned-here = rw (← s .end) more
+
+    within : j < length (checksTo (planOf p) t) + length (levelOf (planOf p) (suc t) .checks)
+    within = rw (← sums-more (planOf p) t) learned-here
+
+    module _ {a : Outcome} (answer : a ≡ answerOf (columnFill (planOf p) t symbols (bitsOf (planOf p .rows) word) j)) where
+      -- of the rows that have marks
+      told : answerOf (columnFill (planOf p) t symbols (lossy (planOf p) marks) j) ≡ a
+      told = sym (answer ∙ ap (λ ms. answerOf (columnFill (planOf p) t symbols ms j)) (s .bits))
+
+      pub learned-blocked : a ≡ Tied → Learns p t symbols marks old Blocked old
+      learned-blocked e =
+          learns-blocked p t symbols marks old
+          (level-fill p t symbols marks old ∙ joining-tied _ _ _ within (answer-tied _ (told ∙ e)) (s .walk))
+
+      pub learned-failing : a ≡ None → Learns p t symbols marks old Failing old
+      unfolding columnFill
+      learned-failing e =
+          let f = answer-none _ (told ∙ e) in
+          learns-failing p t symbols marks old
+          (level-fill p t symbols marks old ∙ joining-none _ _ _ within f (λ i. none-untied _ _ _ _ _ _ f) (s .walk))
+
+      pub learned-more : (column : List ℕ) {next : List ℕ} → a ≡ One
+          → take (planOf p .rows) column ≡ vectorOf (columnFill (planOf p) t symbols (bitsOf (planOf p .rows) word) j) (columnOf (planOf p) symbols j)
+          → next ≡ keepSums j (take rows column ∷ []) kept (upFrom 0 rows) → LearnedTo p t rows last word symbols marks old (j + 1) next
+      learned-more column e filled keeps = record {
+        high = s .high;
+        end = s .end;
+        bits = s .bits;
+        small = s .small;
+        columns = s .columns ++ (take (planOf p .rows) column ∷ []);
+        walk = joining-one _ _ _ within
+            (answer-one _ (columnOf (planOf p) symbols j) (told ∙ e)
+            ∙ ap one (ap (λ ms. vectorOf (columnFill (planOf p) t symbols ms j) (columnOf (planOf p) symbols j)) (sym (s .bits)) ∙ sym filled)) (s .walk);
+        written =
+            keeps ∙ ap₂ (λ r l. keepSums j (take r column ∷ []) l (upFrom 0 r)) (s .high) (s .written)
+            ∙ ap (λ i. keepSums i (take (planOf p .rows) column ∷ []) (keepSums (length (checksTo (planOf p) t)) (s .columns) old (upFrom 0 (planOf p .rows))) (upFrom 0 (planOf p .rows))) (sym (s .walk .count))
+            ∙ keep-last (length (checksTo (planOf p) t)) (s .columns) (take (planOf p .rows) column) (omega (arith, s .walk .count, learned-here, sums-most p (suc t))) 0 (planOf p .rows) old;
+      }

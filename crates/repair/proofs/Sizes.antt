@@ -33,6 +33,13 @@ checks-room p t =
     let e = ap length (checks-before P t) ∙ length-append (checksTo P t) _ in
     le-trans (mul-le-mul-right (P .columns) (omega arith)) (all-checks p)
 
+most-sums : (p : ℕ) → length (checksTo (planOf p) (length (planOf p .levels))) ≤ 16
+unfolding upFrom flatMap ones bitChecks locations1 plan1 locations2 powers2 plan2 locations3 powers3 plan3 noPlan checksTo
+most-sums = of-plans (λ P. length (checksTo P (length (P .levels))) ≤ 16) (lit≤ tt) (lit≤ tt) (lit≤ tt) (lit≤ tt)
+
+pub sums-most : (p t : ℕ) → length (checksTo (planOf p) t) ≤ 16
+sums-most p t = let P = planOf p in omega (arith, most-sums p, ap length (checks-before P t) ∙ length-append (checksTo P t) _)
+
 pub checks-length : (p : ℕ) → length (checkTable (planOf p)) ≡ 512
 unfolding upFrom flatMap _⊕_ size double times mul gf16 gf32 power
     ones bitChecks locations1 plan1 locations2 powers2 plan2 locations3 powers3 plan3 noPlan checksTo padded flat checkTable
