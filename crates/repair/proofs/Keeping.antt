@@ -42,6 +42,11 @@ module _ (at rows : ℕ) (c old : List ℕ) where
 
 -- ---- one check's sums behind those of others
 
+pub keep-none : (at : ℕ) (l rs : List ℕ) → keepSums at [] l rs ≡ l
+unfolding keepSums
+keep-none at l [] = refl
+keep-none at l (r ∷ rs) = keep-none at l rs
+
 set-sets : (x l : List ℕ) (i j v : ℕ) → j < i → set (sets l i x) j v ≡ sets (set l j v) i x
 set-sets [] l i j v h = refl
 set-sets (a ∷ x) l i j v h = set-sets x (set l i a) (suc i) j v (omega arith) ∙ ap (λ k. sets k (suc i) x) (set-comm l i j a v (λ e. omega arith))

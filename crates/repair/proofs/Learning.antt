@@ -24,8 +24,9 @@ use Rattle.repair.specs.declared.level.Learning.the-variants.{Blocked, F
 use Rattle.repair.proofs.Parts.{part, rows-front}
 use Rattle.repair.proofs.Sizes.{totals-most, sums-most}
 use Rattle.repair.proofs.Tables.{weights-lt, sums-more}
-use Rattle.repair.proofs.Keeping.{keep-last}
-use Rattle.repair.proofs.Joining.{none-untied, Joining, joining-one, joining-tied, joining-none, joining-ends, level-fill}
+use Rattle.repair.proofs.Keeping.{keep-none, keep-last}
+use Rattle.repair.proofs.Lossy.{lossyFrom}
+use Rattle.repair.proofs.Joining.{none-untied, Joining, joining-starts, joining-one, joining-tied, joining-none, joining-ends, level-fill}
 use Rattle.repair.proofs.Numbers.{Numbers, column-rows, column-is, weights-are, weights-suffice}
 
 -- ---- the weights of level t + 1, as they are lent, and a target of zeros
@@ -152,6 +153,20 @@ module _ (p t : ℕ) (symbols marks old : List ℕ) where
       → Learns p t symbols marks old AllLearned (keepSums (length (checksTo (planOf p) t)) cs old (upFrom 0 (planOf p .rows)))
   unfolding raise learningOf sumsAfter
   learns-all e = (ap learningOf (sym e), ap (sumsAfter (benchOf p t symbols marks old)) (sym e))
+
+pub learned-starts : (p t : ℕ) {rows first last word : ℕ} (symbols : List ℕ) {marks : List ℕ} (old : List ℕ) → rows ≡ planOf p .rows → first ≡ length (checksTo (planOf p) t)
+    → last ≡ length (checksTo (planOf p) (suc t)) → (bitsOf rows word ≡ lossyFrom marks 0 rows) × (word < 2 ^ rows)
+    → LearnedTo p t rows last word symbols marks old first old
+unfolding lossy
+learned-starts p t {rows} {first} {last} {word} symbols {marks} old high start end told = record {
+  high = high;
+  end = end;
+  bits = ap (λ r. bitsOf r word) (sym high) ∙ told .0 ∙ ap (lossyFrom marks 0) high;
+  small = rw high at (told .1);
+  columns = [];
+  walk = rw start (joining-starts _ _ _);
+  written = sym (keep-none _ old _);
+}
 
 module _ {p t rows last word j : ℕ} {symbols marks old kept : List ℕ} (s : LearnedTo p t rows last word symbols marks old j kept) where
   pub learned-ends : last ≤ j → Learns p t symbols marks old AllLearned kept

@@ -16,6 +16,5 @@ pub mod Sizes
 pub mod Numbers
 pub mod Holding
 pub mod Keeping
-pub mod Arms
 pub mod Joining
 pub mod Learning

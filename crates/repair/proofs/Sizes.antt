@@ -20,6 +20,10 @@ pub rows-most : (p : ℕ) → planOf p .rows ≤ 8
 unfolding plan1 plan2 plan3 noPlan
 rows-most = of-plans (λ P. P .rows ≤ 8) (lit≤ tt) (lit≤ tt) (lit≤ tt) (lit≤ tt)
 
+pub symbols-most : (p : ℕ) → planOf p .rows * planOf p .columns ≤ 256
+unfolding plan1 plan2 plan3 noPlan
+symbols-most = of-plans (λ P. P .rows * P .columns ≤ 256) (lit≤ tt) (lit≤ tt) (lit≤ tt) (lit≤ tt)
+
 -- ---- checks
 
 all-checks : (p : ℕ) → length (checksTo (planOf p) (length (planOf p .levels))) * planOf p .columns ≤ 512

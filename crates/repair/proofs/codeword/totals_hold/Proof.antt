@@ -12,14 +12,6 @@ use Rattle.repair.proofs.Sizes.{rows-most, checks-length, weights-lengt
 use lib.ListN.{length}
 use Rattle.repair.proofs.codeword.totals_hold.Statement.{statement}
 use Rattle.repair.proofs.codeword.totals_hold.Tie as tie
-use Rattle.repair.proofs.codeword.totals_hold.Reads as reads
-use Rattle.repair.proofs.codeword.totals_hold.Lts as lts
-use Rattle.repair.proofs.codeword.vanishes.Reads as vanishes-reads
-use Rattle.repair.proofs.plan.facts_of.Reads as facts-of-reads
-use Rattle.repair.proofs.plan.sums_to.Reads as sums-to-reads
-use Rattle.repair.proofs.plan.totals.Reads as totals-reads
-use Rattle.repair.proofs.plan.weights.Reads as weights-reads
-use Rattle.repair.proofs.sums.across.Reads as across-reads
 
 abbrev Inv-loop : tie.InvT-loop
 Inv-loop plan t table checks stripe q rows n weights totals first last j₀ j =

@@ -13,13 +13,6 @@ use Rattle.repair.proofs.Numbers.{numbers, check-within, check-rows, co
 use Rattle.repair.proofs.Learning.{Weighing, few-totals, weights-within, front-length, target-length, front-lt, target-lt, made-is, filled-is}
 use Rattle.repair.proofs.level.learn_column.Statement.{statement}
 use Rattle.repair.proofs.level.learn_column.Tie as tie
-use Rattle.repair.proofs.level.learn_column.Reads as reads
-use Rattle.repair.proofs.level.learn_column.Lts as lts
-use Rattle.linear.proofs.fill.Reads as fill-reads
-use Rattle.repair.proofs.plan.facts_of.Reads as facts-of-reads
-use Rattle.repair.proofs.plan.totals.Reads as totals-reads
-use Rattle.repair.proofs.plan.weights.Reads as weights-reads
-use Rattle.repair.proofs.sums.across.Reads as across-reads
 
 weighing : (c : tie.After-totals)
     → Weighing (c .before .before .before .before .before .args .plan) (c .before .before .before .before .before .args .level)
