@@ -8,6 +8,9 @@ pub mod Plans
 pub mod Padded
 pub mod Flat
 pub mod Tables
+pub mod Scan
+pub mod Refusals
+pub mod Starts
 pub mod Parts
 pub mod Summing
 pub mod Lossy

@@ -2,15 +2,16 @@
 use mathlib.Core.Path.{_≡_, refl, sym, ap, _∙_}
 use mathlib.Core.Bool.{Bool}
 use mathlib.Core.List.{List, [], _∷_, _++_, map, flatMap, append-assoc, append-nil}
-use Prim.Native.Nat.{ℕ, zero, suc, _+_, _<_}
+use Prim.Native.Nat.{ℕ, zero, suc, _+_, _≤_, _<_}
 use native.Mathlib.Nat.{le-refl, zero-add}
 use native.Mathlib.Omega.{arith}
-use lib.Dec.{T, ltb, ltb→lt}
+use lib.Dec.{T, ltb, ltb→lt, lt→ltb, lit≤}
 use lib.ListN.{length, getD, take, drop, take-append-drop, length-append}
 use lib.Seq.{take-length, take-nil, take-append-seam}
 use Rattle.field.specs.Lists.{upFrom}
 use Rattle.field.specs.Field.{_⊕_, size, double, times, mul, gf2, gf16, gf32}
 use Rattle.field.specs.Power.{power}
+use Rattle.field.proofs.Ring.{size-pos}
 use Rattle.linear.specs.Lists.{all}
 use Rattle.repair.specs.Plan.{Plan, Level, ones, bitChecks, locations1, plan1, locations2, powers2, plan2, locations3, powers3, plan3, noPlan, planOf, noLevel, levelOf, checksTo}
 use Rattle.repair.specs.Refusal.{allBelow}
@@ -68,6 +69,14 @@ small-weights : (p : ℕ) → T (all (λ (L : Level). allBelow (size (planOf p .
 unfolding upFrom flatMap _⊕_ size double times mul gf2 gf16 power all ones plan1 plan2 plan3 noPlan allBelow
 small-weights = of-plans (λ P. T (all (λ (L : Level). allBelow (size (P .field)) (flatMap (λ row. row) (L .weights))) (P .levels))) tt tt tt tt
 
+-- a row has at most 16 sums
+pub sums-most : (p t : ℕ) → length (checksTo (planOf p) t) ≤ 16
+unfolding upFrom flatMap ones bitChecks locations1 plan1 powers2 plan2 locations3 plan3 noPlan checksTo
+sums-most p t =
+    let all : length (checksTo (planOf p) (length (planOf p .levels))) ≤ 16 =
+    of-plans (λ P. length (checksTo P (length (P .levels))) ≤ 16) (lit≤ tt) (lit≤ tt) (lit≤ tt) (lit≤ tt) p in
+    omega (arith, rw length-append at (ap length (checks-before (planOf p) t)))
+
 -- ---- what the tables hold
 
 -- the rows of levels 1 to t come first
@@ -102,17 +111,14 @@ weights-in p t =
 
 -- ---- each coefficient is below q
 
-size-pos : (p : ℕ) → T (ltb 0 (size (planOf p .field)))
-unfolding size gf2 gf16 plan1 plan2 plan3 noPlan
-size-pos = of-plans (λ P. T (ltb 0 (size (P .field)))) tt tt tt tt
-
 -- what a table has at any place, where all that it was made of is below q
 table-lt : (p n : ℕ) (rows : List (List ℕ)) → T (allBelow (size (planOf p .field)) (flatMap (λ row. row) rows))
     → (i : ℕ) → getD (flat n rows) i 0 < size (planOf p .field)
 unfolding allBelow flat
 table-lt p n rows t i =
     let below : ℕ → Bool = λ x. ltb x (size (planOf p .field)) in
-    ltb→lt _ _ (all-getD below 0 (size-pos p) (flat n rows) (all-padded below (size-pos p) n (flatMap (λ row. row) rows) t) i)
+    let zero-lt = lt→ltb _ _ (size-pos (planOf p .field)) in
+    ltb→lt _ _ (all-getD below 0 zero-lt (flat n rows) (all-padded below zero-lt n (flatMap (λ row. row) rows) t) i)
 
 pub checks-lt : (p i : ℕ) → getD (checkTable (planOf p)) i 0 < size (planOf p .field)
 unfolding checkTable
