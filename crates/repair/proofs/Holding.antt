@@ -1,20 +1,20 @@
 -- The tests of the codeword test, each as a walk over rows, checks or levels. Assumes nothing.
 use mathlib.Core.Path.{_≡_, refl, sym, ap, ap₂, _∙_}
 use mathlib.Core.Bool.{Bool, true, false}
-use mathlib.Core.List.{List, map, map-map, flatMap}
-use Prim.Native.Nat.{ℕ, suc, _+_, _*_, _≤_, _<_}
+use mathlib.Core.List.{List, [], _∷_, map, map-map, flatMap}
+use Prim.Native.Nat.{ℕ, suc, _+_, _*_, _-_, _≤_, _<_}
 use native.Mathlib.Nat.{le-trans}
 use native.Mathlib.Omega.{arith}
 use borrow.Author.Tests.{eq-eqb, ne-eqb}
 use lib.Dec.{eqb}
-use lib.ListN.{length, take, drop}
+use lib.ListN.{length, getD, take, drop}
 use Rattle.field.specs.Lists.{upFrom}
 use Rattle.field.specs.Field.{Field, dot}
 use Rattle.field.specs.Ours.{fieldOf}
 use Rattle.linear.specs.Lists.{all, vanish}
 use Rattle.linear.specs.Marks.{rowsOf}
 use Rattle.linear.specs.Fill.{sumsOf}
-use Rattle.repair.specs.Plan.{Plan, planOf, levelOf, checksTo, rowAt}
+use Rattle.repair.specs.Plan.{Plan, Level, planOf, noLevel, levelOf, checksTo, rowAt}
 use Rattle.repair.specs.Steps.{across}
 use Rattle.repair.specs.Codeword.{rowsHold, totalsHold}
 use Rattle.repair.specs.Tables.{padded, checkTable, weightTable, rowSums}
@@ -22,7 +22,7 @@ use Rattle.repair.proofs.Rows.{row-end}
 use Rattle.repair.proofs.Flat.{rowIn}
 use Rattle.repair.proofs.Tables.{checks-in, level-checks-in, checks-more, sums-more}
 use Rattle.repair.proofs.Sizes.{checks-room, checks-length}
-use Rattle.repair.proofs.Parts.{part, part-of, part-length, rows-of}
+use Rattle.repair.proofs.Parts.{part, part-of, part-length, rows-of, map-up-shift}
 use Rattle.repair.proofs.Numbers.{Numbers, row-within, row-part, column-rows, column-is, weights-are, weights-suffice}
 use Rattle.repair.proofs.Walk.{all-map, Walking, walking-turns, walking-fails, walking-ends}
 
@@ -169,3 +169,48 @@ pub totals-end : {p t q rows n totals first last j : ℕ} {weights stripe : List
     → TotalsHolding p t q rows n weights totals first last stripe j → true ≡ totalsHold (planOf p) stripe (levelOf (planOf p) (suc t))
 totals-end {p} {t} {q} {rows} {n} {totals} {first} {last} {j} {weights} {stripe} all s =
     sym (totals-walk p t stripe ∙ walking-ends _ _ _ (rw (← sums-more (planOf p) t, ← s .end) all) (s .walk))
+
+-- ---- levels
+
+-- the totals of level t + 1 are zero
+unfoldable pub levelHolds : Plan → List ℕ → ℕ → Bool
+levelHolds P stripe t = totalsHold P stripe (levelOf P (suc t))
+
+getD-all : {A : Type 0} (d : A) (xs : List A) → map (λ i. getD xs i d) (upFrom 0 (length xs)) ≡ xs
+unfolding upFrom
+getD-all d [] = refl
+getD-all d (x ∷ xs) = ap (λ l. x ∷ l) (map-up-shift (λ i. getD (x ∷ xs) i d) 0 (length xs) ∙ getD-all d xs)
+
+-- the levels behind the first, by their numbers
+levels-behind : (ls : List Level) → map (λ t. getD ls t noLevel) (upFrom 1 (length ls - 1)) ≡ drop 1 ls
+unfolding upFrom
+levels-behind [] = refl
+levels-behind (L ∷ ls) =
+    let e : suc (length ls) - 1 ≡ length ls = omega arith in
+    ap (λ n. map (λ t. getD (L ∷ ls) t noLevel) (upFrom 1 n)) e ∙ map-up-shift (λ t. getD (L ∷ ls) t noLevel) 0 (length ls) ∙ getD-all noLevel ls
+
+-- the totals of the levels before t + 1 are zero
+pub record LevelsHolding (p last : ℕ) (stripe : List ℕ) (t : ℕ) : Type 0 where
+  pub count : last ≡ length (planOf p .levels)
+  pub walk : Walking (levelHolds (planOf p) stripe) 1 (last - 1) t
+
+module _ {p last t : ℕ} {stripe : List ℕ} (s : LevelsHolding p last stripe t) where
+  levels-walk : all (levelHolds (planOf p) stripe) (upFrom 1 (last - 1)) ≡ all (totalsHold (planOf p) stripe) (drop 1 (planOf p .levels))
+  unfolding levelHolds levelOf
+  levels-walk =
+      let P = planOf p in
+      ap (λ n. all (levelHolds P stripe) (upFrom 1 (n - 1))) (s .count)
+      ∙ sym (all-map (totalsHold P stripe) (λ t. getD (P .levels) t noLevel) (upFrom 1 (length (P .levels) - 1)))
+      ∙ ap (all (totalsHold P stripe)) (levels-behind (P .levels))
+
+  module _ (more : t < last) {b : Bool} (e : b ≡ totalsHold (planOf p) stripe (levelOf (planOf p) (suc t))) where
+    pub levels-turn : b ≡ true → LevelsHolding p last stripe (t + 1)
+    unfolding levelHolds
+    levels-turn good = record { count = s .count; walk = walking-turns _ 1 (last - 1) (omega arith) (sym e ∙ good) (s .walk) }
+
+    pub levels-fail : b ≡ false → false ≡ all (totalsHold (planOf p) stripe) (drop 1 (planOf p .levels))
+    unfolding levelHolds
+    levels-fail bad = sym (walking-fails _ 1 (last - 1) (omega arith) (sym e ∙ bad) (s .walk)) ∙ levels-walk
+
+  pub levels-end : last ≤ t → true ≡ all (totalsHold (planOf p) stripe) (drop 1 (planOf p .levels))
+  levels-end end = sym (walking-ends _ 1 (last - 1) (omega (arith, s .walk .least)) (s .walk)) ∙ levels-walk

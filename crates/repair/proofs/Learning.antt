@@ -3,10 +3,13 @@ use mathlib.Core.Path.{_≡_, refl, sym, ap, ap₂, _∙_, subst}
 use mathlib.Core.Bool.{Bool, true, false}
 use mathlib.Core.List.{List, [], _∷_, _++_, map}
 use Prim.Native.Nat.{ℕ, zero, suc, _+_, _*_, _^_, _≤_, _<_}
+use native.Mathlib.Numerals.{add-one}
 use native.Mathlib.Omega.{arith}
+use borrow.Author.Tests.{le-ltb, lt-ltb}
+use lib.Dec.{ltb}
 use lib.ListN.{length, getD, take, drop, List·getD-eq-default}
 use lib.Seq.{take-at, length-take-le, getD-take}
-use Rattle.field.specs.Lists.{upFrom}
+use Rattle.field.specs.Lists.{if_then_else_, upFrom}
 use Rattle.field.specs.Field.{size}
 use Rattle.field.specs.Ours.{fieldOf}
 use Rattle.field.proofs.Ring.{size-pos}
@@ -16,14 +19,18 @@ use Rattle.linear.specs.Fill.{Fill, tied, none, one, fill}
 use Rattle.linear.specs.declared.Outcome.{Outcome}
 use Rattle.linear.specs.declared.Outcome.the-variants.{Tied, None, One}
 use Rattle.repair.specs.Plan.{Plan, planOf, levelOf, checksTo}
-use Rattle.repair.specs.Steps.{lossy, Learned, blocked, failing, learned, levelFill, keepSums, raise}
+use Rattle.repair.specs.Steps.{lossy, Learned, blocked, failing, learned, levelFill, keepSums, raise, stepped, unlessRefused, levelStepBy, levelStep}
+use Rattle.repair.specs.Refusal.{unasked, benchRefusal}
 use Rattle.repair.specs.Tables.{padded, checkTable, weightTable, rowSums}
 use Rattle.repair.specs.Learned.{columnOf, columnFill, benchOf, learningOf, sumsAfter}
+use Rattle.repair.specs.declared.Bench.{Bench}
+use Rattle.repair.specs.declared.Stepped.{Stepped}
+use Rattle.repair.specs.declared.Step.the-variants.{Blocked as StepBlocked, Raised, Top, Clash, Refused}
 use Rattle.repair.specs.declared.level.Learning.{Learning}
 use Rattle.repair.specs.declared.level.Learning.the-variants.{Blocked, Failing, Learned as AllLearned}
 use Rattle.repair.proofs.Parts.{part, rows-front}
-use Rattle.repair.proofs.Sizes.{totals-most, sums-most}
-use Rattle.repair.proofs.Tables.{weights-lt, sums-more}
+use Rattle.repair.proofs.Sizes.{totals-most}
+use Rattle.repair.proofs.Tables.{weights-lt, sums-more, sums-most}
 use Rattle.repair.proofs.Keeping.{keep-none, keep-last}
 use Rattle.repair.proofs.Lossy.{lossyFrom}
 use Rattle.repair.proofs.Joining.{none-untied, Joining, joining-starts, joining-one, joining-tied, joining-none, joining-ends, level-fill}
@@ -216,3 +223,65 @@ module _ {p t rows last word j : ℕ} {symbols marks old kept : List ℕ} (s : L
             ∙ ap (λ i. keepSums i (take (planOf p .rows) column ∷ []) (keepSums (length (checksTo (planOf p) t)) (s .columns) old (upFrom 0 (planOf p .rows))) (upFrom 0 (planOf p .rows))) (sym (s .walk .count))
             ∙ keep-last (length (checksTo (planOf p) t)) (s .columns) (take (planOf p .rows) column) (omega (arith, s .walk .count, learned-here, sums-most p (suc t))) 0 (planOf p .rows) old;
       }
+
+-- ---- the level step that learning makes
+
+module _ (b : Bench) {r : Learning} {l : List ℕ} (learns : Learns (b .plan) (b .level) (b .symbols) (b .marks) (b .sums) r l) where
+  pub steps-blocked : r ≡ Blocked → stepped b StepBlocked ≡ levelStepBy b (levelFill b)
+  unfolding levelStepBy learningOf
+  steps-blocked e = go (levelFill b) (sym (learns .0) ∙ e)
+    where
+      go : (f : Learned) → learningOf f ≡ Blocked → stepped b StepBlocked ≡ levelStepBy b f
+      go blocked e = refl
+      go failing e = let z : _≡_ {A = ℕ} 0 1 = cc in absurd (omega arith)
+      go (learned cs) e = let z : _≡_ {A = ℕ} 0 1 = cc in absurd (omega arith)
+
+  pub steps-clash : r ≡ Failing → stepped b Clash ≡ levelStepBy b (levelFill b)
+  unfolding levelStepBy learningOf
+  steps-clash e = go (levelFill b) (sym (learns .0) ∙ e)
+    where
+      go : (f : Learned) → learningOf f ≡ Failing → stepped b Clash ≡ levelStepBy b f
+      go blocked e = let z : _≡_ {A = ℕ} 0 1 = cc in absurd (omega arith)
+      go failing e = refl
+      go (learned cs) e = let z : _≡_ {A = ℕ} 0 1 = cc in absurd (omega arith)
+
+  pub steps-raised : r ≡ AllLearned → stepped (benchOf (b .plan) (b .level + 1) (b .symbols) (b .marks) l) Raised ≡ levelStepBy b (levelFill b)
+  unfolding raise levelStepBy learningOf sumsAfter
+  steps-raised e = go (levelFill b) (sym (learns .0) ∙ e) (learns .1)
+    where
+      go : (f : Learned) → learningOf f ≡ AllLearned → l ≡ sumsAfter b f
+          → stepped (benchOf (b .plan) (b .level + 1) (b .symbols) (b .marks) l) Raised ≡ levelStepBy b f
+      go blocked e g = let z : _≡_ {A = ℕ} 0 1 = cc in absurd (omega arith)
+      go failing e g = let z : _≡_ {A = ℕ} 0 1 = cc in absurd (omega arith)
+      go (learned cs) e g = ap₂ (λ t s. stepped (benchOf (b .plan) t (b .symbols) (b .marks) s) Raised) (add-one (b .level)) g
+
+-- ---- the level step
+
+-- a step that is refused, and one that is not
+pub is-refused : (n : ℕ) (b : Bench) (s : Stepped) → (n ≡ 0 → ⊥) → stepped b (Refused n) ≡ unlessRefused n b s
+unfolding unlessRefused
+is-refused zero b s ne = absurd (ne refl)
+is-refused (suc n) b s ne = refl
+
+pub is-taken : {n : ℕ} (b : Bench) (s : Stepped) → n ≡ 0 → unlessRefused n b s ≡ s
+unfolding unlessRefused
+is-taken b s e = ap (λ n. unlessRefused n b s) e
+
+module _ (b : Bench) {n : ℕ} (e : n ≡ benchRefusal b unasked) where
+  abbrev step : Bool → Stepped
+  step below = if below then levelStepBy b (levelFill b) else stepped b Top
+
+  abbrev below : Bool
+  below = ltb (b .level) (length (planOf (b .plan) .levels))
+
+  pub step-refused : (n ≡ 0 → ⊥) → stepped b (Refused n) ≡ levelStep b
+  unfolding levelStep
+  step-refused ne = is-refused n b (step below) ne ∙ ap (λ k. unlessRefused k b (step below)) e
+
+  pub step-top : n ≡ 0 → length (planOf (b .plan) .levels) ≤ b .level → stepped b Top ≡ levelStep b
+  unfolding if_then_else_ levelStep
+  step-top z h = sym (is-taken b (step below) (sym e ∙ z) ∙ ap step (le-ltb _ _ h))
+
+  pub step-on : n ≡ 0 → b .level < length (planOf (b .plan) .levels) → levelStepBy b (levelFill b) ≡ levelStep b
+  unfolding if_then_else_ levelStep
+  step-on z h = sym (is-taken b (step below) (sym e ∙ z) ∙ ap step (lt-ltb _ _ h))

@@ -15,7 +15,8 @@ use Rattle.repair.specs.Steps.{across}
 use Rattle.repair.specs.Tables.{FactsOf, padded, checkTable, weightTable, rowSums}
 use Rattle.repair.specs.declared.plan.Facts.{Facts}
 use Rattle.repair.proofs.Rows.{row-end}
-use Rattle.repair.proofs.Sizes.{rows-most, checks-room, checks-length, weights-room, weights-length}
+use Rattle.repair.proofs.Plans.{rows-most}
+use Rattle.repair.proofs.Sizes.{checks-room, checks-length, weights-room, weights-length}
 use Rattle.repair.proofs.Padded.{length-padded}
 use Rattle.repair.proofs.Flat.{rowIn}
 use Rattle.repair.proofs.Tables.{weights-in}

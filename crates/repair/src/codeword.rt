@@ -1,15 +1,17 @@
 // The codeword test: the rows' level-1 sums and each level's weighted totals. It changes nothing.
+use crate::Verdict;
 use crate::plan;
+use crate::refusal;
 use crate::sums;
 ghost use mathlib.Core.Path.{_≡_};
 ghost use Prim.Native.Nat.{suc, _*_, _<_, _≤_};
-ghost use lib.ListN.{length};
+ghost use lib.ListN.{length, drop};
 ghost use Rattle.field.specs.Ours.{fieldOf, products};
-ghost use Rattle.linear.specs.Lists.{vanish};
+ghost use Rattle.linear.specs.Lists.{all, vanish};
 ghost use Rattle.linear.specs.Fill.{sumsOf};
 ghost use Rattle.linear.specs.Marks.{rowsOf};
 ghost use Rattle.repair.specs.Plan.{planOf, levelOf};
-ghost use Rattle.repair.specs.Codeword.{rowsHold, totalsHold, tested};
+ghost use Rattle.repair.specs.Codeword.{rowsHold, totalsHold, testRefusal, tested};
 ghost use Rattle.repair.specs.Tables.{checkTable};
 
 // Whether each of the first m checks gives 0 with v. A check is as long as v.
@@ -74,4 +76,54 @@ fn totals_hold(plan: usize, t: usize, table: &[u8; 256], checks: &[u8], stripe: 
         }
     }
     true
+}
+
+// What the codeword test refuses; 0 where it does not.
+fn test_refusal(plan: usize, stripe: &[u8]) -> usize
+    ensures { λ r. ⌜ r ≡ testRefusal plan (now (stripe .entry)) ⌝ }
+{
+    if !plan::is_known(plan) {
+        return 10;
+    }
+    let facts = plan::facts_of(plan);
+    let size = facts.symbols;
+    if stripe.len() != size {
+        return 11;
+    }
+    let q = facts.field;
+    if !refusal::all_below(q, stripe) {
+        return 13;
+    }
+    0
+}
+
+// Whether the totals of every level from 2 on are zero.
+fn levels_hold(plan: usize, table: &[u8; 256], checks: &[u8], stripe: &[u8]) -> bool
+    requires { ⌜ (now table ≡ products) × (now checks ≡ checkTable (planOf plan)) ⌝ }
+    requires { ⌜ planOf plan .rows * planOf plan .columns ≤ length (now stripe) ⌝ }
+    ensures { λ r. ⌜ r ≡ all (totalsHold (planOf plan) (now (stripe .entry))) (drop 1 (planOf plan .levels)) ⌝ }
+{
+    let last = plan::levels(plan);
+    for t in 1..last {
+        if !totals_hold(plan, t, table, checks, stripe) {
+            return false;
+        }
+    }
+    true
+}
+
+// Whether a stripe is a codeword: every row's level-1 sums are zero, and so are the totals of every further level.
+pub fn is_codeword(plan: usize, stripe: &[u8]) -> Verdict
+    ensures { λ r. ⌜ r ≡ tested plan (now (stripe .entry)) ⌝ }
+{
+    let number = test_refusal(plan, stripe);
+    if number != 0 {
+        return Verdict::Refused(number);
+    }
+    let table = field::products();
+    let checks = plan::row_checks(plan);
+    if rows_hold(plan, &table, &checks, stripe) && levels_hold(plan, &table, &checks, stripe) {
+        return Verdict::Yes;
+    }
+    Verdict::No
 }

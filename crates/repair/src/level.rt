@@ -1,5 +1,9 @@
 // The level step: the rows' sums of the next level, learned from the rows without marks and from the totals.
+use crate::Bench;
+use crate::Step;
+use crate::Stepped;
 use crate::plan;
+use crate::refusal;
 use crate::sums;
 ghost use mathlib.Core.Path.{_≡_};
 ghost use mathlib.Core.List.{_∷_, []};
@@ -9,7 +13,7 @@ ghost use Rattle.field.specs.Lists.{upFrom};
 ghost use Rattle.field.specs.Ours.{products};
 ghost use Rattle.linear.specs.Marks.{bitsOf, answerOf, vectorOf};
 ghost use Rattle.repair.specs.Plan.{planOf, checksTo};
-ghost use Rattle.repair.specs.Steps.{keepSums, levelFill};
+ghost use Rattle.repair.specs.Steps.{keepSums, levelFill, levelStepBy, levelStep};
 ghost use Rattle.repair.specs.Tables.{checkTable};
 ghost use Rattle.repair.specs.Learned.{columnOf, columnFill, benchOf, learningOf, sumsAfter};
 
@@ -114,4 +118,79 @@ pub fn learn<'a>(
     }
     *sums = kept;
     Learning::Learned
+}
+
+// The level step of a fit bench below the last level.
+fn raise(bench: Bench) -> Stepped
+    requires { ⌜ bench .level < length (planOf (bench .plan) .levels) ⌝ }
+    ensures { λ r. ⌜ r ≡ levelStepBy bench (levelFill bench) ⌝ }
+{
+    let plan = bench.plan;
+    let level = bench.level;
+    let table = field::products();
+    let checks = plan::row_checks(plan);
+    let mut sums = bench.sums;
+    let learning = learn(
+        plan,
+        level,
+        &table,
+        &checks,
+        &bench.symbols,
+        &bench.marks,
+        &mut sums,
+    );
+    match learning {
+        Learning::Blocked => Stepped {
+            bench: bench,
+            answer: Step::Blocked,
+        },
+        Learning::Failing => Stepped {
+            bench: bench,
+            answer: Step::Clash,
+        },
+        Learning::Learned => {
+            let symbols = bench.symbols;
+            let marks = bench.marks;
+            let raised = Bench {
+                plan: plan,
+                level: level + 1,
+                symbols: symbols,
+                marks: marks,
+                sums: sums,
+            };
+            Stepped {
+                bench: raised,
+                answer: Step::Raised,
+            }
+        }
+    }
+}
+
+// The level step: all rows' sums of the next level are learned and the level rises by one, or nothing changes.
+pub fn level_step(bench: Bench) -> Stepped
+    ensures { λ r. ⌜ r ≡ levelStep bench ⌝ }
+{
+    let plan = bench.plan;
+    let level = bench.level;
+    let number = refusal::bench_refusal(
+        plan,
+        level,
+        &bench.symbols,
+        &bench.marks,
+        &bench.sums,
+        true,
+    );
+    if number != 0 {
+        return Stepped {
+            bench: bench,
+            answer: Step::Refused(number),
+        };
+    }
+    if plan::levels(plan) <= level {
+        return Stepped {
+            bench: bench,
+            answer: Step::Top,
+        };
+    }
+    raise(bench)
 }

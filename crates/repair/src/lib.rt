@@ -1,14 +1,13 @@
 // The repair library: what a bench is, and what each call answers.
+pub mod codeword;
 mod copies;
+pub mod level;
 pub mod plan;
 mod refusal;
+pub mod sums;
 
 ghost use mathlib.Core.Path.{_≡_};
 ghost use Rattle.repair.specs.Steps.{started};
-pub mod codeword;
-pub mod level;
-pub mod plan;
-pub mod sums;
 
 // A plan's number, the level t that was reached, symbols and mark words row after row, and each row's learned sums, 16 places a row.
 pub struct Bench {

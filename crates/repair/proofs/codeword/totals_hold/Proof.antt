@@ -8,7 +8,8 @@ use borrow.Author.Tests.{not-true, not-false}
 use Rattle.repair.proofs.Walk.{walking-starts}
 use Rattle.repair.proofs.Numbers.{numbers, check-within, check-rows, column-room, column-rows}
 use Rattle.repair.proofs.Holding.{TotalsHolding, totals-here, totals-weights, totals-turn, totals-fail, totals-end}
-use Rattle.repair.proofs.Sizes.{rows-most, checks-length, weights-length}
+use Rattle.repair.proofs.Plans.{rows-most}
+use Rattle.repair.proofs.Sizes.{checks-length, weights-length}
 use lib.ListN.{length}
 use Rattle.repair.proofs.codeword.totals_hold.Statement.{statement}
 use Rattle.repair.proofs.codeword.totals_hold.Tie as tie

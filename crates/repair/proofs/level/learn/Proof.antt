@@ -3,8 +3,8 @@ use Prim.Native.Nat.{suc, _-_}
 use native.Mathlib.Numerals.{add-one}
 use native.Mathlib.Omega.{arith}
 use borrow.Author.Needs.{needs}
-use Rattle.repair.proofs.Plans.{levels-most}
-use Rattle.repair.proofs.Sizes.{rows-most, symbols-most, sums-most}
+use Rattle.repair.proofs.Plans.{levels-most, rows-most, symbols-most}
+use Rattle.repair.proofs.Tables.{sums-most}
 use Rattle.repair.proofs.Learning.{LearnedTo, learned-starts, learned-here, learned-blocked, learned-failing, learned-more, learned-ends}
 use Rattle.repair.proofs.level.learn.Statement.{statement}
 use Rattle.repair.proofs.level.learn.Tie as tie

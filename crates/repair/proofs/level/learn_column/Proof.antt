@@ -8,7 +8,8 @@ use lib.ListN.{length}
 use lib.Seq.{take-at}
 use Rattle.linear.specs.Marks.{answerOf, vectorOf}
 use Rattle.repair.specs.Plan.{planOf, checksTo}
-use Rattle.repair.proofs.Sizes.{rows-most, checks-length, weights-length}
+use Rattle.repair.proofs.Plans.{rows-most}
+use Rattle.repair.proofs.Sizes.{checks-length, weights-length}
 use Rattle.repair.proofs.Numbers.{numbers, check-within, check-rows, column-room, column-rows}
 use Rattle.repair.proofs.Learning.{Weighing, few-totals, weights-within, front-length, target-length, front-lt, target-lt, made-is, filled-is}
 use Rattle.repair.proofs.level.learn_column.Statement.{statement}
