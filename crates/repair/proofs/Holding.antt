@@ -1,24 +1,27 @@
 -- The tests of the codeword test, each as a walk over rows, checks or levels. Assumes nothing.
 use mathlib.Core.Path.{_≡_, refl, sym, ap, ap₂, _∙_}
-use mathlib.Core.Bool.{Bool, true, false}
+use mathlib.Core.Bool.{Bool, true, false, _&&_}
 use mathlib.Core.List.{List, [], _∷_, map, map-map, flatMap}
 use Prim.Native.Nat.{ℕ, suc, _+_, _*_, _-_, _≤_, _<_}
 use native.Mathlib.Nat.{le-trans}
 use native.Mathlib.Omega.{arith}
-use borrow.Author.Tests.{eq-eqb, ne-eqb}
+use borrow.Author.Tests.{eqb-true, eq-eqb, ne-eqb}
 use lib.Dec.{eqb}
 use lib.ListN.{length, getD, take, drop}
-use Rattle.field.specs.Lists.{upFrom}
+use Rattle.field.specs.Lists.{if_then_else_, upFrom}
 use Rattle.field.specs.Field.{Field, dot}
 use Rattle.field.specs.Ours.{fieldOf}
 use Rattle.linear.specs.Lists.{all, vanish}
 use Rattle.linear.specs.Marks.{rowsOf}
 use Rattle.linear.specs.Fill.{sumsOf}
 use Rattle.repair.specs.Plan.{Plan, Level, planOf, noLevel, levelOf, checksTo, rowAt}
+use Rattle.repair.specs.Refusal.{inMemory, stripeFits}
 use Rattle.repair.specs.Steps.{across}
-use Rattle.repair.specs.Codeword.{rowsHold, totalsHold}
+use Rattle.repair.specs.Codeword.{rowsHold, totalsHold, isCodeword, testRefusal, tested}
+use Rattle.repair.specs.declared.Verdict.{Verdict}
+use Rattle.repair.specs.declared.Verdict.the-variants.{Yes, No, Refused}
 use Rattle.repair.specs.Tables.{padded, checkTable, weightTable, rowSums}
-use Rattle.repair.proofs.Rows.{row-end}
+use Rattle.repair.proofs.Refusals.{passed}
 use Rattle.repair.proofs.Flat.{rowIn}
 use Rattle.repair.proofs.Tables.{checks-in, level-checks-in, checks-more, sums-more}
 use Rattle.repair.proofs.Sizes.{checks-room, checks-length}
@@ -214,3 +217,40 @@ module _ {p last t : ℕ} {stripe : List ℕ} (s : LevelsHolding p last stripe t
 
   pub levels-end : last ≤ t → true ≡ all (totalsHold (planOf p) stripe) (drop 1 (planOf p .levels))
   levels-end end = sym (walking-ends _ 1 (last - 1) (omega (arith, s .walk .least)) (s .walk)) ∙ levels-walk
+
+-- ---- the test
+
+pub test-length : (p : ℕ) (stripe : List ℕ) → testRefusal p stripe ≡ 0 → length stripe ≡ planOf p .rows * planOf p .columns
+unfolding inMemory stripeFits testRefusal
+test-length p stripe e =
+    eqb-true _ _ (passed 11 _ _ (λ z. omega arith) (passed 10 _ _ (λ z. omega arith) e .1) .0)
+
+module _ (p : ℕ) (stripe : List ℕ) {n : ℕ} (e : n ≡ testRefusal p stripe) where
+  pub tested-refused : (n ≡ 0 → ⊥) → Refused n ≡ tested p stripe
+  unfolding if_then_else_ tested
+  tested-refused ne =
+      let k = testRefusal p stripe in
+      ap Refused e ∙ sym (ap (λ b. if b then if isCodeword (planOf p) stripe then Yes else No else Refused k) (ne-eqb k 0 (λ z. ne (e ∙ z))))
+
+  module _ (z : n ≡ 0) {a : Bool} (rows : a ≡ rowsHold (planOf p) stripe) where
+    by : Bool → Bool → Verdict
+    by rows levels = if rows && levels then Yes else No
+
+    tested-by : by (rowsHold (planOf p) stripe) (all (totalsHold (planOf p) stripe) (drop 1 (planOf p .levels))) ≡ tested p stripe
+    unfolding if_then_else_ isCodeword tested by
+    tested-by =
+        let k = testRefusal p stripe in
+        sym (ap (λ b. if b then if isCodeword (planOf p) stripe then Yes else No else Refused k) (eq-eqb k 0 (sym e ∙ z)))
+
+    pub tested-no-row : a ≡ false → No ≡ tested p stripe
+    unfolding if_then_else_ by
+    tested-no-row bad = ap (λ b. by b (all (totalsHold (planOf p) stripe) (drop 1 (planOf p .levels)))) (sym bad ∙ rows) ∙ tested-by
+
+    module _ {b : Bool} (levels : b ≡ all (totalsHold (planOf p) stripe) (drop 1 (planOf p .levels))) (good : a ≡ true) where
+      pub tested-no-level : b ≡ false → No ≡ tested p stripe
+      unfolding if_then_else_ by
+      tested-no-level bad = ap₂ by (sym good ∙ rows) (sym bad ∙ levels) ∙ tested-by
+
+      pub tested-yes : b ≡ true → Yes ≡ tested p stripe
+      unfolding if_then_else_ by
+      tested-yes well = ap₂ by (sym good ∙ rows) (sym well ∙ levels) ∙ tested-by

@@ -122,8 +122,11 @@ pub fn is_codeword(plan: usize, stripe: &[u8]) -> Verdict
     }
     let table = field::products();
     let checks = plan::row_checks(plan);
-    if rows_hold(plan, &table, &checks, stripe) && levels_hold(plan, &table, &checks, stripe) {
-        return Verdict::Yes;
+    if !rows_hold(plan, &table, &checks, stripe) {
+        return Verdict::No;
     }
-    Verdict::No
+    if !levels_hold(plan, &table, &checks, stripe) {
+        return Verdict::No;
+    }
+    Verdict::Yes
 }

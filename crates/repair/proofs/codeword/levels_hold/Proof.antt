@@ -8,10 +8,6 @@ use Rattle.repair.proofs.Walk.{walking-starts}
 use Rattle.repair.proofs.Holding.{LevelsHolding, levels-turn, levels-fail, levels-end}
 use Rattle.repair.proofs.codeword.levels_hold.Statement.{statement}
 use Rattle.repair.proofs.codeword.levels_hold.Tie as tie
-use Rattle.repair.proofs.codeword.levels_hold.Reads as reads
-use Rattle.repair.proofs.codeword.levels_hold.Lts as lts
-use Rattle.repair.proofs.codeword.totals_hold.Reads as totals-hold-reads
-use Rattle.repair.proofs.plan.levels.Reads as levels-reads
 
 abbrev Inv-loop : tie.InvT-loop
 Inv-loop plan table checks stripe last t₀ t = LevelsHolding plan last stripe t

@@ -11,11 +11,6 @@ use Rattle.repair.specs.Codeword.{testRefusal}
 use Rattle.repair.proofs.Refusals.{none-fails, passes, fails}
 use Rattle.repair.proofs.codeword.test_refusal.Statement.{statement}
 use Rattle.repair.proofs.codeword.test_refusal.Tie as tie
-use Rattle.repair.proofs.codeword.test_refusal.Reads as reads
-use Rattle.repair.proofs.codeword.test_refusal.Lts as lts
-use Rattle.repair.proofs.plan.facts_of.Reads as facts-of-reads
-use Rattle.repair.proofs.plan.is_known.Reads as is-known-reads
-use Rattle.repair.proofs.refusal.all_below.Reads as all-below-reads
 
 is-known : (c : tie.Else1) → known (c .before .before .before .args .plan) ≡ true
 is-known c = sym (c .before .is-known .ensures) ∙ not-false _ (c .if1 .left)

@@ -6,11 +6,6 @@ use Rattle.repair.specs.Steps.{stepped}
 use Rattle.repair.proofs.Learning.{step-refused, step-top, step-on}
 use Rattle.repair.proofs.level.level_step.Statement.{statement}
 use Rattle.repair.proofs.level.level_step.Tie as tie
-use Rattle.repair.proofs.level.level_step.Reads as reads
-use Rattle.repair.proofs.level.level_step.Lts as lts
-use Rattle.repair.proofs.level.raise.Reads as raise-reads
-use Rattle.repair.proofs.plan.levels.Reads as levels-reads
-use Rattle.repair.proofs.refusal.bench_refusal.Reads as bench-refusal-reads
 
 bench-refusal-requires : tie.Need-bench-refusal-requires
 bench-refusal-requires c κs = search needs

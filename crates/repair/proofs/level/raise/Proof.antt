@@ -6,11 +6,6 @@ use Rattle.repair.proofs.Plans.{levels-most}
 use Rattle.repair.proofs.Learning.{steps-blocked, steps-clash, steps-raised}
 use Rattle.repair.proofs.level.raise.Statement.{statement}
 use Rattle.repair.proofs.level.raise.Tie as tie
-use Rattle.repair.proofs.level.raise.Reads as reads
-use Rattle.repair.proofs.level.raise.Lts as lts
-use Rattle.field.proofs.products.Reads as products-reads
-use Rattle.repair.proofs.level.learn.Reads as learn-reads
-use Rattle.repair.proofs.plan.row_checks.Reads as row-checks-reads
 
 products-requires : tie.Need-products-requires
 products-requires c κs = search needs
