@@ -26,7 +26,7 @@ use Rattle.repair.proofs.Flat.{rowIn}
 use Rattle.repair.proofs.Tables.{checks-in, level-checks-in, checks-more, sums-more}
 use Rattle.repair.proofs.Sizes.{checks-room, checks-length}
 use Rattle.repair.proofs.Parts.{part, part-of, part-length, rows-of, map-up-shift}
-use Rattle.repair.proofs.Numbers.{Numbers, row-within, row-part, column-rows, column-is, weights-are, weights-suffice}
+use Rattle.repair.proofs.Numbers.{Numbers, Weighing, row-within, row-part, column-rows, column-is, weights-are, weights-suffice}
 use Rattle.repair.proofs.Walk.{all-map, Walking, walking-turns, walking-fails, walking-ends}
 
 -- ---- checks that give 0
@@ -124,16 +124,13 @@ totals-walk p t stripe =
     ∙ all-map (λ c. vanish (sumsOf (P .field) (levelOf P (suc t) .weights) (across P stripe c))) (rowIn (P .columns) (checkTable P)) _
 
 -- the totals of the checks before j are zero
-pub record TotalsHolding (p t q rows n : ℕ) (weights : List ℕ) (totals first last : ℕ) (stripe : List ℕ) (j : ℕ) : Type 0 where
-  pub is : Numbers p q rows n
-  pub weighs : weights ≡ weightTable (planOf p) (suc t)
-  pub count : totals ≡ length (levelOf (planOf p) (suc t) .weights)
-  pub start : first ≡ length (checksTo (planOf p) t)
+pub record TotalsHolding (p t q rows n : ℕ) (weights : List ℕ) (totals last : ℕ) (stripe : List ℕ) (j : ℕ) : Type 0 where
+  pub by : Weighing p t q rows n weights totals
   pub end : last ≡ length (checksTo (planOf p) (suc t))
   pub walk : Walking (checkHolds (planOf p) stripe t) (length (checksTo (planOf p) t)) (length (levelOf (planOf p) (suc t) .checks)) j
 
-module _ {p t q rows n totals first last j : ℕ} {weights checks stripe : List ℕ} (lent : checks ≡ checkTable (planOf p)) (more : j < last)
-    (s : TotalsHolding p t q rows n weights totals first last stripe j) where
+module _ {p t q rows n totals last j : ℕ} {weights checks stripe : List ℕ} (lent : checks ≡ checkTable (planOf p)) (more : j < last)
+    (s : TotalsHolding p t q rows n weights totals last stripe j) where
   pub totals-here : j < length (checksTo (planOf p) (suc t))
   totals-here = rw (← s .end) more
 
@@ -142,25 +139,22 @@ module _ {p t q rows n totals first last j : ℕ} {weights checks stripe : List 
 
   module _ {column : List ℕ} (made : column ≡ padded 8 (rowSums (fieldOf q) rows stripe (part (j * n) n checks))) where
     pub totals-weights : totals * length (take rows column) ≤ length weights
-    totals-weights = rw (column-rows (s .is) lent (suc t) totals-here stripe made, s .count, s .weighs) (weights-suffice (s .is) (suc t))
+    totals-weights = rw (column-rows (s .by .is) lent (suc t) totals-here stripe made, s .by .count, s .by .weighs) (weights-suffice (s .by .is) (suc t))
 
     module _ {b : Bool} (e : b ≡ vanish (sumsOf (fieldOf q) (rowsOf totals (length (take rows column)) weights) (take rows column))) where
       its-check : b ≡ checkHolds (planOf p) stripe t j
       unfolding checkHolds
       its-check =
           e ∙ ap₂ (λ cs w. vanish (sumsOf (fieldOf q) cs w))
-          (ap₂ (λ k l. rowsOf k (length (take rows column)) l) (s .count) (s .weighs)
-          ∙ ap (λ k. rowsOf (length (levelOf (planOf p) (suc t) .weights)) k (weightTable (planOf p) (suc t))) (column-rows (s .is) lent (suc t) totals-here stripe made)
-          ∙ weights-are (s .is) (suc t))
-          (column-is (s .is) lent (suc t) totals-here stripe made)
-          ∙ ap (λ F. vanish (sumsOf F (levelOf (planOf p) (suc t) .weights) (across (planOf p) stripe (rowIn (planOf p .columns) (checkTable (planOf p)) j)))) (s .is .field)
+          (ap₂ (λ k l. rowsOf k (length (take rows column)) l) (s .by .count) (s .by .weighs)
+          ∙ ap (λ k. rowsOf (length (levelOf (planOf p) (suc t) .weights)) k (weightTable (planOf p) (suc t))) (column-rows (s .by .is) lent (suc t) totals-here stripe made)
+          ∙ weights-are (s .by .is) (suc t))
+          (column-is (s .by .is) lent (suc t) totals-here stripe made)
+          ∙ ap (λ F. vanish (sumsOf F (levelOf (planOf p) (suc t) .weights) (across (planOf p) stripe (rowIn (planOf p .columns) (checkTable (planOf p)) j)))) (s .by .is .field)
 
-      pub totals-turn : b ≡ true → TotalsHolding p t q rows n weights totals first last stripe (j + 1)
+      pub totals-turn : b ≡ true → TotalsHolding p t q rows n weights totals last stripe (j + 1)
       totals-turn good = record {
-        is = s .is;
-        weighs = s .weighs;
-        count = s .count;
-        start = s .start;
+        by = s .by;
         end = s .end;
         walk = walking-turns _ _ _ within (sym its-check ∙ good) (s .walk);
       }
@@ -168,9 +162,9 @@ module _ {p t q rows n totals first last j : ℕ} {weights checks stripe : List 
       pub totals-fail : b ≡ false → false ≡ totalsHold (planOf p) stripe (levelOf (planOf p) (suc t))
       totals-fail bad = sym (totals-walk p t stripe ∙ walking-fails _ _ _ within (sym its-check ∙ bad) (s .walk))
 
-pub totals-end : {p t q rows n totals first last j : ℕ} {weights stripe : List ℕ} → last ≤ j
-    → TotalsHolding p t q rows n weights totals first last stripe j → true ≡ totalsHold (planOf p) stripe (levelOf (planOf p) (suc t))
-totals-end {p} {t} {q} {rows} {n} {totals} {first} {last} {j} {weights} {stripe} all s =
+pub totals-end : {p t q rows n totals last j : ℕ} {weights stripe : List ℕ} → last ≤ j
+    → TotalsHolding p t q rows n weights totals last stripe j → true ≡ totalsHold (planOf p) stripe (levelOf (planOf p) (suc t))
+totals-end {p} {t} {q} {rows} {n} {totals} {last} {j} {weights} {stripe} all s =
     sym (totals-walk p t stripe ∙ walking-ends _ _ _ (rw (← sums-more (planOf p) t, ← s .end) all) (s .walk))
 
 -- ---- levels

@@ -21,7 +21,7 @@ use Rattle.linear.specs.declared.Outcome.the-variants.{Tied, None, One}
 use Rattle.repair.specs.Plan.{Plan, planOf, levelOf, checksTo}
 use Rattle.repair.specs.Steps.{lossy, Learned, blocked, failing, learned, levelFill, keepSums, raise, stepped, unlessRefused, levelStepBy, levelStep}
 use Rattle.repair.specs.Refusal.{unasked, benchRefusal}
-use Rattle.repair.specs.Tables.{padded, checkTable, weightTable, rowSums}
+use Rattle.repair.specs.Tables.{padded, checkTable, rowSums}
 use Rattle.repair.specs.Learned.{columnOf, columnFill, benchOf, learningOf, sumsAfter}
 use Rattle.repair.specs.declared.Bench.{Bench}
 use Rattle.repair.specs.declared.Stepped.{Stepped}
@@ -34,14 +34,9 @@ use Rattle.repair.proofs.Tables.{weights-lt, sums-more, sums-most}
 use Rattle.repair.proofs.Keeping.{keep-none, keep-last}
 use Rattle.repair.proofs.Lossy.{lossyFrom}
 use Rattle.repair.proofs.Joining.{none-untied, Joining, joining-starts, joining-one, joining-tied, joining-none, joining-ends, level-fill}
-use Rattle.repair.proofs.Numbers.{Numbers, column-rows, column-is, weights-are, weights-suffice}
+use Rattle.repair.proofs.Numbers.{Weighing, column-rows, column-is, weights-are, weights-suffice}
 
 -- ---- the weights of level t + 1, as they are lent, and a target of zeros
-
-pub record Weighing (p t q rows n : ℕ) (weights : List ℕ) (totals : ℕ) : Type 0 where
-  pub is : Numbers p q rows n
-  pub weighs : weights ≡ weightTable (planOf p) (suc t)
-  pub count : totals ≡ length (levelOf (planOf p) (suc t) .weights)
 
 abbrev pub lentZeros : List ℕ
 lentZeros = 0 ∷ 0 ∷ []

@@ -1,5 +1,4 @@
 // The codeword test: the rows' level-1 sums and each level's weighted totals. It changes nothing.
-use crate::Verdict;
 use crate::plan;
 use crate::refusal;
 use crate::sums;
@@ -11,7 +10,7 @@ ghost use Rattle.linear.specs.Lists.{all, vanish};
 ghost use Rattle.linear.specs.Fill.{sumsOf};
 ghost use Rattle.linear.specs.Marks.{rowsOf};
 ghost use Rattle.repair.specs.Plan.{planOf, levelOf};
-ghost use Rattle.repair.specs.Codeword.{rowsHold, totalsHold, testRefusal, tested};
+ghost use Rattle.repair.specs.Codeword.{rowsHold, totalsHold, testRefusal};
 ghost use Rattle.repair.specs.Tables.{checkTable};
 
 // Whether each of the first m checks gives 0 with v. A check is as long as v.
@@ -32,7 +31,7 @@ fn vanishes(q: usize, table: &[u8; 256], checks: &[u8], m: usize, v: &[u8]) -> b
 }
 
 // Whether every row's level-1 sums are zero.
-fn rows_hold(plan: usize, table: &[u8; 256], checks: &[u8], stripe: &[u8]) -> bool
+pub fn rows_hold(plan: usize, table: &[u8; 256], checks: &[u8], stripe: &[u8]) -> bool
     requires { ⌜ (now table ≡ products) × (now checks ≡ checkTable (planOf plan)) ⌝ }
     requires { ⌜ planOf plan .rows * planOf plan .columns ≤ length (now stripe) ⌝ }
     ensures { λ r. ⌜ r ≡ rowsHold (planOf plan) (now (stripe .entry)) ⌝ }
@@ -79,7 +78,7 @@ fn totals_hold(plan: usize, t: usize, table: &[u8; 256], checks: &[u8], stripe: 
 }
 
 // What the codeword test refuses; 0 where it does not.
-fn test_refusal(plan: usize, stripe: &[u8]) -> usize
+pub fn test_refusal(plan: usize, stripe: &[u8]) -> usize
     ensures { λ r. ⌜ r ≡ testRefusal plan (now (stripe .entry)) ⌝ }
 {
     if !plan::is_known(plan) {
@@ -98,7 +97,7 @@ fn test_refusal(plan: usize, stripe: &[u8]) -> usize
 }
 
 // Whether the totals of every level from 2 on are zero.
-fn levels_hold(plan: usize, table: &[u8; 256], checks: &[u8], stripe: &[u8]) -> bool
+pub fn levels_hold(plan: usize, table: &[u8; 256], checks: &[u8], stripe: &[u8]) -> bool
     requires { ⌜ (now table ≡ products) × (now checks ≡ checkTable (planOf plan)) ⌝ }
     requires { ⌜ planOf plan .rows * planOf plan .columns ≤ length (now stripe) ⌝ }
     ensures { λ r. ⌜ r ≡ all (totalsHold (planOf plan) (now (stripe .entry))) (drop 1 (planOf plan .levels)) ⌝ }
@@ -110,23 +109,4 @@ fn levels_hold(plan: usize, table: &[u8; 256], checks: &[u8], stripe: &[u8]) -> 
         }
     }
     true
-}
-
-// Whether a stripe is a codeword: every row's level-1 sums are zero, and so are the totals of every further level.
-pub fn is_codeword(plan: usize, stripe: &[u8]) -> Verdict
-    ensures { λ r. ⌜ r ≡ tested plan (now (stripe .entry)) ⌝ }
-{
-    let number = test_refusal(plan, stripe);
-    if number != 0 {
-        return Verdict::Refused(number);
-    }
-    let table = field::products();
-    let checks = plan::row_checks(plan);
-    if !rows_hold(plan, &table, &checks, stripe) {
-        return Verdict::No;
-    }
-    if !levels_hold(plan, &table, &checks, stripe) {
-        return Verdict::No;
-    }
-    Verdict::Yes
 }

@@ -3,7 +3,6 @@ use crate::Bench;
 use crate::Step;
 use crate::Stepped;
 use crate::plan;
-use crate::refusal;
 use crate::sums;
 ghost use mathlib.Core.Path.{_≡_};
 ghost use mathlib.Core.List.{_∷_, []};
@@ -13,7 +12,7 @@ ghost use Rattle.field.specs.Lists.{upFrom};
 ghost use Rattle.field.specs.Ours.{products};
 ghost use Rattle.linear.specs.Marks.{bitsOf, answerOf, vectorOf};
 ghost use Rattle.repair.specs.Plan.{planOf, checksTo};
-ghost use Rattle.repair.specs.Steps.{keepSums, levelFill, levelStepBy, levelStep};
+ghost use Rattle.repair.specs.Steps.{keepSums, levelFill, levelStepBy};
 ghost use Rattle.repair.specs.Tables.{checkTable};
 ghost use Rattle.repair.specs.Learned.{columnOf, columnFill, benchOf, learningOf, sumsAfter};
 
@@ -121,7 +120,7 @@ pub fn learn<'a>(
 }
 
 // The level step of a fit bench below the last level.
-fn raise(bench: Bench) -> Stepped
+pub fn raise(bench: Bench) -> Stepped
     requires { ⌜ bench .level < length (planOf (bench .plan) .levels) ⌝ }
     ensures { λ r. ⌜ r ≡ levelStepBy bench (levelFill bench) ⌝ }
 {
@@ -164,33 +163,4 @@ fn raise(bench: Bench) -> Stepped
             }
         }
     }
-}
-
-// The level step: all rows' sums of the next level are learned and the level rises by one, or nothing changes.
-pub fn level_step(bench: Bench) -> Stepped
-    ensures { λ r. ⌜ r ≡ levelStep bench ⌝ }
-{
-    let plan = bench.plan;
-    let level = bench.level;
-    let number = refusal::bench_refusal(
-        plan,
-        level,
-        &bench.symbols,
-        &bench.marks,
-        &bench.sums,
-        true,
-    );
-    if number != 0 {
-        return Stepped {
-            bench: bench,
-            answer: Step::Refused(number),
-        };
-    }
-    if plan::levels(plan) <= level {
-        return Stepped {
-            bench: bench,
-            answer: Step::Top,
-        };
-    }
-    raise(bench)
 }

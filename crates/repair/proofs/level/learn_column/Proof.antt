@@ -1,29 +1,24 @@
 -- `level::learn_column` meets its contract. Assumes nothing.
 use Prim.Native.Nat.{suc, _+_, _*_, _≤_}
 use mathlib.Core.Path.{_≡_, sym, ap, ap₂, _∙_}
-use native.Mathlib.Numerals.{add-one}
 use native.Mathlib.Omega.{arith}
 use borrow.Author.Needs.{needs}
 use lib.ListN.{length}
 use lib.Seq.{take-at}
 use Rattle.linear.specs.Marks.{answerOf, vectorOf}
-use Rattle.repair.specs.Plan.{planOf, checksTo}
+use Rattle.repair.specs.Plan.{planOf}
 use Rattle.repair.proofs.Plans.{rows-most}
 use Rattle.repair.proofs.Sizes.{checks-length, weights-length}
-use Rattle.repair.proofs.Numbers.{numbers, check-within, check-rows, column-room, column-rows}
-use Rattle.repair.proofs.Learning.{Weighing, few-totals, weights-within, front-length, target-length, front-lt, target-lt, made-is, filled-is}
+use Rattle.repair.proofs.Numbers.{Weighing, weighing, check-within, check-rows, column-room, column-rows}
+use Rattle.repair.proofs.Learning.{few-totals, weights-within, front-length, target-length, front-lt, target-lt, made-is, filled-is}
 use Rattle.repair.proofs.level.learn_column.Statement.{statement}
 use Rattle.repair.proofs.level.learn_column.Tie as tie
 
-weighing : (c : tie.After-totals)
+weighed : (c : tie.After-totals)
     → Weighing (c .before .before .before .before .before .args .plan) (c .before .before .before .before .before .args .level)
     (c .before .before .facts-of .result .field) (c .before .before .facts-of .result .rows) (c .before .before .facts-of .result .columns)
     (c .before .weights .result) (c .totals .result)
-weighing c = record {
-  is = numbers _ (c .before .before .facts-of .ensures);
-  weighs = rw add-one at (c .before .weights .ensures);
-  count = rw add-one at (c .totals .ensures);
-}
+weighed c = weighing _ _ (c .before .before .facts-of .ensures) (c .before .weights .ensures) (c .totals .ensures)
 
 -- check j stands in the table
 inside : (c : tie.After-totals)
@@ -31,7 +26,7 @@ inside : (c : tie.After-totals)
     let n = c .before .before .facts-of .result .columns in args .j * n + n ≤ length (args .checks .now)
 inside c =
     let start = c .before .before .before .before .before in
-    check-within (weighing c .is) (start .pre .0 .1) (suc (start .args .level)) (start .pre .1 .1 .1)
+    check-within (weighed c .is) (start .pre .0 .1) (suc (start .args .level)) (start .pre .1 .1 .1)
 
 facts-of-requires : tie.Need-facts-of-requires
 facts-of-requires c κs = search needs
@@ -50,7 +45,7 @@ totals-requires c κs = search needs
 
 mul-size : tie.Need-mul-size
 mul-size c =
-    let w = weighing c in
+    let w = weighed c in
     let start = c .before .before .before .before .before in
     omega (arith, weights-within w, ap length (w .weighs), weights-length (start .args .plan) (suc (start .args .level)))
 
@@ -72,7 +67,7 @@ part-across-end c = inside c
 across-requires : tie.Need-across-requires
 across-requires c κs =
     let start = c .before .before .before .before .before .before in
-    let w = weighing (c .before) in (
+    let w = weighed (c .before) in (
       start .pre .0 .0,
       (
         rw (w .is .high) (rows-most (start .args .plan)),
@@ -81,33 +76,33 @@ across-requires c κs =
     )
 
 array-share-prefix-weights : tie.Need-array-share-prefix-weights
-array-share-prefix-weights c = weights-within (weighing (c .before .before))
+array-share-prefix-weights c = weights-within (weighed (c .before .before))
 
 slice-aggregate-fill : tie.Need-slice-aggregate-fill
-slice-aggregate-fill c = sym (front-length (weighing (c .before .before .before)))
+slice-aggregate-fill c = sym (front-length (weighed (c .before .before .before)))
 
 array-share-prefix-target : tie.Need-array-share-prefix-target
-array-share-prefix-target c = few-totals (weighing (c .before .before .before))
+array-share-prefix-target c = few-totals (weighed (c .before .before .before))
 
 slice-aggregate-fill-2 : tie.Need-slice-aggregate-fill-2
-slice-aggregate-fill-2 c = sym (target-length (weighing (c .before .before .before .before)))
+slice-aggregate-fill-2 c = sym (target-length (weighed (c .before .before .before .before)))
 
 array-borrow-prefix-made : tie.Need-array-borrow-prefix-made
 array-borrow-prefix-made c =
     let start = c .before .before .before .before .before .before .before .before .before in
-    let w = weighing (c .before .before .before .before) in
+    let w = weighed (c .before .before .before .before) in
     column-room (w .is) (start .pre .0 .1) (suc (start .args .level)) (start .pre .1 .1 .1) (start .args .symbols .now) (c .before .before .across .ensures)
 
 slice-aggregate-fill-3 : tie.Need-slice-aggregate-fill-3
 slice-aggregate-fill-3 c =
     let start = c .before .before .before .before .before .before .before .before .before .before in
-    let w = weighing (c .before .before .before .before .before) in
+    let w = weighed (c .before .before .before .before .before) in
     sym (column-rows (w .is) (start .pre .0 .1) (suc (start .args .level)) (start .pre .1 .1 .1) (start .args .symbols .now) (c .before .before .before .across .ensures))
 
 fill-requires : tie.Need-fill-requires
 fill-requires c κs =
     let start = c .before .before .before .before .before .before .before .before .before .before in
-    let w = weighing (c .before .before .before .before .before) in
+    let w = weighed (c .before .before .before .before .before) in
     let long =
     column-rows (w .is) (start .pre .0 .1) (suc (start .args .level)) (start .pre .1 .1 .1) (start .args .symbols .now) (c .before .before .before .across .ensures) in (
       start .pre .0 .0,
@@ -120,7 +115,7 @@ fill-requires c κs =
 returns : tie.Need-returns
 returns c =
     let start = c .before .before .before .before .before .before .before .before .before .before .before .before in
-    let w = weighing (c .before .before .before .before .before .before .before) in
+    let w = weighed (c .before .before .before .before .before .before .before) in
     let f = c .before .fill in
     let made = c .before .before .before .before .before .across .ensures in
     let P = planOf (start .args .plan) in

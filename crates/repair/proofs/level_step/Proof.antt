@@ -1,11 +1,11 @@
--- `level::level_step` meets its contract. Assumes nothing.
+-- `level_step` meets its contract. Assumes nothing.
 use mathlib.Core.Path.{_∙_}
 use borrow.Author.Needs.{needs}
 use Rattle.repair.specs.Refusal.{unasked}
 use Rattle.repair.specs.Steps.{stepped}
 use Rattle.repair.proofs.Learning.{step-refused, step-top, step-on}
-use Rattle.repair.proofs.level.level_step.Statement.{statement}
-use Rattle.repair.proofs.level.level_step.Tie as tie
+use Rattle.repair.proofs.level_step.Statement.{statement}
+use Rattle.repair.proofs.level_step.Tie as tie
 
 bench-refusal-requires : tie.Need-bench-refusal-requires
 bench-refusal-requires c κs = search needs

@@ -1,11 +1,11 @@
--- `codeword::is_codeword` meets its contract. Assumes nothing.
+-- `is_codeword` meets its contract. Assumes nothing.
 use mathlib.Core.Path.{sym, _∙_}
 use native.Mathlib.Nat.{le-of-eq}
 use borrow.Author.Needs.{needs}
 use borrow.Author.Tests.{not-true, not-false}
 use Rattle.repair.proofs.Holding.{test-length, tested-refused, tested-no-row, tested-no-level, tested-yes}
-use Rattle.repair.proofs.codeword.is_codeword.Statement.{statement}
-use Rattle.repair.proofs.codeword.is_codeword.Tie as tie
+use Rattle.repair.proofs.is_codeword.Statement.{statement}
+use Rattle.repair.proofs.is_codeword.Tie as tie
 
 test-refusal-requires : tie.Need-test-refusal-requires
 test-refusal-requires c κs = search needs
