@@ -5,8 +5,8 @@ use Prim.Native.Nat.{ℕ, zero, suc, _+_, _*_, _-_, _≤_, _<_}
 use native.Mathlib.Nat.{add-suc, suc-mul}
 use native.Mathlib.Numerals.{add-one}
 use native.Mathlib.Omega.{arith}
-use lib.ListN.{length, getD, set, length-map}
-use lib.Seq.{sets, set-comm}
+use lib.ListN.{length, getD, set, take, length-map}
+use lib.Seq.{sets, set-comm, getD-take}
 use Rattle.field.specs.Lists.{upFrom}
 use Rattle.repair.specs.Refusal.{room}
 use Rattle.repair.specs.Steps.{keepSums}
@@ -16,27 +16,36 @@ use Rattle.repair.specs.Steps.{keepSums}
 -- the rows before r are written
 pub record Keeping (at rows : ℕ) (c old : List ℕ) (r : ℕ) (l : List ℕ) : Type 0 where
   pub within : r ≤ rows
-  pub rest : keepSums at (c ∷ []) l (upFrom r (rows - r)) ≡ keepSums at (c ∷ []) old (upFrom 0 rows)
+  pub rest : keepSums at (take rows c ∷ []) l (upFrom r (rows - r)) ≡ keepSums at (take rows c ∷ []) old (upFrom 0 rows)
 
 module _ (at rows : ℕ) (c old : List ℕ) where
+  abbrev keep : List ℕ → List ℕ → List ℕ
+  keep l rs = keepSums at (take rows c ∷ []) l rs
+
   pub keeping-starts : Keeping at rows c old 0 old
-  keeping-starts = record { within = omega arith; rest = ap (λ n. keepSums at (c ∷ []) old (upFrom 0 n)) (omega arith) }
+  keeping-starts = record { within = omega arith; rest = ap (λ n. keep old (upFrom 0 n)) (omega arith) }
 
   pub keeping-turns : {r : ℕ} {l : List ℕ} → r < rows → Keeping at rows c old r l
       → Keeping at rows c old (r + 1) (set l (r * room + at) (getD c r 0))
   unfolding upFrom keepSums
   keeping-turns {r} {l} more s =
-      let e : rows - r ≡ suc (rows - (r + 1)) = omega arith in
+      let e : rows - r ≡ suc (rows - suc r) = omega arith in
       record {
         within = omega arith;
-        rest = rw (add-one r) (ap (λ n. keepSums at (c ∷ []) l (upFrom r n)) (sym (e ∙ ap (λ k. suc (rows - k)) (add-one r))) ∙ s .rest);
+        rest = rw (add-one r) (ap (λ v. keep (set l (r * room + at) v) (upFrom (suc r) (rows - suc r))) (sym (getD-take rows c r 0 more))
+            ∙ ap (λ n. keep l (upFrom r n)) (sym e) ∙ s .rest);
       }
 
-  pub keeping-ends : {r : ℕ} {l : List ℕ} → rows ≤ r → Keeping at rows c old r l → l ≡ keepSums at (c ∷ []) old (upFrom 0 rows)
+  pub keeping-ends : {r : ℕ} {l : List ℕ} → rows ≤ r → Keeping at rows c old r l → l ≡ keepSums at (take rows c ∷ []) old (upFrom 0 rows)
   unfolding upFrom keepSums
-  keeping-ends {r} {l} all s = let e : rows - r ≡ 0 = omega arith in ap (λ n. keepSums at (c ∷ []) l (upFrom r n)) (sym e) ∙ s .rest
+  keeping-ends {r} {l} all s = let e : rows - r ≡ 0 = omega arith in ap (λ n. keep l (upFrom r n)) (sym e) ∙ s .rest
 
 -- ---- one check's sums behind those of others
+
+pub keep-none : (at : ℕ) (l rs : List ℕ) → keepSums at [] l rs ≡ l
+unfolding keepSums
+keep-none at l [] = refl
+keep-none at l (r ∷ rs) = keep-none at l rs
 
 set-sets : (x l : List ℕ) (i j v : ℕ) → j < i → set (sets l i x) j v ≡ sets (set l j v) i x
 set-sets [] l i j v h = refl

@@ -15,6 +15,10 @@ pub mod Fit
 pub mod Sound
 pub mod Unmarked
 pub mod Turns
+-- what is refused, and the start
+pub mod Scan
+pub mod Refusals
+pub mod Starts
 -- sums under checks, and the codeword test
 pub mod Parts
 pub mod Numbers
@@ -22,7 +26,7 @@ pub mod Summing
 pub mod Lossy
 pub mod Walk
 pub mod Holding
--- the rows of a round
+-- the rows of a round, and the rounds
 pub mod Checks
 pub mod Lending
 pub mod Walking
@@ -31,7 +35,5 @@ pub mod Leaving
 pub mod Rounding
 -- the level step
 pub mod Keeping
--- what is refused, and the start
-pub mod Scan
-pub mod Refusals
-pub mod Starts
+pub mod Joining
+pub mod Learning

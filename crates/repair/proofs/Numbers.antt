@@ -3,6 +3,7 @@ use mathlib.Core.Path.{_≡_, sym, ap, ap₂, _∙_}
 use mathlib.Core.List.{List, map}
 use Prim.Native.Nat.{ℕ, suc, _+_, _*_, _≤_, _<_}
 use native.Mathlib.Nat.{le-trans, mul-le-mul-right}
+use native.Mathlib.Numerals.{add-one}
 use native.Mathlib.Omega.{arith}
 use lib.ListN.{length, take, drop, replicate}
 use lib.Seq.{take-at, length-take-le}
@@ -15,7 +16,8 @@ use Rattle.repair.specs.Steps.{across}
 use Rattle.repair.specs.Tables.{FactsOf, padded, checkTable, weightTable, rowSums}
 use Rattle.repair.specs.declared.plan.Facts.{Facts}
 use Rattle.repair.proofs.Rows.{row-end}
-use Rattle.repair.proofs.Sizes.{rows-most, checks-room, checks-length, weights-room, weights-length}
+use Rattle.repair.proofs.Plans.{rows-most}
+use Rattle.repair.proofs.Sizes.{checks-room, checks-length, weights-room, weights-length}
 use Rattle.repair.proofs.Padded.{length-padded}
 use Rattle.repair.proofs.Flat.{rowIn}
 use Rattle.repair.proofs.Tables.{weights-in}
@@ -90,3 +92,17 @@ module _ {p q rows n : ℕ} (is : Numbers p q rows n) where
 
   pub weights-suffice : (t : ℕ) → length (levelOf (planOf p) t .weights) * rows ≤ length (weightTable (planOf p) t)
   weights-suffice t = rw (weights-length p t, is .high) (weights-room p t)
+
+-- the weights of level t + 1, and how many totals they give
+pub record Weighing (p t q rows n : ℕ) (weights : List ℕ) (totals : ℕ) : Type 0 where
+  pub is : Numbers p q rows n
+  pub weighs : weights ≡ weightTable (planOf p) (suc t)
+  pub count : totals ≡ length (levelOf (planOf p) (suc t) .weights)
+
+pub weighing : (p t : ℕ) {f : Facts} {weights : List ℕ} {totals : ℕ} → FactsOf (planOf p) f → weights ≡ weightTable (planOf p) (t + 1)
+    → totals ≡ length (levelOf (planOf p) (t + 1) .weights) → Weighing p t (f .field) (f .rows) (f .columns) weights totals
+weighing p t is weighs count = record {
+  is = numbers p is;
+  weighs = weighs ∙ ap (weightTable (planOf p)) (add-one t);
+  count = count ∙ ap (λ u. length (levelOf (planOf p) u .weights)) (add-one t);
+}

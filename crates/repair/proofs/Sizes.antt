@@ -1,37 +1,24 @@
 -- The plans' rows, checks and weights fit the code's arrays, for every plan number. Assumes nothing.
-use mathlib.Core.Path.{_≡_, refl, ap, _∙_}
+use mathlib.Core.Path.{_≡_, refl}
 use mathlib.Core.List.{List, _++_, map, flatMap}
 use Prim.Native.Nat.{ℕ, pred, _*_, _≤_}
-use native.Mathlib.Nat.{mul-le-mul, mul-le-mul-right, le-trans}
-use native.Mathlib.Omega.{arith}
-use lib.Dec.{T, eqb, leb, eqb→eq, leb→le, lit≤}
-use lib.ListN.{length, length-append}
+use native.Mathlib.Nat.{mul-le-mul}
+use lib.Dec.{T, eqb, leb, eqb→eq, leb→le}
+use lib.ListN.{length}
 use Rattle.field.specs.Lists.{upFrom}
 use Rattle.field.specs.Field.{_⊕_, size, double, times, mul, gf16, gf32}
 use Rattle.field.specs.Power.{power}
 use Rattle.linear.specs.Lists.{all}
 use Rattle.repair.specs.Plan.{Plan, Level, ones, bitChecks, locations1, plan1, locations2, powers2, plan2, locations3, powers3, plan3, noPlan, planOf, noLevel, levelOf, checksTo}
 use Rattle.repair.specs.Tables.{padded, flat, checkTable, weightTable}
-use Rattle.repair.proofs.Plans.{of-plans}
+use Rattle.repair.proofs.Plans.{of-plans, rows-most, columns-most}
 use Rattle.repair.proofs.Flat.{all-getD}
-use Rattle.repair.proofs.Tables.{checks-before}
-
-pub rows-most : (p : ℕ) → planOf p .rows ≤ 8
-unfolding plan1 plan2 plan3 noPlan
-rows-most = of-plans (λ P. P .rows ≤ 8) (lit≤ tt) (lit≤ tt) (lit≤ tt) (lit≤ tt)
+use Rattle.repair.proofs.Tables.{sums-most}
 
 -- ---- checks
 
-all-checks : (p : ℕ) → length (checksTo (planOf p) (length (planOf p .levels))) * planOf p .columns ≤ 512
-unfolding upFrom flatMap ones bitChecks locations1 plan1 locations2 powers2 plan2 locations3 powers3 plan3 noPlan checksTo
-all-checks =
-    of-plans (λ P. length (checksTo P (length (P .levels))) * P .columns ≤ 512) (lit≤ tt) (lit≤ tt) (lit≤ tt) (lit≤ tt)
-
 pub checks-room : (p t : ℕ) → length (checksTo (planOf p) t) * planOf p .columns ≤ 512
-checks-room p t =
-    let P = planOf p in
-    let e = ap length (checks-before P t) ∙ length-append (checksTo P t) _ in
-    le-trans (mul-le-mul-right (P .columns) (omega arith)) (all-checks p)
+checks-room p t = mul-le-mul (sums-most p t) (columns-most p)
 
 pub checks-length : (p : ℕ) → length (checkTable (planOf p)) ≡ 512
 unfolding upFrom flatMap _⊕_ size double times mul gf16 gf32 power

@@ -9,7 +9,8 @@ mod steps;
 mod sums;
 
 ghost use mathlib.Core.Path.{_≡_};
-ghost use Rattle.repair.specs.Steps.{started};
+ghost use Rattle.repair.specs.Steps.{started, levelStep};
+ghost use Rattle.repair.specs.Codeword.{tested};
 
 // A plan's number, the level t that was reached, symbols and mark words row after row, and each row's learned sums, 16 places a row.
 pub struct Bench {
@@ -112,4 +113,52 @@ pub fn start(plan: usize, stripe: &[u8], marks: &[u32]) -> Started
         bench: bench,
         answer: Outcome::Refused(number),
     }
+}
+
+// The level step: all rows' sums of the next level are learned and the level rises by one, or nothing changes.
+pub fn level_step(bench: Bench) -> Stepped
+    ensures { λ r. ⌜ r ≡ levelStep bench ⌝ }
+{
+    let plan = bench.plan;
+    let level = bench.level;
+    let number = refusal::bench_refusal(
+        plan,
+        level,
+        &bench.symbols,
+        &bench.marks,
+        &bench.sums,
+        true,
+    );
+    if number != 0 {
+        return Stepped {
+            bench: bench,
+            answer: Step::Refused(number),
+        };
+    }
+    if plan::levels(plan) <= level {
+        return Stepped {
+            bench: bench,
+            answer: Step::Top,
+        };
+    }
+    level::raise(bench)
+}
+
+// Whether a stripe is a codeword: every row's level-1 sums are zero, and so are the totals of every further level.
+pub fn is_codeword(plan: usize, stripe: &[u8]) -> Verdict
+    ensures { λ r. ⌜ r ≡ tested plan (now (stripe .entry)) ⌝ }
+{
+    let number = codeword::test_refusal(plan, stripe);
+    if number != 0 {
+        return Verdict::Refused(number);
+    }
+    let table = field::products();
+    let checks = plan::row_checks(plan);
+    if !codeword::rows_hold(plan, &table, &checks, stripe) {
+        return Verdict::No;
+    }
+    if !codeword::levels_hold(plan, &table, &checks, stripe) {
+        return Verdict::No;
+    }
+    Verdict::Yes
 }

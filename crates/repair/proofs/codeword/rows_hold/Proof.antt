@@ -8,11 +8,6 @@ use Rattle.repair.proofs.Numbers.{numbers}
 use Rattle.repair.proofs.Holding.{RowsHolding, rows-within, rows-checks, rows-turn, rows-fail, rows-end}
 use Rattle.repair.proofs.codeword.rows_hold.Statement.{statement}
 use Rattle.repair.proofs.codeword.rows_hold.Tie as tie
-use Rattle.repair.proofs.codeword.rows_hold.Reads as reads
-use Rattle.repair.proofs.codeword.rows_hold.Lts as lts
-use Rattle.repair.proofs.codeword.vanishes.Reads as vanishes-reads
-use Rattle.repair.proofs.plan.facts_of.Reads as facts-of-reads
-use Rattle.repair.proofs.plan.sums_to.Reads as sums-to-reads
 
 abbrev Inv-loop : tie.InvT-loop
 Inv-loop plan table checks stripe q rows n m r₀ r = RowsHolding plan q rows n m stripe r

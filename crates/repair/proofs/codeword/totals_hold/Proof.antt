@@ -6,24 +6,17 @@ use native.Mathlib.Omega.{arith}
 use borrow.Author.Needs.{needs}
 use borrow.Author.Tests.{not-true, not-false}
 use Rattle.repair.proofs.Walk.{walking-starts}
-use Rattle.repair.proofs.Numbers.{numbers, check-within, check-rows, column-room, column-rows}
+use Rattle.repair.proofs.Numbers.{weighing, check-within, check-rows, column-room, column-rows}
 use Rattle.repair.proofs.Holding.{TotalsHolding, totals-here, totals-weights, totals-turn, totals-fail, totals-end}
-use Rattle.repair.proofs.Sizes.{rows-most, checks-length, weights-length}
+use Rattle.repair.proofs.Plans.{rows-most}
+use Rattle.repair.proofs.Sizes.{checks-length, weights-length}
 use lib.ListN.{length}
 use Rattle.repair.proofs.codeword.totals_hold.Statement.{statement}
 use Rattle.repair.proofs.codeword.totals_hold.Tie as tie
-use Rattle.repair.proofs.codeword.totals_hold.Reads as reads
-use Rattle.repair.proofs.codeword.totals_hold.Lts as lts
-use Rattle.repair.proofs.codeword.vanishes.Reads as vanishes-reads
-use Rattle.repair.proofs.plan.facts_of.Reads as facts-of-reads
-use Rattle.repair.proofs.plan.sums_to.Reads as sums-to-reads
-use Rattle.repair.proofs.plan.totals.Reads as totals-reads
-use Rattle.repair.proofs.plan.weights.Reads as weights-reads
-use Rattle.repair.proofs.sums.across.Reads as across-reads
 
 abbrev Inv-loop : tie.InvT-loop
 Inv-loop plan t table checks stripe q rows n weights totals first last j₀ j =
-    TotalsHolding plan t q rows n weights totals first last stripe j
+    TotalsHolding plan t q rows n weights totals last stripe j
 
 abbrev μ-loop : tie.MeasureT-loop
 μ-loop plan t table checks stripe q rows n weights totals first last j₀ j = last - j
@@ -53,22 +46,17 @@ sums-to-requires-2 : tie.Need-sums-to-requires-2 Inv-loop μ-loop
 sums-to-requires-2 c κs = search needs
 
 loop-holds : tie.Need-loop-holds Inv-loop μ-loop
-loop-holds c =
-    let from = c .before .sums-to .ensures in
-    record {
-      is = numbers _ (c .before .before .before .before .facts-of .ensures);
-      weighs = rw add-one at (c .before .before .before .weights .ensures);
-      count = rw add-one at (c .before .before .totals .ensures);
-      start = from;
-      end = rw add-one at (c .sums-to2 .ensures);
-      walk = rw from (walking-starts _ _ _);
-    }
+loop-holds c = record {
+  by = weighing _ _ (c .before .before .before .before .facts-of .ensures) (c .before .before .before .weights .ensures) (c .before .before .totals .ensures);
+  end = rw add-one at (c .sums-to2 .ensures);
+  walk = rw (c .before .sums-to .ensures) (walking-starts _ _ _);
+}
 
 mul-start : tie.Need-mul-start Inv-loop μ-loop
-mul-start c = omega (arith, check-within (c .before .loop .inv .is) (c .before .before .before .before .before .before .before .before .before .pre .0 .1) (suc (c .before .before .before .before .before .before .before .before .before .args .t)) (totals-here (c .before .before .before .before .before .before .before .before .before .pre .0 .1) (c .loop-test .taken) (c .before .loop .inv)), checks-length (c .before .before .before .before .before .before .before .before .before .args .plan), ap length (c .before .before .before .before .before .before .before .before .before .pre .0 .1))
+mul-start c = omega (arith, check-within (c .before .loop .inv .by .is) (c .before .before .before .before .before .before .before .before .before .pre .0 .1) (suc (c .before .before .before .before .before .before .before .before .before .args .t)) (totals-here (c .before .before .before .before .before .before .before .before .before .pre .0 .1) (c .loop-test .taken) (c .before .loop .inv)), checks-length (c .before .before .before .before .before .before .before .before .before .args .plan), ap length (c .before .before .before .before .before .before .before .before .before .pre .0 .1))
 
 add-end : tie.Need-add-end Inv-loop μ-loop
-add-end c = omega (arith, check-within (c .before .loop .inv .is) (c .before .before .before .before .before .before .before .before .before .pre .0 .1) (suc (c .before .before .before .before .before .before .before .before .before .args .t)) (totals-here (c .before .before .before .before .before .before .before .before .before .pre .0 .1) (c .loop-test .taken) (c .before .loop .inv)), checks-length (c .before .before .before .before .before .before .before .before .before .args .plan), ap length (c .before .before .before .before .before .before .before .before .before .pre .0 .1))
+add-end c = omega (arith, check-within (c .before .loop .inv .by .is) (c .before .before .before .before .before .before .before .before .before .pre .0 .1) (suc (c .before .before .before .before .before .before .before .before .before .args .t)) (totals-here (c .before .before .before .before .before .before .before .before .before .pre .0 .1) (c .loop-test .taken) (c .before .loop .inv)), checks-length (c .before .before .before .before .before .before .before .before .before .args .plan), ap length (c .before .before .before .before .before .before .before .before .before .pre .0 .1))
 
 sub-across : tie.Need-sub-across Inv-loop μ-loop
 sub-across c = omega arith
@@ -77,7 +65,7 @@ part-across-start : tie.Need-part-across-start Inv-loop μ-loop
 part-across-start c = omega arith
 
 part-across-end : tie.Need-part-across-end Inv-loop μ-loop
-part-across-end c = check-within (c .before .loop .inv .is) (c .before .before .before .before .before .before .before .before .before .pre .0 .1) (suc (c .before .before .before .before .before .before .before .before .before .args .t)) (totals-here (c .before .before .before .before .before .before .before .before .before .pre .0 .1) (c .loop-test .taken) (c .before .loop .inv))
+part-across-end c = check-within (c .before .loop .inv .by .is) (c .before .before .before .before .before .before .before .before .before .pre .0 .1) (suc (c .before .before .before .before .before .before .before .before .before .args .t)) (totals-here (c .before .before .before .before .before .before .before .before .before .pre .0 .1) (c .loop-test .taken) (c .before .loop .inv))
 
 across-requires : tie.Need-across-requires Inv-loop μ-loop
 across-requires c κs =
@@ -86,28 +74,28 @@ across-requires c κs =
     let here = totals-here (start .pre .0 .1) (c .before .loop-test .taken) s in (
       start .pre .0 .0,
       (
-        rw (s .is .high) (rows-most (start .args .plan)),
-        check-rows (s .is) (start .pre .0 .1) (suc (start .args .t)) here (start .args .stripe .now) (start .pre .1 .0),
+        rw (s .by .is .high) (rows-most (start .args .plan)),
+        check-rows (s .by .is) (start .pre .0 .1) (suc (start .args .t)) here (start .args .stripe .now) (start .pre .1 .0),
       ),
     )
 
 slice-aggregate-vanishes : tie.Need-slice-aggregate-vanishes Inv-loop μ-loop
 slice-aggregate-vanishes c =
-    sym (ap length (c .before .before .before .before .loop .inv .weighs) ∙ weights-length (c .before .before .before .before .before .before .before .before .before .before .before .before .args .plan) (suc (c .before .before .before .before .before .before .before .before .before .before .before .before .args .t)))
+    sym (ap length (c .before .before .before .before .loop .inv .by .weighs) ∙ weights-length (c .before .before .before .before .before .before .before .before .before .before .before .before .args .plan) (suc (c .before .before .before .before .before .before .before .before .before .before .before .before .args .t)))
 
 array-share-prefix-column : tie.Need-array-share-prefix-column Inv-loop μ-loop
 array-share-prefix-column c =
     let start = c .before .before .before .before .before .before .before .before .before .before .before .before in
     let s = c .before .before .before .before .loop .inv in
     let here = totals-here (start .pre .0 .1) (c .before .before .before .loop-test .taken) s in
-    column-room (s .is) (start .pre .0 .1) (suc (start .args .t)) here (start .args .stripe .now) (c .before .across .ensures)
+    column-room (s .by .is) (start .pre .0 .1) (suc (start .args .t)) here (start .args .stripe .now) (c .before .across .ensures)
 
 slice-aggregate-vanishes-2 : tie.Need-slice-aggregate-vanishes-2 Inv-loop μ-loop
 slice-aggregate-vanishes-2 c =
     let start = c .before .before .before .before .before .before .before .before .before .before .before .before .before in
     let s = c .before .before .before .before .before .loop .inv in
     let here = totals-here (start .pre .0 .1) (c .before .before .before .before .loop-test .taken) s in
-    sym (column-rows (s .is) (start .pre .0 .1) (suc (start .args .t)) here (start .args .stripe .now) (c .before .before .across .ensures))
+    sym (column-rows (s .by .is) (start .pre .0 .1) (suc (start .args .t)) here (start .args .stripe .now) (c .before .before .across .ensures))
 
 vanishes-requires : tie.Need-vanishes-requires Inv-loop μ-loop
 vanishes-requires c κs = (c .before .before .before .before .before .before .before .before .before .before .before .before .before .pre .0 .0, totals-weights (c .before .before .before .before .before .before .before .before .before .before .before .before .before .pre .0 .1) (c .before .before .before .before .loop-test .taken) (c .before .before .before .before .before .loop .inv) (c .before .before .across .ensures))

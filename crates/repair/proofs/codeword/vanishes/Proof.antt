@@ -11,9 +11,6 @@ use Rattle.repair.proofs.Walk.{Walking, walking-starts}
 use Rattle.repair.proofs.Holding.{gives0, vanish-turns, vanish-fails, vanish-ends}
 use Rattle.repair.proofs.codeword.vanishes.Statement.{statement}
 use Rattle.repair.proofs.codeword.vanishes.Tie as tie
-use Rattle.repair.proofs.codeword.vanishes.Reads as reads
-use Rattle.repair.proofs.codeword.vanishes.Lts as lts
-use Rattle.repair.proofs.sums.row_sum.Reads as row-sum-reads
 
 abbrev Inv-loop : tie.InvT-loop
 Inv-loop q table checks m v n i₀ i = Walking (gives0 (fieldOf q) checks v) 0 m i

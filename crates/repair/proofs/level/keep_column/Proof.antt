@@ -4,8 +4,6 @@ use borrow.Author.Needs.{needs}
 use Rattle.repair.proofs.Keeping.{Keeping, keeping-starts, keeping-turns, keeping-ends}
 use Rattle.repair.proofs.level.keep_column.Statement.{statement}
 use Rattle.repair.proofs.level.keep_column.Tie as tie
-use Rattle.repair.proofs.level.keep_column.Reads as reads
-use Rattle.repair.proofs.level.keep_column.Lts as lts
 
 abbrev Inv-loop : tie.InvT-loop
 Inv-loop rows at column kept₀ r₀ kept r = Keeping at rows column kept₀ r kept
