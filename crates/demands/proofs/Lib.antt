@@ -2,3 +2,6 @@
 pub mod Marked
 pub mod Binary
 pub mod Few
+pub mod Matrix
+pub mod Square
+pub mod Systems
