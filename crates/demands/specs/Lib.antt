@@ -2,5 +2,6 @@
 pub mod Words
 pub mod Second
 pub mod Third
+
 -- pub mod Silence
 -- pub mod Parameters
