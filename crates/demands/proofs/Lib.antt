@@ -5,3 +5,4 @@ pub mod Few
 pub mod Matrix
 pub mod Square
 pub mod Systems
+pub mod Parameters

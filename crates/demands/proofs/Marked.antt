@@ -1,6 +1,6 @@
 -- How many places are marked, and what a vector that is zero elsewhere weighs. Assumes nothing.
 use mathlib.Core.Path.{_≡_, refl, sym, ap, ap₂, _∙_, subst, fun-ext}
-use mathlib.Core.Bool.{Bool, true, false}
+use mathlib.Core.Bool.{Bool, true, false, not}
 use mathlib.Core.List.{List, [], _∷_, map}
 use Prim.Native.Nat.{ℕ, zero, suc, _+_, _/_, _%_, _^_, _≤_, _<_}
 use native.Mathlib.Nat.{div-one, zero-add, le-trans}
@@ -8,8 +8,8 @@ use native.Mathlib.Numerals.{add-one, one-add}
 use native.Mathlib.Omega.{arith}
 use lib.Arith.{lt-one, le-zero}
 use lib.Count.{ones, ones-step}
-use lib.Dec.{T, T-not, eqb}
-use lib.ListN.{length}
+use lib.Dec.{T, T-not, eqb, eqb·suc-zero}
+use lib.ListN.{length, length-map}
 use lib.Pow.{shr-shr, shr-lt}
 use Rattle.field.specs.Lists.{if_then_else_, upFrom}
 use Rattle.field.specs.Field.{Field, size}
@@ -76,6 +76,29 @@ unfolding weight vanish all
 weightless-vanish [] e = tt
 weightless-vanish (zero ∷ w) e = weightless-vanish w e
 weightless-vanish (suc c ∷ w) e = absurd (omega arith)
+
+-- ---- the places that are not 0
+
+unfoldable pub support : List ℕ → List Bool
+support w = map (λ x. not (eqb x 0)) w
+
+pub support-length : (w : List ℕ) → length (support w) ≡ length w
+unfolding support
+support-length w = length-map w (λ x. not (eqb x 0))
+
+pub support-marked : (w : List ℕ) → marked (support w) ≡ weight w
+unfolding if_then_else_ only weight support
+support-marked [] = refl
+support-marked (zero ∷ w) = support-marked w
+support-marked (suc c ∷ w) = rw (eqb·suc-zero c) (ap suc (support-marked w))
+
+pub support-agrees : (F : Field) (w : List ℕ) → Fit (size F) w → Agrees F (support w) (zeros (support w)) w
+unfolding zeros first rest support
+support-agrees F [] h = refl
+support-agrees F (zero ∷ w) h = (refl, support-agrees F w (h .1))
+support-agrees F (suc c ∷ w) h = rw (eqb·suc-zero c) (h .0, support-agrees F w (h .1))
+
+-- ---- independent columns
 
 -- where only zero vectors among those of weight m or less have zero sums, any m columns are independent
 pub light-independent : (F : Field) (checks : List (List ℕ)) (n m : ℕ)
