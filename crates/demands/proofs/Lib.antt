@@ -2,3 +2,4 @@
 pub mod Marked
 pub mod Binary
 pub mod Few
+pub mod Alike
