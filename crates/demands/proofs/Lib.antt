@@ -2,6 +2,7 @@
 pub mod Marked
 pub mod Binary
 pub mod Few
+pub mod Alike
 pub mod Matrix
 pub mod Square
 pub mod Systems
