@@ -6,4 +6,5 @@ pub mod Alike
 pub mod Matrix
 pub mod Square
 pub mod Systems
+pub mod Existence
 pub mod Parameters

@@ -3,15 +3,16 @@
 use mathlib.Core.Path.{_≡_, refl, sym, subst}
 use mathlib.Core.Logic.{inl, inr}
 use mathlib.Core.List.{List, [], _∷_, _++_, map, flatMap, List·Memᴰ·not-nil, List·Memᴰ·cases-cons}
-use Prim.Native.Nat.{ℕ, zero, suc, _<_}
+use Prim.Native.Nat.{ℕ, zero, suc, _<_, _≤_}
 use native.Mathlib.Nat.{not-suc-le-zero}
 use native.Mathlib.Omega.{arith}
-use mathlib.Core.Bool.{Bool}
-use lib.Dec.{ltb}
+use mathlib.Core.Bool.{Bool, _&&_}
+use lib.Dec.{T, ltb, leb, ltb→lt, leb→le}
 use lib.ListN.{length, getD, replicate}
 use Rattle.field.specs.Lists.{if_then_else_, upFrom}
 use Rattle.field.specs.Field.{_⊕_, size, double, times, mul, gf2, gf16, gf32}
 use Rattle.field.specs.Power.{power}
+use Rattle.field.proofs.Test.{both-left, both-right, below, at}
 use Rattle.field.proofs.Laws.{IsField}
 use Rattle.field.proofs.Fields.{gf2-field, gf16-field}
 use Rattle.field.proofs.Words.{Each}
@@ -165,3 +166,21 @@ level-square (suc (suc (suc zero))) zero h =
 level-square (suc (suc (suc zero))) (suc zero) h = square gf16 gf16-field (ones 8 ∷ []) (pending 3 2) (identity 1) (refl, refl)
 level-square (suc (suc (suc zero))) (suc (suc i)) h = absurd (omega arith)
 level-square (suc (suc (suc (suc p)))) i h = absurd (not-suc-le-zero h)
+
+-- every row is mended at some level
+mended-somewhere : (p : ℕ)
+    → T (below (planOf p .rows) (λ r. ltb 0 (mendLevel p r) && leb (mendLevel p r) (length (planOf p .levels))))
+unfolding plan1 plan2 plan3 noPlan planOf mendLevels
+mended-somewhere zero = tt
+mended-somewhere (suc zero) = tt
+mended-somewhere (suc (suc zero)) = tt
+mended-somewhere (suc (suc (suc zero))) = tt
+mended-somewhere (suc (suc (suc (suc p)))) = tt
+
+pub mend-level-bounds : (p r : ℕ) → r < planOf p .rows → (0 < mendLevel p r) × (mendLevel p r ≤ length (planOf p .levels))
+mend-level-bounds p r h =
+    let last = length (planOf p .levels) in
+    let t = at (planOf p .rows) (λ r. ltb 0 (mendLevel p r) && leb (mendLevel p r) last) (mended-somewhere p) r h in (
+      ltb→lt 0 (mendLevel p r) (both-left (ltb 0 (mendLevel p r)) (leb (mendLevel p r) last) t),
+      leb→le (mendLevel p r) last (both-right (ltb 0 (mendLevel p r)) (leb (mendLevel p r) last) t),
+    )
