@@ -3,3 +3,5 @@ pub mod Marked
 pub mod Binary
 pub mod Few
 pub mod Alike
+pub mod Codewords
+pub mod Held
