@@ -8,6 +8,7 @@ use Prim.Native.Nat.{ℕ, zero, suc, _+_, _*_, _<_, _≤_}
 use native.Mathlib.Nat.{zero-add, zero-lt-suc}
 use native.Mathlib.Omega.{arith}
 use borrow.Author.Tests.{lt-ltb}
+use lib.Arith.{le→nltb}
 use lib.Dec.{T, eqb, ltb, eqb→eq, ltb→lt, lt→ltb, nltb→le}
 use lib.ListN.{length, take, drop, getD, replicate, length-map}
 use Rattle.field.specs.Lists.{if_then_else_, upFrom}
@@ -29,7 +30,7 @@ use Rattle.repair.specs.declared.Step.the-variants.{Top}
 use Rattle.repair.proofs.Rows.{of-rows, row-end, row-length, learnedAt}
 use Rattle.repair.proofs.Levels.{checks-first, checks-suc, checks-le, sums-length}
 use Rattle.repair.proofs.Shape.{Shape, shape, plan-field}
-use Rattle.repair.proofs.Fit.{BenchFit, Sized, LentFit, lent-fit, fresh-mark, fresh-row, fresh-sums}
+use Rattle.repair.proofs.Fit.{BenchFit, Sized, LentFit, if-true, if-false, lent-fit, fresh-mark, fresh-row, fresh-sums}
 use Rattle.repair.proofs.Sound.{Sound, sound-fresh, marks-length, across-below, totalFill, row-outside, sized-put, sized-raise, row-step, level-step, row-place, put-mark, put-mark-other, put-row, put-row-other, fit-put, raise-sums, fit-raise}
 use Rattle.demands.specs.Words.{Codeword, Agree, Fit, Move, onRow, onLevel, after, walk, Quiet}
 use Rattle.demands.proofs.Alike.{alike-refl, alike-sym, alike-unmarked, agree-rows, clear-unmarked}
@@ -199,3 +200,124 @@ module _ (X : List ℕ) (b : Bench) (h : Held (b .plan) X b) where
             ∙ sym (sums-append (P .field) (checksTo P (b .level)) (L .checks) (rowAt P X r))
             ∙ ap (λ cs. sumsOf (P .field) cs (rowAt P X r)) (sym (checks-suc P (b .level) low));
       }
+
+-- the same for the plan that the bench's is
+module _ (p : ℕ) (X : List ℕ) (b : Bench) (h : Held p X b) where
+  abbrev Q : Plan
+  Q = planOf p
+
+  -- an unmarked row is the codeword's
+  pub held-unmarked : (r : ℕ) → r < Q .rows → getD (b .marks) r 0 ≡ 0 → rowAt Q (b .symbols) r ≡ rowAt Q X r
+  held-unmarked r =
+      own-plan (λ p. r < planOf p .rows → getD (b .marks) r 0 ≡ 0 → rowAt (planOf p) (b .symbols) r ≡ rowAt (planOf p) X r) h
+      (λ g. own-unmarked X b g r)
+
+  pub row-finds : (r : ℕ) → r < Q .rows
+      → rowFill b r ≡ (if dependent (Q .field) (checksTo Q (b .level)) (marksAt Q (b .marks) r) then tied else one (rowAt Q X r))
+  row-finds r =
+      own-plan (λ p. r < planOf p .rows → rowFill b r
+      ≡ (if dependent (planOf p .field) (checksTo (planOf p) (b .level)) (marksAt (planOf p) (b .marks) r) then tied else one (rowAt (planOf p) X r))) h
+      (λ g. own-row-finds X b g r)
+
+  pub level-finds : b .level < length (Q .levels)
+      → levelFill b ≡ (if dependent (Q .field) (levelOf Q (suc (b .level)) .weights) (lossy Q (b .marks)) then blocked else learned (wordSums p (b .level) X))
+  level-finds =
+      own-plan (λ p. b .level < length (planOf p .levels) → levelFill b
+      ≡ (if dependent (planOf p .field) (levelOf (planOf p) (suc (b .level)) .weights) (lossy (planOf p) (b .marks)) then blocked else learned (wordSums p (b .level) X))) h
+      (λ g. own-level-finds X b g)
+
+  pub held-put : (r : ℕ) → r < Q .rows → Held p X (putRow b r (rowAt Q X r))
+  held-put r = own-plan (λ p. r < planOf p .rows → Held p X (putRow b r (rowAt (planOf p) X r))) h (λ g. own-put X b g r)
+
+  pub held-raise : b .level < length (Q .levels) → Held p X (raise b (wordSums p (b .level) X))
+  held-raise = own-plan (λ p. b .level < length (planOf p .levels) → Held p X (raise b (wordSums p (b .level) X))) h (λ g. own-raise X b g)
+
+  -- ---- what each step makes of the bench
+
+  abbrev rowTied : ℕ → Bool
+  rowTied r = dependent (Q .field) (checksTo Q (b .level)) (marksAt Q (b .marks) r)
+
+  abbrev levelTied : Bool
+  levelTied = dependent (Q .field) (levelOf Q (suc (b .level)) .weights) (lossy Q (b .marks))
+
+  -- no row step is Clash
+  pub row-makes : (r : ℕ) → r < Q .rows → rowStep b r ≡ rowStepBy b r (if rowTied r then tied else one (rowAt Q X r))
+  row-makes r l =
+      row-step b (h .sound .fit) r (subst (λ q. r < planOf q .rows) (sym (h .plan)) l) ∙ ap (rowStepBy b r) (row-finds r l)
+
+  -- no level step is Clash
+  pub level-makes : b .level < length (Q .levels) → levelStep b ≡ levelStepBy b (if levelTied then blocked else learned (wordSums p (b .level) X))
+  level-makes low =
+      level-step b (h .sound .fit)
+      ∙ ap (λ q. if ltb (b .level) (length (planOf q .levels)) then levelStepBy b (levelFill b) else stepped b Top) (h .plan)
+      ∙ if-true (ltb (b .level) (length (Q .levels))) (levelStepBy b (levelFill b)) (stepped b Top) (lt→ltb (b .level) (length (Q .levels)) low)
+      ∙ ap (levelStepBy b) (level-finds low)
+
+  pub level-top : length (Q .levels) ≤ b .level → levelStep b ≡ stepped b Top
+  level-top high =
+      level-step b (h .sound .fit)
+      ∙ ap (λ q. if ltb (b .level) (length (planOf q .levels)) then levelStepBy b (levelFill b) else stepped b Top) (h .plan)
+      ∙ if-false (ltb (b .level) (length (Q .levels))) (levelStepBy b (levelFill b)) (stepped b Top) (le→nltb (b .level) (length (Q .levels)) high)
+
+  pub row-fills : (r : ℕ) → r < Q .rows → RowFree p (b .level) (b .marks) r → rowStep b r .bench ≡ putRow b r (rowAt Q X r)
+  unfolding rowStepBy stepped
+  row-fills r l i =
+      ap (λ (s : Stepped). s .bench) (row-makes r l ∙ ap (rowStepBy b r) (if-false (rowTied r) tied (one (rowAt Q X r)) i))
+
+  pub row-stays : (r : ℕ) → r < Q .rows → T (rowTied r) → rowStep b r .bench ≡ b
+  unfolding rowStepBy stepped
+  row-stays r l t = ap (λ (s : Stepped). s .bench) (row-makes r l ∙ ap (rowStepBy b r) (if-true (rowTied r) tied (one (rowAt Q X r)) t))
+
+  pub level-learns : b .level < length (Q .levels) → LevelFree p (b .level) (b .marks) → levelStep b .bench ≡ raise b (wordSums p (b .level) X)
+  unfolding levelStepBy stepped
+  level-learns low i =
+      ap (λ (s : Stepped). s .bench)
+      (level-makes low ∙ ap (levelStepBy b) (if-false levelTied blocked (learned (wordSums p (b .level) X)) i))
+
+  pub level-stays : b .level < length (Q .levels) → T levelTied → levelStep b .bench ≡ b
+  unfolding levelStepBy stepped
+  level-stays low t =
+      ap (λ (s : Stepped). s .bench)
+      (level-makes low ∙ ap (levelStepBy b) (if-true levelTied blocked (learned (wordSums p (b .level) X)) t))
+
+-- what a step may make of a held bench
+pub data Made (p : ℕ) (X : List ℕ) (b : Bench) : Bench → Type 0 where
+  stays : Made p X b b
+  fills : (r : ℕ) → r < planOf p .rows → RowFree p (b .level) (b .marks) r → Made p X b (putRow b r (rowAt (planOf p) X r))
+  learns : b .level < length (planOf p .levels) → LevelFree p (b .level) (b .marks) → Made p X b (raise b (wordSums p (b .level) X))
+
+module _ (p : ℕ) (X : List ℕ) where
+  pub makes : (b : Bench) → Held p X b → (m : Move) → Made p X b (after b m)
+  unfolding stepped
+  makes b h (onRow r) =
+      elim (either (ltb r (planOf p .rows))) [
+        | inl t ↦
+            let l = ltb→lt r (planOf p .rows) t in
+            elim (either (rowTied p X b h r)) [
+              | inl d ↦ subst (Made p X b) (sym (row-stays p X b h r l d)) stays
+              | inr i ↦ subst (Made p X b) (sym (row-fills p X b h r l i)) (fills r l i)
+            ]
+        | inr t ↦ subst (Made p X b) (sym (row-outside b r (subst (λ q. planOf q .rows ≤ r) (sym (h .plan)) (nltb→le r (planOf p .rows) t)))) stays
+      ]
+  makes b h onLevel =
+      elim (either (ltb (b .level) (length (planOf p .levels)))) [
+        | inl t ↦
+            let low = ltb→lt (b .level) (length (planOf p .levels)) t in
+            elim (either (levelTied p X b h)) [
+              | inl d ↦ subst (Made p X b) (sym (level-stays p X b h low d)) stays
+              | inr i ↦ subst (Made p X b) (sym (level-learns p X b h low i)) (learns low i)
+            ]
+        | inr t ↦ subst (Made p X b) (sym (ap (λ (s : Stepped). s .bench) (level-top p X b h (nltb→le (b .level) (length (planOf p .levels)) t)))) stays
+      ]
+
+  pub held-made : (b c : Bench) → Held p X b → Made p X b c → Held p X c
+  held-made b c h stays = h
+  held-made b c h (fills r l i) = held-put p X b h r l
+  held-made b c h (learns low i) = held-raise p X b h low
+
+  pub held-after : (b : Bench) → Held p X b → (m : Move) → Held p X (after b m)
+  held-after b h m = held-made b (after b m) h (makes b h m)
+
+  pub held-walk : (ms : List Move) (b : Bench) → Held p X b → Held p X (walk ms b)
+  held-walk [] b h = h
+  held-walk (m ∷ ms) b h = held-walk ms (after b m) (held-after b h m)

@@ -1,6 +1,6 @@
 -- What is not refused: the tests in memory taken apart and put together, lent stripes and benches that are fit, fresh benches. Assumes nothing.
 use mathlib.Core.Path.{_≡_, refl, sym, subst}
-use mathlib.Core.Bool.{Bool, true, false, _&&_}
+use mathlib.Core.Bool.{Bool, true, false, not, _&&_}
 use mathlib.Core.List.{List, [], _∷_}
 use Prim.Native.Nat.{ℕ, zero, suc, _*_, _-_, _^_, _<_, _≤_, zero-le}
 use native.Mathlib.Nat.{suc-ne-zero, zero-lt-suc, le-of-suc-le-suc}
@@ -21,6 +21,16 @@ use Rattle.repair.specs.Steps.{fresh}
 use Rattle.repair.specs.declared.Bench.{Bench}
 use Rattle.repair.proofs.Rows.{row-end, row-append}
 use Rattle.repair.proofs.Shape.{shape}
+
+pub if-true : {A : Type 0} (b : Bool) (x y : A) → T b → (if b then x else y) ≡ x
+unfolding if_then_else_
+if-true true x y t = refl
+if-true false x y t = absurd t
+
+pub if-false : {A : Type 0} (b : Bool) (x y : A) → T (not b) → (if b then x else y) ≡ y
+unfolding if_then_else_
+if-false true x y t = absurd t
+if-false false x y t = refl
 
 -- ---- the order in memory
 
