@@ -4,7 +4,7 @@ use mathlib.Core.Path.{_≡_, refl, sym, ap, ap₂, _∙_, subst, subst₂}
 use mathlib.Core.Logic.{_≢_, inl, inr}
 use mathlib.Core.Bool.{Bool, true, false, not}
 use mathlib.Core.List.{List, [], _∷_, _++_, map, List·Memᴰ·head, List·Memᴰ·tail}
-use Prim.Native.Nat.{ℕ, zero, suc, _+_, _*_, _<_, _≤_}
+use Prim.Native.Nat.{ℕ, zero, suc, _+_, _*_, _^_, _<_, _≤_}
 use native.Mathlib.Nat.{zero-add, zero-lt-suc}
 use native.Mathlib.Omega.{arith}
 use borrow.Author.Tests.{lt-ltb}
@@ -21,7 +21,7 @@ use Rattle.linear.proofs.Tests.{In, either}
 use Rattle.linear.proofs.Choices.{areSymbols, Alike, Inside}
 use Rattle.linear.proofs.Vectors.{sums-append}
 use Rattle.linear.proofs.Filling.{Independent, fill-true}
-use Rattle.repair.specs.Plan.{Plan, Level, noLevel, planOf, levelOf, checksTo, rowAt, marksAt}
+use Rattle.repair.specs.Plan.{Plan, Level, noLevel, known, planOf, levelOf, checksTo, rowAt, marksAt}
 use Rattle.repair.specs.Refusal.{allBelow, room, sumsAt}
 use Rattle.repair.specs.Steps.{fresh, stepped, rowFill, putRow, rowStepBy, rowStep, lossy, across, Learned, blocked, failing, learned, join, joined, levelFill, raise, levelStepBy, levelStep}
 use Rattle.repair.specs.declared.Bench.{Bench}
@@ -205,6 +205,18 @@ module _ (X : List ℕ) (b : Bench) (h : Held (b .plan) X b) where
 module _ (p : ℕ) (X : List ℕ) (b : Bench) (h : Held p X b) where
   abbrev Q : Plan
   Q = planOf p
+
+  pub held-known : T (known p)
+  held-known = subst (λ q. T (known q)) (h .plan) (h .sound .fit .plan-known)
+
+  pub held-level : b .level ≤ length (Q .levels)
+  held-level = subst (λ q. b .level ≤ length (planOf q .levels)) (h .plan) (h .sound .fit .level-le)
+
+  pub held-mark-lt : (r : ℕ) → r < Q .rows → getD (b .marks) r 0 < 2 ^ Q .columns
+  held-mark-lt r = own-plan (λ p. r < planOf p .rows → getD (b .marks) r 0 < 2 ^ planOf p .columns) h (λ g. g .sound .fit .mark-lt r)
+
+  pub held-words : Q .rows ≤ length (b .marks)
+  held-words = omega (arith, shape p held-known .rows-le, h .sound .sized .marks)
 
   -- an unmarked row is the codeword's
   pub held-unmarked : (r : ℕ) → r < Q .rows → getD (b .marks) r 0 ≡ 0 → rowAt Q (b .symbols) r ≡ rowAt Q X r

@@ -5,3 +5,4 @@ pub mod Few
 pub mod Alike
 pub mod Codewords
 pub mod Held
+pub mod Order
