@@ -3,8 +3,12 @@ pub mod Marked
 pub mod Binary
 pub mod Few
 pub mod Alike
+pub mod Codewords
+pub mod Held
+pub mod Order
 pub mod Matrix
 pub mod Square
 pub mod Systems
+pub mod Build
 pub mod Existence
 pub mod Parameters

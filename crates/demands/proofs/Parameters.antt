@@ -2,12 +2,12 @@
 use mathlib.Core.Path.{_≡_, refl, sym, ap, ap₂, _∙_, subst}
 use mathlib.Core.Bool.{Bool, not, true, false}
 use mathlib.Core.Logic.{inl, inr}
-use mathlib.Core.List.{List, [], _∷_, _++_, map, flatMap, append-nil}
+use mathlib.Core.List.{List, [], _∷_, _++_, map, flatMap}
 use Prim.Native.Nat.{ℕ, zero, suc, _<_}
 use native.Mathlib.Nat.{not-suc-le-zero, zero-lt-suc}
 use native.Mathlib.Omega.{arith}
 use lib.Dec.{T, eqb, ltb, ltb→lt}
-use lib.ListN.{length, take, getD, replicate}
+use lib.ListN.{length, replicate}
 use Rattle.field.specs.Lists.{if_then_else_, upFrom}
 use Rattle.field.specs.Field.{_⊕_, Field, size, double, times, mul, dot, gf2, gf16, gf32}
 use Rattle.field.specs.Power.{power}
@@ -19,7 +19,7 @@ use Rattle.linear.specs.Fill.{sumsOf}
 use Rattle.linear.proofs.Tests.{either}
 use Rattle.linear.proofs.Choices.{Agrees}
 use Rattle.linear.proofs.Filling.{no-dependency}
-use Rattle.repair.specs.Plan.{Plan, Level, ones, bitChecks, wordOf, locations1, plan1, locations2, powers2, plan2, locations3, powers3, plan3, noPlan, known, planOf}
+use Rattle.repair.specs.Plan.{Plan, ones, bitChecks, wordOf, locations1, plan1, locations2, powers2, plan2, locations3, powers3, plan3, noPlan, known, planOf}
 use Rattle.repair.specs.Plan.{noLevel, levelOf, checksTo, rowAt, marksAt, marksOf}
 use Rattle.repair.specs.Refusal.{allBelow}
 use Rattle.repair.specs.Steps.{across}
@@ -31,6 +31,7 @@ use Rattle.demands.specs.Words.{Codeword, counts, rowDistance, distance}
 use Rattle.demands.proofs.Marked.{marked, support, support-length, support-marked, support-agrees}
 use Rattle.demands.proofs.Few.{count, few-independent}
 use Rattle.demands.proofs.Square.{symbols-fit}
+use Rattle.demands.proofs.Build.{first-checks}
 
 -- ---- statements
 
@@ -90,14 +91,6 @@ distance-met =
     (twice 16 15 6 0xfb51, record { long = refl; symbols = tt; holds = tt }, refl)
 
 -- ---- no word is lighter
-
-first-checks : (P : Plan) → checksTo P 1 ≡ levelOf P 1 .checks
-unfolding flatMap noLevel levelOf checksTo
-first-checks P = go (P .levels)
-  where
-    go : (levels : List Level) → flatMap (λ (L : Level). L .checks) (take 1 levels) ≡ getD levels 0 noLevel .checks
-    go [] = refl
-    go (L ∷ levels) = append-nil (L .checks)
 
 -- d0 is the first of the published mark numbers
 row-count : (p : ℕ) → rowDistance p ≡ count p 0 .0
