@@ -53,7 +53,7 @@ append-same (x ∷ a) [] e l = absurd (omega arith)
 append-same (x ∷ a) (y ∷ c) e l = let r = append-same a c (ap rest e) (suc-inj l) in (ap₂ _∷_ (ap first e) (r .0), r .1)
 
 module _ (q : ℕ → Bool) where
-  all-map : {A : Type 0} (f : A → ℕ) → ((x : A) → T (q (f x))) → (l : List A) → T (all q (map f l))
+  pub all-map : {A : Type 0} (f : A → ℕ) → ((x : A) → T (q (f x))) → (l : List A) → T (all q (map f l))
   unfolding all
   all-map f h [] = tt
   all-map f h (x ∷ l) = both (q (f x)) (all q (map f l)) (h x) (all-map f h l)
@@ -219,8 +219,11 @@ module _ (p : ℕ) (K : IsField (planOf p .field)) (D : ℕ → List ℕ) where
   }
   build (suc k) i e S X target done =
       let low : suc i < length (P .levels) = omega arith in
-      let f = fill-rows (suc (suc i)) (more i low S X target done) (more-target i low S X target done) (λ r h l. (X r, still i low S X target done r
-      (both (ltb r (P .rows)) (leb (mendLevel p r) (suc i)) (lt→ltb r (P .rows) h) (le→leb (mendLevel p r) (suc i) (omega arith))))) in
+      let f = fill-rows (suc (suc i)) (more i low S X target done) (more-target i low S X target done) (λ r h l. (
+        X r,
+        still i low S X target done r
+            (both (ltb r (P .rows)) (leb (mendLevel p r) (suc i)) (lt→ltb r (P .rows) h) (le→leb (mendLevel p r) (suc i) (omega arith))),
+      )) in
       back i low S X target done (build k (suc i) (omega arith) (more i low S X target done) (f .0) (more-target i low S X target done) (f .1))
 
   -- all rows, with zero sums at level 1

@@ -124,6 +124,6 @@ module _ (p : ℕ) (stripe : List ℕ) (fit : Fit p stripe (planOf p .checkPlace
       holds = both (rowsHold P X) (all (totalsHold P X) (drop 1 (P .levels))) rows-hold totals-hold;
     },
     rows-agree p (P .checkPlaces) X stripe (λ r h.
-    let places = marksAt P (P .checkPlaces) r in
-    rw (X-row r h) (alike-sym places (rowAt P stripe r) (rows .word r) (agrees-alike F places (rowAt P stripe r) (rows .word r) (rows .rows r h .agrees)))),
+        let places = marksAt P (P .checkPlaces) r in
+        rw (X-row r h) (alike-sym places (rowAt P stripe r) (rows .word r) (agrees-alike F places (rowAt P stripe r) (rows .word r) (rows .rows r h .agrees)))),
   )

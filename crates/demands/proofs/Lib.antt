@@ -12,3 +12,4 @@ pub mod Systems
 pub mod Build
 pub mod Existence
 pub mod Parameters
+pub mod Distance

@@ -2,13 +2,13 @@
 use mathlib.Core.Path.{_≡_, refl, sym, ap, ap₂, _∙_, subst, fun-ext}
 use mathlib.Core.Bool.{Bool, true, false, not}
 use mathlib.Core.List.{List, [], _∷_, map}
-use Prim.Native.Nat.{ℕ, zero, suc, _+_, _/_, _%_, _^_, _≤_, _<_}
-use native.Mathlib.Nat.{div-one, zero-add, le-trans, le-of-eq}
+use Prim.Native.Nat.{ℕ, zero, suc, _+_, _*_, _/_, _%_, _^_, _≤_, _<_}
+use native.Mathlib.Nat.{div-one, zero-add, le-trans, le-of-eq, pow-suc}
 use native.Mathlib.Numerals.{add-one, one-add}
 use native.Mathlib.Omega.{arith}
-use lib.Arith.{lt-one, le-zero}
+use lib.Arith.{lt-one, le-zero, digits-div, digits-mod}
 use lib.Count.{ones, ones-step}
-use lib.Dec.{T, T-not, eqb, eqb·suc-zero}
+use lib.Dec.{T, T-not, eqb, eqb·suc-zero, lit<}
 use lib.ListN.{length, length-map}
 use lib.Pow.{shr-shr, shr-lt}
 use Rattle.field.specs.Lists.{if_then_else_, upFrom}
@@ -51,6 +51,28 @@ marked-bits (suc n) w h =
   where
     front : (b : ℕ) → b < 2 → (ms : List Bool) → marked (eqb b 1 ∷ ms) ≡ b + marked ms
     front b l ms = of-bits (λ b. marked (eqb b 1 ∷ ms) ≡ b + marked ms) (sym (zero-add (marked ms))) (sym (one-add (marked ms))) b l
+
+-- the word that has these marks
+unfoldable pub wordWith : List Bool → ℕ
+wordWith [] = 0
+wordWith (m ∷ ms) = wordWith ms * 2 + (if m then 1 else 0)
+
+pub word-lt : (ms : List Bool) → wordWith ms < 2 ^ length ms
+unfolding if_then_else_ wordWith
+word-lt [] = omega arith
+word-lt (true ∷ ms) = omega (arith, word-lt ms, pow-suc 2 (length ms))
+word-lt (false ∷ ms) = omega (arith, word-lt ms, pow-suc 2 (length ms))
+
+digits : (b : ℕ) → b < 2 → (ms : List Bool) → bitsOf (length ms) (wordWith ms) ≡ ms
+    → eqb ((wordWith ms * 2 + b) % 2) 1 ∷ bitsOf (length ms) ((wordWith ms * 2 + b) / 2) ≡ eqb b 1 ∷ ms
+digits b l ms e =
+    ap₂ _∷_ (ap (λ x. eqb x 1) (digits-mod (wordWith ms) l)) (ap (bitsOf (length ms)) (digits-div (wordWith ms) l) ∙ e)
+
+pub word-bits : (ms : List Bool) → bitsOf (length ms) (wordWith ms) ≡ ms
+unfolding if_then_else_ upFrom bitsOf wordWith
+word-bits [] = refl
+word-bits (true ∷ ms) = bits-step (length ms) (wordWith ms * 2 + 1) ∙ digits 1 (lit< tt) ms (word-bits ms)
+word-bits (false ∷ ms) = bits-step (length ms) (wordWith ms * 2 + 0) ∙ digits 0 (lit< tt) ms (word-bits ms)
 
 -- ---- vectors that are zero where unmarked
 

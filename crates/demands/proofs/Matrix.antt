@@ -141,7 +141,7 @@ module _ (F : Field) (K : IsField F) where
 
   -- ---- sums of entries at the marks
 
-  dot-vanish : (c u : List ℕ) → T (vanish u) → dot F c u ≡ 0
+  pub dot-vanish : (c u : List ℕ) → T (vanish u) → dot F c u ≡ 0
   unfolding all vanish dot
   dot-vanish [] u t = refl
   dot-vanish (k ∷ c) [] t = refl

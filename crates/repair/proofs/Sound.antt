@@ -35,7 +35,7 @@ use Rattle.repair.proofs.Shape.{shape, plan-field}
 
 -- ---- rows and sums of symbols
 
-unmarked-below : (q : ℕ) (ms : List Bool) (xs : List ℕ) → T (allBelow q xs) → T (unmarkedBelow q ms xs)
+pub unmarked-below : (q : ℕ) (ms : List Bool) (xs : List ℕ) → T (allBelow q xs) → T (unmarkedBelow q ms xs)
 unfolding allBelow all unmarkedBelow
 unmarked-below q [] xs t = tt
 unmarked-below q (m ∷ ms) [] t = tt
