@@ -24,7 +24,7 @@ use Rattle.linear.proofs.Filling.{Filling}
 use Rattle.repair.specs.Plan.{Plan, Level, noLevel, planOf, levelOf, checksTo, marksAt}
 use Rattle.repair.proofs.Levels.{checks-suc}
 use Rattle.demands.proofs.Alike.{alike-at}
-use Rattle.demands.proofs.Matrix.{sums-length}
+use Rattle.demands.proofs.Codewords.{sums-count}
 use Rattle.demands.proofs.Square.{Square, zeros-symbols, zeros-length}
 use Rattle.demands.proofs.Systems.{mendLevel, pending, RowSquare, LevelSquare, row-square, level-square, mend-level-bounds}
 
@@ -52,17 +52,17 @@ append-same [] (y ∷ c) e l = absurd (omega arith)
 append-same (x ∷ a) [] e l = absurd (omega arith)
 append-same (x ∷ a) (y ∷ c) e l = let r = append-same a c (ap rest e) (suc-inj l) in (ap₂ _∷_ (ap first e) (r .0), r .1)
 
-module _ (q : ℕ → Bool) where
-  pub all-map : {A : Type 0} (f : A → ℕ) → ((x : A) → T (q (f x))) → (l : List A) → T (all q (map f l))
-  unfolding all
-  all-map f h [] = tt
-  all-map f h (x ∷ l) = both (q (f x)) (all q (map f l)) (h x) (all-map f h l)
+pub all-map : {A B : Type 0} (q : B → Bool) (f : A → B) → ((x : A) → T (q (f x))) → (l : List A) → T (all q (map f l))
+unfolding all
+all-map q f h [] = tt
+all-map q f h (x ∷ l) = both (q (f x)) (all q (map f l)) (h x) (all-map q f h l)
 
-  all-getD : T (q 0) → (l : List ℕ) → T (all q l) → (i : ℕ) → T (q (getD l i 0))
-  unfolding all
-  all-getD z [] t i = z
-  all-getD z (x ∷ l) t zero = both-left (q x) (all q l) t
-  all-getD z (x ∷ l) t (suc i) = all-getD z l (both-right (q x) (all q l) t) i
+-- what all pass, and the default too, passes wherever it is read
+all-getD : {A : Type 0} (q : A → Bool) (d : A) → T (q d) → (l : List A) → T (all q l) → (i : ℕ) → T (q (getD l i d))
+unfolding all
+all-getD q d z [] t i = z
+all-getD q d z (x ∷ l) t zero = both-left (q x) (all q l) t
+all-getD q d z (x ∷ l) t (suc i) = all-getD q d z l (both-right (q x) (all q l) t) i
 
 map-in : {A : Type 0} (f g : A → ℕ) (l : List A) → map f l ≡ map g l → {x : A} → In x l → f x ≡ g x
 unfolding first rest
@@ -79,39 +79,47 @@ module _ (p : ℕ) (K : IsField (planOf p .field)) (D : ℕ → List ℕ) where
   abbrev symbol : ℕ → Bool
   symbol x = ltb x (size F)
 
-  zero-symbol : T (symbol 0)
-  zero-symbol = lt→ltb 0 (size F) (size-pos F K)
+  abbrev places : ℕ → List Bool
+  places r = marksAt P (P .checkPlaces) r
 
   -- x is row r's data with its check places filled, and its sums of levels 1 to t are s
   abbrev RowFilled : (t r : ℕ) (s x : List ℕ) → Type 0
-  RowFilled t r s x = Filling F (checksTo P t) s (marksAt P (P .checkPlaces) r) (D r) x
+  RowFilled t r s x = Filling F (checksTo P t) s (places r) (D r) x
 
-  -- row r is mended at level t or before
-  abbrev mendedBy : ℕ → ℕ → Bool
-  mendedBy t r = ltb r (P .rows) && leb (mendLevel p r) t
-
-  mended-row : (t r : ℕ) → T (mendedBy t r) → r < P .rows
-  mended-row t r m = ltb→lt r (P .rows) (both-left (ltb r (P .rows)) (leb (mendLevel p r) t) m)
-
-  mended-level : (t r : ℕ) → T (mendedBy t r) → mendLevel p r ≤ t
-  mended-level t r m = leb→le (mendLevel p r) t (both-right (ltb r (P .rows)) (leb (mendLevel p r) t) m)
-
-  -- S has sums of levels 1 to t for every row
-  record Target (t : ℕ) (S : ℕ → List ℕ) : Type 0 where
+  -- sums of levels 1 to t for every row, and the rows that are mended by then, which have them
+  record Stage (t : ℕ) (S : ℕ → List ℕ) : Type 0 where
     long : (r : ℕ) → r < P .rows → length (S r) ≡ length (checksTo P t)
     symbols : (r : ℕ) → r < P .rows → T (areSymbols F (S r))
+    word : ℕ → List ℕ
+    done : (r : ℕ) → r < P .rows → mendLevel p r ≤ t → RowFilled t r (S r) (word r)
 
-  -- the rows mended so far, and those that are mended at level t
-  fill-rows : (t : ℕ) (S : ℕ → List ℕ) → Target t S → ((r : ℕ) → r < P .rows → mendLevel p r < t → (x : List ℕ) × RowFilled t r (S r) x)
-      → (X : ℕ → List ℕ) × ((r : ℕ) → T (mendedBy t r) → RowFilled t r (S r) (X r))
-  fill-rows t S target before = choose (mendedBy t) (λ r. RowFilled t r (S r)) (λ r m.
-      let h : r < P .rows = mended-row t r m in
-      elim (eq-or-lt-of-le (mended-level t r m)) [
-        | inl e ↦ subst (λ u. Square F (checksTo P u) (marksAt P (P .checkPlaces) r)) e (row-square p r h) .meets (S r) (D r) (target .long r h) (target .symbols r h)
-        | inr l ↦ before r h l
-      ])
+  -- with the rows mended before, those mended at level t
+  stage : (t : ℕ) (S : ℕ → List ℕ) → ((r : ℕ) → r < P .rows → length (S r) ≡ length (checksTo P t)) → ((r : ℕ) → r < P .rows → T (areSymbols F (S r)))
+      → ((r : ℕ) → r < P .rows → mendLevel p r < t → (x : List ℕ) × RowFilled t r (S r) x) → Stage t S
+  stage t S long symbols before = record {
+    long = long;
+    symbols = symbols;
+    word = chosen .0;
+    done = λ r h l. chosen .1 r (both (inside r) (due r) (lt→ltb r (P .rows) h) (le→leb (mendLevel p r) t l));
+  }
+    where
+      inside : ℕ → Bool
+      inside r = ltb r (P .rows)
 
-  -- ---- a level is learned
+      due : ℕ → Bool
+      due r = leb (mendLevel p r) t
+
+      row : (r : ℕ) → r < P .rows → mendLevel p r ≤ t → (x : List ℕ) × RowFilled t r (S r) x
+      row r h l =
+          elim (eq-or-lt-of-le l) [
+            | inl e ↦ subst (λ u. Square F (checksTo P u) (places r)) e (row-square p r h) .meets (S r) (D r) (long r h) (symbols r h)
+            | inr k ↦ before r h k
+          ]
+
+      chosen : (X : ℕ → List ℕ) × ((r : ℕ) → T (inside r && due r) → RowFilled t r (S r) (X r))
+      chosen =
+          choose (λ r. inside r && due r) (λ r. RowFilled t r (S r)) (λ r m.
+          row r (ltb→lt r (P .rows) (both-left (inside r) (due r) m)) (leb→le (mendLevel p r) t (both-right (inside r) (due r) m)))
 
   -- the rows' sums under a check
   abbrev rowSums : (ℕ → List ℕ) → List ℕ → List ℕ
@@ -120,15 +128,16 @@ module _ (p : ℕ) (K : IsField (planOf p .field)) (D : ℕ → List ℕ) where
   rows-count : (X : ℕ → List ℕ) (c : List ℕ) → length (rowSums X c) ≡ P .rows
   rows-count X c = length-map (upFrom 0 (P .rows)) (λ r. dot F c (X r)) ∙ length-up 0 (P .rows)
 
-  -- rows that have the sums S of levels 1 to t, and zero totals at the levels above
+  -- all rows, with the sums S of levels 1 to t and zero totals at the levels above
   pub record Built (t : ℕ) (S : ℕ → List ℕ) : Type 0 where
     pub word : ℕ → List ℕ
     pub rows : (r : ℕ) → r < P .rows → RowFilled t r (S r) (word r)
     pub totals : (u : ℕ) → t ≤ u → u < length (P .levels) → {c : List ℕ} → In c (levelOf P (suc u) .checks)
         → T (vanish (sumsOf F (levelOf P (suc u) .weights) (rowSums word c)))
 
-  module _ (i : ℕ) (low : suc i < length (P .levels)) (S X : ℕ → List ℕ) (target : Target (suc i) S)
-      (done : (r : ℕ) → T (mendedBy (suc i) r) → RowFilled (suc i) r (S r) (X r)) where
+  -- ---- a level is learned
+
+  module _ (i : ℕ) (low : suc i < length (P .levels)) (S : ℕ → List ℕ) (s : Stage (suc i) S) where
     abbrev t : ℕ
     t = suc i
 
@@ -138,98 +147,99 @@ module _ (p : ℕ) (K : IsField (planOf p .field)) (D : ℕ → List ℕ) where
     sums-more : (x : List ℕ) → sumsOf F (checksTo P (suc t)) x ≡ sumsOf F (checksTo P t) x ++ sumsOf F (L .checks) x
     sums-more x = ap (λ cs. sumsOf F cs x) (checks-suc P t low) ∙ sums-append F (checksTo P t) (L .checks) x
 
-    -- the sums under a check that make its totals zero
-    learn : (c : List ℕ) → (y : List ℕ) × Filling F (L .weights) (zeros (L .weights)) (pending p t) (rowSums X c) y
-    learn c = level-square p i low .meets (zeros (L .weights)) (rowSums X c) (zeros-length (L .weights)) (zeros-symbols F K (L .weights))
+    -- the rows' sums under a check, filled so that the totals are zero
+    filled : (c : List ℕ) → (y : List ℕ) × Filling F (L .weights) (zeros (L .weights)) (pending p t) (rowSums (s .word) c) y
+    filled c =
+        level-square p i low .meets (zeros (L .weights)) (rowSums (s .word) c) (zeros-length (L .weights)) (zeros-symbols F K (L .weights))
 
-    learned-length : (c : List ℕ) → length (learn c .0) ≡ P .rows
-    learned-length c = agrees-length F (pending p t) (rowSums X c) (learn c .0) (learn c .1 .agrees) ∙ length-map (upFrom 0 (P .rows)) _ ∙ length-up 0 (P .rows)
+    abbrev learn : List ℕ → List ℕ
+    learn c = filled c .0
 
-    -- the sums of the rows mended so far are their own
-    learned-own : (c : List ℕ) (r : ℕ) → T (mendedBy t r) → dot F c (X r) ≡ getD (learn c .0) r 0
-    learned-own c r m =
-        let h = mended-row t r m in
-        sym (getD-map-below (λ r. dot F c (X r)) (P .rows) r 0 h)
-        ∙ alike-at (pending p t) (rowSums X c) (learn c .0) (agrees-alike F (pending p t) (rowSums X c) (learn c .0) (learn c .1 .agrees)) r
-        (getD-map-below (λ r. ltb t (mendLevel p r)) (P .rows) r true h ∙ le-ltb t (mendLevel p r) (mended-level t r m))
+    learned-length : (c : List ℕ) → length (learn c) ≡ P .rows
+    learned-length c =
+        agrees-length F (pending p t) (rowSums (s .word) c) (learn c) (filled c .1 .agrees)
+        ∙ length-map (upFrom 0 (P .rows)) (λ r. ltb t (mendLevel p r)) ∙ length-up 0 (P .rows)
 
-    learned-symbol : (c : List ℕ) (r : ℕ) → T (ltb (getD (learn c .0) r 0) (size F))
+    -- a mended row's sums are its own
+    learned-own : (c : List ℕ) (r : ℕ) → r < P .rows → mendLevel p r ≤ t → dot F c (s .word r) ≡ getD (learn c) r 0
+    learned-own c r h l =
+        sym (getD-map-below (λ r. dot F c (s .word r)) (P .rows) r 0 h)
+        ∙ alike-at (pending p t) (rowSums (s .word) c) (learn c) (agrees-alike F (pending p t) (rowSums (s .word) c) (learn c) (filled c .1 .agrees)) r
+        (getD-map-below (λ r. ltb t (mendLevel p r)) (P .rows) r true h ∙ le-ltb t (mendLevel p r) l)
+
+    learned-symbol : (c : List ℕ) (r : ℕ) → T (symbol (getD (learn c) r 0))
     learned-symbol c r =
-        all-getD symbol (zero-symbol) (learn c .0)
-        (agrees-symbols F (pending p t) (rowSums X c) (learn c .0) (all-map symbol (λ r. dot F c (X r)) (λ r. lt→ltb _ (size F) (dot-lt F K c (X r))) (upFrom 0 (P .rows))) (learn c .1 .agrees)) r
+        let own = all-map symbol (λ r. dot F c (s .word r)) (λ r. lt→ltb (dot F c (s .word r)) (size F) (dot-lt F K c (s .word r))) (upFrom 0 (P .rows)) in
+        all-getD symbol 0 (lt→ltb 0 (size F) (size-pos F K)) (learn c)
+        (agrees-symbols F (pending p t) (rowSums (s .word) c) (learn c) own (filled c .1 .agrees)) r
+
+    -- row r's new sums, and all its sums
+    abbrev new : ℕ → List ℕ
+    new r = map (λ c. getD (learn c) r 0) (L .checks)
 
     abbrev more : ℕ → List ℕ
-    more r = S r ++ map (λ c. getD (learn c .0) r 0) (L .checks)
+    more r = S r ++ new r
 
-    more-target : Target (suc t) more
-    more-target = record {
-      long = λ r h.
-          length-append (S r) (map (λ c. getD (learn c .0) r 0) (L .checks))
-          ∙ ap₂ _+_ (target .long r h) (length-map (L .checks) (λ c. getD (learn c .0) r 0))
-          ∙ sym (ap length (checks-suc P t low) ∙ length-append (checksTo P t) (L .checks));
-      symbols = λ r h.
-          all-append symbol (S r) (map (λ c. getD (learn c .0) r 0) (L .checks)) (target .symbols r h)
-          (all-map symbol (λ c. getD (learn c .0) r 0) (λ c. learned-symbol c r) (L .checks));
-    }
-
-    still : (r : ℕ) → T (mendedBy t r) → RowFilled (suc t) r (more r) (X r)
+    next : Stage (suc t) more
     unfolding sumsOf
-    still r m = record {
-      agrees = done r m .agrees;
-      meets =
-          sums-more (X r) ∙ ap₂ _++_ (done r m .meets) (ap (λ f. map f (L .checks)) (fun-ext (λ c. learned-own c r m)));
-    }
+    next =
+        stage (suc t) more
+        (λ r h.
+        length-append (S r) (new r) ∙ ap₂ _+_ (s .long r h) (length-map (L .checks) (λ c. getD (learn c) r 0))
+        ∙ sym (ap length (checks-suc P t low) ∙ length-append (checksTo P t) (L .checks)))
+        (λ r h. all-append symbol (S r) (new r) (s .symbols r h) (all-map symbol (λ c. getD (learn c) r 0) (λ c. learned-symbol c r) (L .checks)))
+        (λ r h l.
+        let k : mendLevel p r ≤ t = omega arith in (
+          s .word r,
+          record {
+            agrees = s .done r h k .agrees;
+            meets =
+                sums-more (s .word r)
+                ∙ ap₂ _++_ (s .done r h k .meets) (ap (λ f. map f (L .checks)) (fun-ext (λ c. learned-own c r h k)));
+          },
+        ))
 
-    -- a word with the learned sums has zero totals
+    -- rows that have the learned sums have zero totals at the level
     back : Built (suc t) more → Built t S
     unfolding sumsOf
-    back b = record { word = b .word; rows = λ r h. record { agrees = b .rows r h .agrees; meets = split r h .0 }; totals = totals-from }
+    back b = record { word = b .word; rows = λ r h. record { agrees = b .rows r h .agrees; meets = split r h .0 }; totals = totals }
       where
-        split : (r : ℕ) → r < P .rows → (sumsOf F (checksTo P t) (b .word r) ≡ S r) × (sumsOf F (L .checks) (b .word r) ≡ map (λ c. getD (learn c .0) r 0) (L .checks))
+        split : (r : ℕ) → r < P .rows → (sumsOf F (checksTo P t) (b .word r) ≡ S r) × (sumsOf F (L .checks) (b .word r) ≡ new r)
         split r h =
             append-same (sumsOf F (checksTo P t) (b .word r)) (S r) (sym (sums-more (b .word r)) ∙ b .rows r h .meets)
-            (sums-length F (checksTo P t) (b .word r) ∙ sym (target .long r h))
+            (sums-count F (checksTo P t) (b .word r) ∙ sym (s .long r h))
 
-        own : {c : List ℕ} → In c (L .checks) → rowSums (b .word) c ≡ learn c .0
+        own : {c : List ℕ} → In c (L .checks) → rowSums (b .word) c ≡ learn c
         own {c} m =
-            ext-getD 0 (rowSums (b .word) c) (learn c .0) (rows-count (b .word) c ∙ sym (learned-length c)) (λ r l.
+            ext-getD 0 (rowSums (b .word) c) (learn c) (rows-count (b .word) c ∙ sym (learned-length c)) (λ r l.
             let h : r < P .rows = omega (arith, rows-count (b .word) c) in
             getD-map-below (λ r. dot F c (b .word r)) (P .rows) r 0 h
-            ∙ map-in (λ c. dot F c (b .word r)) (λ c. getD (learn c .0) r 0) (L .checks) (split r h .1) m)
+            ∙ map-in (λ c. dot F c (b .word r)) (λ c. getD (learn c) r 0) (L .checks) (split r h .1) m)
 
-        totals-from : (u : ℕ) → t ≤ u → u < length (P .levels) → {c : List ℕ} → In c (levelOf P (suc u) .checks)
+        totals : (u : ℕ) → t ≤ u → u < length (P .levels) → {c : List ℕ} → In c (levelOf P (suc u) .checks)
             → T (vanish (sumsOf F (levelOf P (suc u) .weights) (rowSums (b .word) c)))
-        totals-from u l h {c} m =
+        totals u l h {c} m =
             elim (eq-or-lt-of-le l) [
               | inl e ↦
-                  let n : In c (L .checks) = subst (λ u. In c (levelOf P (suc u) .checks)) (sym e) m in
                   subst (λ u. T (vanish (sumsOf F (levelOf P (suc u) .weights) (rowSums (b .word) c)))) e
-                  (rw (own n, learn c .1 .meets) (zeros-vanish (L .weights)))
+                  (rw (own (subst (λ u. In c (levelOf P (suc u) .checks)) (sym e) m), filled c .1 .meets) (zeros-vanish (L .weights)))
               | inr k ↦ b .totals u k h m
             ]
 
   -- ---- level by level
 
-  build : (k i : ℕ) → suc i + k ≡ length (P .levels) → (S X : ℕ → List ℕ) → Target (suc i) S
-      → ((r : ℕ) → T (mendedBy (suc i) r) → RowFilled (suc i) r (S r) (X r)) → Built (suc i) S
-  build zero i e S X target done = record {
-    word = X;
-    rows = λ r h. done r (both (ltb r (P .rows)) (leb (mendLevel p r) (suc i)) (lt→ltb r (P .rows) h) (le→leb (mendLevel p r) (suc i) (omega (arith, mend-level-bounds p r h .1))));
+  build : (k i : ℕ) → suc i + k ≡ length (P .levels) → (S : ℕ → List ℕ) → Stage (suc i) S → Built (suc i) S
+  build zero i e S s = record {
+    word = s .word;
+    rows = λ r h. s .done r h (omega (arith, mend-level-bounds p r h .1));
     totals = λ u l h m. absurd (omega arith);
   }
-  build (suc k) i e S X target done =
-      let low : suc i < length (P .levels) = omega arith in
-      let f = fill-rows (suc (suc i)) (more i low S X target done) (more-target i low S X target done) (λ r h l. (
-        X r,
-        still i low S X target done r
-            (both (ltb r (P .rows)) (leb (mendLevel p r) (suc i)) (lt→ltb r (P .rows) h) (le→leb (mendLevel p r) (suc i) (omega arith))),
-      )) in
-      back i low S X target done (build k (suc i) (omega arith) (more i low S X target done) (f .0) (more-target i low S X target done) (f .1))
+  build (suc k) i e S s =
+      let low : suc i < length (P .levels) = omega arith in back i low S s (build k (suc i) (omega arith) (more i low S s) (next i low S s))
 
-  -- all rows, with zero sums at level 1
+  -- from zero sums at level 1
   pub built : 0 < length (P .levels) → Built 1 (λ r. zeros (checksTo P 1))
   built h =
-      let zero-sums : ℕ → List ℕ = λ r. zeros (checksTo P 1) in
-      let target : Target 1 zero-sums = record { long = λ r l. zeros-length (checksTo P 1); symbols = λ r l. zeros-symbols F K (checksTo P 1) } in
-      let f = fill-rows 1 zero-sums target (λ r l m. absurd (omega (arith, mend-level-bounds p r l .0))) in
-      build (pred (length (P .levels))) 0 (omega arith) zero-sums (f .0) target (f .1)
+      build (pred (length (P .levels))) 0 (omega arith) (λ r. zeros (checksTo P 1))
+      (stage 1 (λ r. zeros (checksTo P 1)) (λ r l. zeros-length (checksTo P 1)) (λ r l. zeros-symbols F K (checksTo P 1))
+      (λ r l m. absurd (omega (arith, mend-level-bounds p r l .0))))

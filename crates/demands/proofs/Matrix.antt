@@ -6,7 +6,7 @@ use Prim.Native.Nat.{ℕ, zero, suc}
 use native.Mathlib.Nat.{suc-inj}
 use native.Mathlib.Omega.{arith}
 use lib.Dec.{T, eqb, eqb→eq}
-use lib.ListN.{length, replicate, length-map}
+use lib.ListN.{length, replicate}
 use Rattle.field.specs.Lists.{if_then_else_}
 use Rattle.field.specs.Field.{_⊕_, Field, size, mul, dot}
 use Rattle.field.proofs.Sum.{⊕-assoc, ⊕-self, ⊕-zero, zero-⊕, ⊕-left-comm}
@@ -214,7 +214,3 @@ plus-undo [] [] e = refl
 plus-undo [] (y ∷ b) e = absurd (omega arith)
 plus-undo (x ∷ a) [] e = refl
 plus-undo (x ∷ a) (y ∷ b) e = ap₂ _∷_ (⊕-assoc x y y ∙ ap (λ z. x ⊕ z) (⊕-self y) ∙ ⊕-zero x) (plus-undo a b (suc-inj e))
-
-pub sums-length : (F : Field) (checks : List (List ℕ)) (v : List ℕ) → length (sumsOf F checks v) ≡ length checks
-unfolding sumsOf
-sums-length F checks v = length-map checks (λ c. dot F c v)

@@ -15,8 +15,9 @@ use Rattle.linear.proofs.Choices.{areSymbols}
 use Rattle.linear.proofs.Vectors.{plus}
 use Rattle.linear.proofs.Filling.{Dependency, Independent, independent-of, Filling, fill-one}
 use Rattle.demands.proofs.Marked.{marked, agrees-fit}
+use Rattle.demands.proofs.Codewords.{sums-count}
 use Rattle.demands.proofs.Matrix.{picked, put, product, identity, undone, put-agrees, agrees-put, picked-fit, picked-length, put-vanish}
-use Rattle.demands.proofs.Matrix.{sums-put, sums-picked, sums-vanish, sums-fit, sums-length, plus-fit, plus-length, plus-undo}
+use Rattle.demands.proofs.Matrix.{sums-put, sums-picked, sums-vanish, sums-fit, plus-fit, plus-length, plus-undo}
 
 -- ---- symbols
 
@@ -76,7 +77,7 @@ square F K checks ms inverse tested = record { independent = independent-of F ch
     met target v l t =
         let others = sumsOf F checks (put ms [] v) in
         let due = plus target others in
-        let same-length : length target ≡ length others = l ∙ sym (sums-length F checks (put ms [] v)) in
+        let same-length : length target ≡ length others = l ∙ sym (sums-count F checks (put ms [] v)) in
         let fit-due : Fit (size F) due = plus-fit F K target others (symbols-fit F target t) (sums-fit F K checks (put ms [] v)) in (
           put ms (sumsOf F inverse due) v,
           record {
@@ -85,7 +86,7 @@ square F K checks ms inverse tested = record { independent = independent-of F ch
                 sums-put F K checks ms (sumsOf F inverse due) v
                 ∙ ap (λ s. plus s others)
                 (undone F K (columnsAt ms checks) inverse due fit-due
-                (tested .1 ∙ ap identity (sym (plus-length target others same-length ∙ sums-length F checks (put ms [] v)))))
+                (tested .1 ∙ ap identity (sym (plus-length target others same-length ∙ sums-count F checks (put ms [] v)))))
                 ∙ plus-undo target others same-length;
           },
         )
