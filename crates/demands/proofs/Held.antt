@@ -47,7 +47,7 @@ pub record Held (p : ℕ) (X : List ℕ) (b : Bench) : Type 0 where
       → sumsAt (planOf p) (b .level) (b .sums) r ≡ sumsOf (planOf p .field) (checksTo (planOf p) (b .level)) (rowAt (planOf p) X r)
 
 -- what holds for the bench's own plan holds for the plan that it is
-own-plan : {p : ℕ} {X : List ℕ} {b : Bench} (S : ℕ → Type 0) → Held p X b → (Held (b .plan) X b → S (b .plan)) → S p
+pub own-plan : {p : ℕ} {X : List ℕ} {b : Bench} (S : ℕ → Type 0) → Held p X b → (Held (b .plan) X b → S (b .plan)) → S p
 own-plan {X = X} {b} S h f = subst S (h .plan) (f (subst (λ q. Held q X b) (sym (h .plan)) h))
 
 -- ---- what may be filled, and what learned

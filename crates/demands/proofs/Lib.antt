@@ -6,3 +6,4 @@ pub mod Alike
 pub mod Codewords
 pub mod Held
 pub mod Order
+pub mod Whole
