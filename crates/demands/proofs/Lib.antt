@@ -7,3 +7,4 @@ pub mod Codewords
 pub mod Held
 pub mod Order
 pub mod Whole
+pub mod Reached
