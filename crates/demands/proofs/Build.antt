@@ -1,40 +1,33 @@
 -- Rows of a codeword for any data, filled level by level, as encoding mends them. Assumes nothing.
-use mathlib.Core.Path.{_≡_, refl, sym, ap, ap₂, _∙_, subst, fun-ext}
+use mathlib.Core.Path.{_≡_, sym, ap, ap₂, _∙_, subst, fun-ext}
 use mathlib.Core.Logic.{_⊎_, inl, inr}
-use mathlib.Core.Bool.{Bool, true, false, not, _&&_}
-use mathlib.Core.List.{List, [], _∷_, _++_, map, flatMap, append-nil, List·Memᴰ·not-nil, List·Memᴰ·cases-cons}
+use mathlib.Core.Bool.{Bool, true, not, _&&_}
+use mathlib.Core.List.{List, [], _++_, map}
 use Prim.Native.Nat.{ℕ, zero, suc, pred, _+_, _<_, _≤_}
-use native.Mathlib.Nat.{eq-or-lt-of-le, suc-inj}
+use native.Mathlib.Nat.{eq-or-lt-of-le}
 use native.Mathlib.Omega.{arith}
 use borrow.Author.Tests.{le-ltb}
 use lib.Dec.{T, T-not, ltb, leb, ltb→lt, leb→le, lt→ltb, le→leb}
-use lib.ListN.{length, take, getD, length-append, length-map}
+use lib.ListN.{length, getD, length-append, length-map}
 use lib.Seq.{ext-getD}
 use Rattle.field.specs.Lists.{upFrom}
 use Rattle.field.specs.Field.{Field, size, dot}
-use Rattle.field.proofs.Test.{both-left, both-right, both, below, at}
+use Rattle.field.proofs.Test.{both-left, both-right, both}
 use Rattle.field.proofs.Lists.{length-up, getD-map-below}
 use Rattle.field.proofs.Laws.{IsField, size-pos, dot-lt}
-use Rattle.linear.specs.Lists.{all, zeros, vanish, first, rest}
+use Rattle.linear.specs.Lists.{zeros, vanish}
 use Rattle.linear.specs.Fill.{sumsOf}
 use Rattle.linear.proofs.Tests.{In, either, all-append, zeros-vanish}
 use Rattle.linear.proofs.Choices.{areSymbols, agrees-alike, agrees-length, agrees-symbols}
 use Rattle.linear.proofs.Vectors.{sums-append}
 use Rattle.linear.proofs.Filling.{Filling}
-use Rattle.repair.specs.Plan.{Plan, Level, noLevel, planOf, levelOf, checksTo, marksAt}
+use Rattle.repair.specs.Plan.{Plan, Level, planOf, levelOf, checksTo, marksAt}
 use Rattle.repair.proofs.Levels.{checks-suc}
+use Rattle.demands.proofs.Lists.{map-in, all-map, all-getD, append-same}
 use Rattle.demands.proofs.Alike.{alike-at}
 use Rattle.demands.proofs.Codewords.{sums-count}
 use Rattle.demands.proofs.Square.{Square, zeros-symbols, zeros-length}
-use Rattle.demands.proofs.Systems.{mendLevel, pending, RowSquare, LevelSquare, row-square, level-square, mend-level-bounds}
-
-pub first-checks : (P : Plan) → checksTo P 1 ≡ levelOf P 1 .checks
-unfolding flatMap noLevel levelOf checksTo
-first-checks P = go (P .levels)
-  where
-    go : (levels : List Level) → flatMap (λ (L : Level). L .checks) (take 1 levels) ≡ getD levels 0 noLevel .checks
-    go [] = refl
-    go (L ∷ levels) = append-nil (L .checks)
+use Rattle.demands.proofs.Systems.{mendLevel, pending, row-square, level-square, mend-level-bounds}
 
 -- what is there for each number that passes a test, as a function
 choose : (b : ℕ → Bool) (Q : ℕ → List ℕ → Type 0) → ((r : ℕ) → T (b r) → (x : List ℕ) × Q r x)
@@ -44,30 +37,6 @@ choose b Q f = (λ r. go r (either (b r)) .0, λ r. go r (either (b r)) .1)
     go : (r : ℕ) → T (b r) ⊎ T (not (b r)) → (x : List ℕ) × (T (b r) → Q r x)
     go r (inl t) = (f r t .0, λ s. f r t .1)
     go r (inr n) = ([], λ t. absurd (T-not (b r) n t))
-
-append-same : {b d : List ℕ} (a c : List ℕ) → a ++ b ≡ c ++ d → length a ≡ length c → (a ≡ c) × (b ≡ d)
-unfolding first rest
-append-same [] [] e l = (refl, e)
-append-same [] (y ∷ c) e l = absurd (omega arith)
-append-same (x ∷ a) [] e l = absurd (omega arith)
-append-same (x ∷ a) (y ∷ c) e l = let r = append-same a c (ap rest e) (suc-inj l) in (ap₂ _∷_ (ap first e) (r .0), r .1)
-
-pub all-map : {A B : Type 0} (q : B → Bool) (f : A → B) → ((x : A) → T (q (f x))) → (l : List A) → T (all q (map f l))
-unfolding all
-all-map q f h [] = tt
-all-map q f h (x ∷ l) = both (q (f x)) (all q (map f l)) (h x) (all-map q f h l)
-
--- what all pass, and the default too, passes wherever it is read
-all-getD : {A : Type 0} (q : A → Bool) (d : A) → T (q d) → (l : List A) → T (all q l) → (i : ℕ) → T (q (getD l i d))
-unfolding all
-all-getD q d z [] t i = z
-all-getD q d z (x ∷ l) t zero = both-left (q x) (all q l) t
-all-getD q d z (x ∷ l) t (suc i) = all-getD q d z l (both-right (q x) (all q l) t) i
-
-map-in : {A : Type 0} (f g : A → ℕ) (l : List A) → map f l ≡ map g l → {x : A} → In x l → f x ≡ g x
-unfolding first rest
-map-in f g [] e m = absurd (List·Memᴰ·not-nil m)
-map-in f g (y ∷ l) e m = elim (List·Memᴰ·cases-cons m) [ inl h ↦ ap f h ∙ ap first e ∙ sym (ap g h) | inr n ↦ map-in f g l (ap rest e) n ]
 
 module _ (p : ℕ) (K : IsField (planOf p .field)) (D : ℕ → List ℕ) where
   abbrev P : Plan
@@ -94,7 +63,8 @@ module _ (p : ℕ) (K : IsField (planOf p .field)) (D : ℕ → List ℕ) where
     done : (r : ℕ) → r < P .rows → mendLevel p r ≤ t → RowFilled t r (S r) (word r)
 
   -- with the rows mended before, those mended at level t
-  stage : (t : ℕ) (S : ℕ → List ℕ) → ((r : ℕ) → r < P .rows → length (S r) ≡ length (checksTo P t)) → ((r : ℕ) → r < P .rows → T (areSymbols F (S r)))
+  stage : (t : ℕ) (S : ℕ → List ℕ) → ((r : ℕ) → r < P .rows → length (S r) ≡ length (checksTo P t))
+      → ((r : ℕ) → r < P .rows → T (areSymbols F (S r)))
       → ((r : ℕ) → r < P .rows → mendLevel p r < t → (x : List ℕ) × RowFilled t r (S r) x) → Stage t S
   stage t S long symbols before = record {
     long = long;
@@ -169,9 +139,10 @@ module _ (p : ℕ) (K : IsField (planOf p .field)) (D : ℕ → List ℕ) where
 
     learned-symbol : (c : List ℕ) (r : ℕ) → T (symbol (getD (learn c) r 0))
     learned-symbol c r =
-        let own = all-map symbol (λ r. dot F c (s .word r)) (λ r. lt→ltb (dot F c (s .word r)) (size F) (dot-lt F K c (s .word r))) (upFrom 0 (P .rows)) in
         all-getD symbol 0 (lt→ltb 0 (size F) (size-pos F K)) (learn c)
-        (agrees-symbols F (pending p t) (rowSums (s .word) c) (learn c) own (filled c .1 .agrees)) r
+        (agrees-symbols F (pending p t) (rowSums (s .word) c) (learn c)
+        (all-map symbol (λ r. dot F c (s .word r)) (λ r. lt→ltb (dot F c (s .word r)) (size F) (dot-lt F K c (s .word r))) (upFrom 0 (P .rows)))
+        (filled c .1 .agrees)) r
 
     -- row r's new sums, and all its sums
     abbrev new : ℕ → List ℕ

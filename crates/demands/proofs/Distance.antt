@@ -1,9 +1,8 @@
 -- No codeword but zero is lighter than d: the codeword and zero agree outside its support, and mending there gives either. Assumes nothing.
 use mathlib.Core.Path.{_≡_, refl, sym, ap, ap₂, _∙_, subst}
-use mathlib.Core.Bool.{Bool}
 use mathlib.Core.List.{List, [], _∷_, _++_, map}
-use Prim.Native.Nat.{ℕ, zero, suc, _+_, _*_, _^_, _<_, _≤_}
-use native.Mathlib.Nat.{zero-add, zero-mul, suc-mul, not-suc-le-zero, le-of-eq}
+use Prim.Native.Nat.{ℕ, zero, suc, _+_, _*_, _^_, _<_}
+use native.Mathlib.Nat.{zero-add, zero-mul, suc-mul, le-of-eq}
 use native.Mathlib.Omega.{arith}
 use lib.Count.{ones}
 use lib.Dec.{T, eqb, ltb, lt→ltb}
@@ -19,25 +18,24 @@ use Rattle.linear.specs.Lists.{all, zeros, vanish}
 use Rattle.linear.specs.Marks.{bitsOf}
 use Rattle.linear.specs.Fill.{sumsOf}
 use Rattle.linear.proofs.Tests.{in-all, zeros-vanish}
-use Rattle.linear.proofs.Choices.{Alike, agrees-alike}
+use Rattle.linear.proofs.Choices.{agrees-alike}
 use Rattle.repair.specs.Plan.{Plan, Level, known, planOf, levelOf, rowAt, marksAt}
 use Rattle.repair.specs.Refusal.{allBelow}
 use Rattle.repair.specs.Steps.{across}
 use Rattle.repair.specs.Codeword.{rowsHold, totalsHold, isCodeword}
 use Rattle.repair.specs.Rounds.{mendStripe}
-use Rattle.repair.proofs.Rows.{row-end, row-length}
 use Rattle.repair.proofs.Shape.{plan-field}
-use Rattle.repair.proofs.Fit.{rows-all, all-zeros, all-take, all-drop, LentFit, fit-lent}
-use Rattle.repair.proofs.Sound.{unmarked-below, marks-length}
+use Rattle.repair.proofs.Fit.{rows-all, all-zeros, all-take, all-drop, fit-lent}
+use Rattle.repair.proofs.Sound.{unmarked-below}
 use Rattle.demands.specs.Words.{Codeword, Agree, Fit, total, distance}
 use Rattle.demands.specs.Second.{DistanceSuffices}
+use Rattle.demands.proofs.Lists.{all-map}
 use Rattle.demands.proofs.Marked.{marked, marked-bits, wordWith, word-lt, word-bits, support, support-length, support-marked, support-agrees}
 use Rattle.demands.proofs.Alike.{rows-agree}
 use Rattle.demands.proofs.Codewords.{vanish-same, word-row, word-below}
 use Rattle.demands.proofs.Matrix.{dot-vanish, sums-vanish}
 use Rattle.demands.proofs.Square.{symbols-fit, zeros-length}
-use Rattle.demands.proofs.Build.{all-map}
-use Rattle.demands.proofs.Parameters.{Distance}
+use Rattle.demands.proofs.Parameters.{Distance, known-by-distance}
 
 -- ---- weights by rows
 
@@ -154,22 +152,15 @@ module _ (p : ℕ) (kn : T (known p)) (X : List ℕ) (word : Codeword p X) where
       let x = rowAt Q X r in
       let same : zeros (support x) ≡ rowAt Q (blankOf Q) r =
       vanish-same (zeros (support x)) (rowAt Q (blankOf Q) r)
-      (zeros-length (support x) ∙ support-wide r h ∙ sym (word-row p (blankOf Q) (blank-codeword p K) r h)) (zeros-vanish (support x)) (blank-row p K r) in
+      (zeros-length (support x) ∙ support-wide r h ∙ sym (word-row p (blankOf Q) (blank-codeword p K) r h))
+      (zeros-vanish (support x)) (blank-row p K r) in
       rw (word-at r h, word-has r h, ← same)
       (agrees-alike F (support x) (zeros (support x)) x (support-agrees F x (symbols-fit F x (word-below p X word r h)))))
-
-known-distance : (p : ℕ) → 0 < distance p → T (known p)
-unfolding distance known
-known-distance zero h = absurd (omega arith)
-known-distance (suc zero) h = tt
-known-distance (suc (suc zero)) h = tt
-known-distance (suc (suc (suc zero))) h = tt
-known-distance (suc (suc (suc (suc p)))) h = absurd (omega arith)
 
 pub distance-from : DistanceSuffices → Distance
 unfolding blankOf vanish
 distance-from suffices p X word light =
-    let kn : T (known p) = known-distance p (omega arith) in
+    let kn : T (known p) = known-by-distance p (omega arith) in
     let few : total (marks p kn X word) < distance p = rw (marks-total p kn X word) light in
     let mended : (Y : List ℕ) → Codeword p Y → Agree p (marks p kn X word) Y X → mendStripe p X (marks p kn X word) ≡ Y =
     λ Y w a. suffices p Y X (marks p kn X word) w (fit p kn X word) a few .1 in

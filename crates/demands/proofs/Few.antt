@@ -4,10 +4,9 @@ use mathlib.Core.Bool.{Bool, _&&_}
 use mathlib.Core.List.{List, [], _∷_, _++_, map, flatMap, Memᴰ·map}
 use Prim.Native.Nat.{ℕ, zero, suc, _+_, _≤_, _<_}
 use native.Mathlib.Nat.{le-of-suc-le-suc, not-suc-le-zero}
-use native.Mathlib.Omega.{arith}
 use lib.Arith.{le-zero}
 use lib.Dec.{T, ltb, ltb→lt}
-use lib.ListN.{length, take, getD, replicate}
+use lib.ListN.{length, getD}
 use Rattle.field.specs.Lists.{upFrom}
 use Rattle.field.specs.Field.{_⊕_, Field, size, double, times, mul, gf2, gf8, gf16, gf32}
 use Rattle.field.specs.Power.{power, powerSum}
@@ -16,10 +15,11 @@ use Rattle.field.proofs.Laws.{IsField, mul-one}
 use Rattle.field.proofs.Fields.{gf8-field, gf16-field, gf32-field}
 use Rattle.field.proofs.Words.{Fit, weight, fit-le, fit, distinct, are-fit, are-distinct}
 use Rattle.field.proofs.Powers.{independent}
-use Rattle.linear.proofs.Tests.{in-up}
 use Rattle.linear.proofs.Filling.{Independent}
-use Rattle.repair.specs.Plan.{Level, ones, bitChecks, locations1, plan1, locations2, powers2, plan2, locations3, powers3, plan3, noPlan, planOf, noLevel, levelOf, checksTo}
+use Rattle.repair.specs.Plan.{ones, bitChecks, locations1, plan1, locations2, powers2, plan2, locations3, powers3, plan3}
+use Rattle.repair.specs.Plan.{noPlan, planOf, noLevel, levelOf, checksTo}
 use Rattle.demands.specs.Words.{counts}
+use Rattle.demands.proofs.Lists.{in-below}
 use Rattle.demands.proofs.Marked.{marked, light-independent, unmarked-independent}
 use Rattle.demands.proofs.Binary.{binaryChecks, sum-zero, power-sums-zero}
 
@@ -55,7 +55,7 @@ module _ (L : Field) (K : IsField L) (xs : List ℕ) (t : T (areLocations L xs))
   powers-few m =
       light-independent L (powerChecks L xs m) (length xs) m
       (λ w h z l le. zero-word w m h l le
-      (λ p lt. sum-zero L (powerChecks L xs m) w _ z (Memᴰ·map _ (in-up 0 m p (omega arith) (omega arith)))))
+      (λ p lt. sum-zero L (powerChecks L xs m) w _ z (Memᴰ·map _ (in-below lt))))
       ms long
 
   -- and for bits, under parity and the power sums 1 to 2 j - 1, any 2 j + 1
@@ -127,7 +127,8 @@ weights-independent (suc (suc zero)) (suc zero) ms l h = binary-few gf8 gf8-fiel
 weights-independent (suc (suc zero)) (suc (suc zero)) ms l h = unmarked-independent gf2 _ ms (le-zero h)
 weights-independent (suc (suc zero)) (suc (suc (suc i))) ms l h = unmarked-independent gf2 _ ms (le-zero h)
 weights-independent (suc (suc (suc zero))) zero ms l h =
-    subst (λ ys. Independent gf16 (ones 8 ∷ ys ∷ []) ms) (first-powers gf16 gf16-field rowLocations (both-right (distinct rowLocations) _ row-locations))
+    subst (λ ys. Independent gf16 (ones 8 ∷ ys ∷ []) ms)
+    (first-powers gf16 gf16-field rowLocations (both-right (distinct rowLocations) (fit (size gf16) rowLocations) row-locations))
     (powers-few gf16 gf16-field rowLocations row-locations ms l 2 h)
 weights-independent (suc (suc (suc zero))) (suc zero) ms l h = powers-few gf16 gf16-field rowLocations row-locations ms l 1 h
 weights-independent (suc (suc (suc zero))) (suc (suc zero)) ms l h = unmarked-independent gf16 _ ms (le-zero h)

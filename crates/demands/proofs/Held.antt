@@ -37,28 +37,38 @@ use Rattle.demands.proofs.Alike.{alike-refl, alike-sym, alike-unmarked,
 use Rattle.demands.proofs.Marked.{marked}
 use Rattle.demands.proofs.Codewords.{vanish-same, all-at, sums-count, sums-below, across-row, word-row, word-below, word-sums, word-totals}
 
+-- the stripe Y has the learned sums
+abbrev pub Has : ℕ → Bench → (Y : List ℕ) → Type 0
+Has p b Y = (r : ℕ) → r < planOf p .rows
+    → sumsAt (planOf p) (b .level) (b .sums) r ≡ sumsOf (planOf p .field) (checksTo (planOf p) (b .level)) (rowAt (planOf p) Y r)
+
 -- the codeword X agrees with what is unmarked, and the learned sums are its own
 pub record Held (p : ℕ) (X : List ℕ) (b : Bench) : Type 0 where
   pub plan : b .plan ≡ p
   pub sound : Sound b
   pub codeword : Codeword p X
   pub alike : (r : ℕ) → r < planOf p .rows → Alike (marksAt (planOf p) (b .marks) r) (rowAt (planOf p) (b .symbols) r) (rowAt (planOf p) X r)
-  pub has : (r : ℕ) → r < planOf p .rows
-      → sumsAt (planOf p) (b .level) (b .sums) r ≡ sumsOf (planOf p .field) (checksTo (planOf p) (b .level)) (rowAt (planOf p) X r)
+  pub has : Has p b X
 
 -- what holds for the bench's own plan holds for the plan that it is
-own-plan : {p : ℕ} {X : List ℕ} {b : Bench} (S : ℕ → Type 0) → Held p X b → (Held (b .plan) X b → S (b .plan)) → S p
+pub own-plan : {p : ℕ} {X : List ℕ} {b : Bench} (S : ℕ → Type 0) → Held p X b → (Held (b .plan) X b → S (b .plan)) → S p
 own-plan {X = X} {b} S h f = subst S (h .plan) (f (subst (λ q. Held q X b) (sym (h .plan)) h))
 
 -- ---- what may be filled, and what learned
 
--- row r's marked columns are independent under the checks of levels 1 to t
-abbrev pub RowFree : (p t : ℕ) → (marks : List ℕ) → ℕ → Type 0
-RowFree p t marks r = Independent (planOf p .field) (checksTo (planOf p) t) (marksAt (planOf p) marks r)
+-- row r's marked columns are dependent under the checks of levels 1 to t
+abbrev pub rowTied : (p t : ℕ) → (marks : List ℕ) → ℕ → Bool
+rowTied p t marks r = dependent (planOf p .field) (checksTo (planOf p) t) (marksAt (planOf p) marks r)
 
--- the marked rows' columns are independent under the weights of level t + 1
+-- the marked rows' columns are dependent under the weights of level t + 1
+abbrev pub levelTied : (p t : ℕ) → (marks : List ℕ) → Bool
+levelTied p t marks = dependent (planOf p .field) (levelOf (planOf p) (suc t) .weights) (lossy (planOf p) marks)
+
+abbrev pub RowFree : (p t : ℕ) → (marks : List ℕ) → ℕ → Type 0
+RowFree p t marks r = T (not (rowTied p t marks r))
+
 abbrev pub LevelFree : (p t : ℕ) → (marks : List ℕ) → Type 0
-LevelFree p t marks = Independent (planOf p .field) (levelOf (planOf p) (suc t) .weights) (lossy (planOf p) marks)
+LevelFree p t marks = T (not (levelTied p t marks))
 
 -- X's sums of all rows at level t + 1
 abbrev pub wordSums : (p t : ℕ) → List ℕ → List (List ℕ)
@@ -133,7 +143,7 @@ module _ (X : List ℕ) (b : Bench) (h : Held (b .plan) X b) where
       (word-row (b .plan) X (h .codeword) r l ∙ sym (marks-length P (b .marks) r)) (h .alike r l)
 
   own-row-finds : (r : ℕ) → r < P .rows
-      → rowFill b r ≡ (if dependent (P .field) (checksTo P (b .level)) (marksAt P (b .marks) r) then tied else one (rowAt P X r))
+      → rowFill b r ≡ (if rowTied (b .plan) (b .level) (b .marks) r then tied else one (rowAt P X r))
   unfolding rowFill allBelow
   own-row-finds r l =
       let C = checksTo P (b .level) in
@@ -143,15 +153,15 @@ module _ (X : List ℕ) (b : Bench) (h : Held (b .plan) X b) where
       (word-row (b .plan) X (h .codeword) r l ∙ sym (marks-length P (b .marks) r)) (word-below (b .plan) X (h .codeword) r l)
 
   own-level-finds : b .level < length (P .levels)
-      → levelFill b ≡ (if dependent (P .field) (L .weights) (lossy P (b .marks)) then blocked else learned (wordSums (b .plan) (b .level) X))
+      → levelFill b ≡ (if levelTied (b .plan) (b .level) (b .marks) then blocked else learned (wordSums (b .plan) (b .level) X))
   unfolding levelFill across lossy allBelow levelOf
   own-level-finds low =
-      joined-same (dependent (P .field) (L .weights) (lossy P (b .marks))) (totalFill b L) (across P X) (L .checks) finds
+      joined-same (levelTied (b .plan) (b .level) (b .marks)) (totalFill b L) (across P X) (L .checks) finds
       (ltb→lt 0 (length (L .checks))
       (all-at (λ (L : Level). ltb 0 (length (L .checks))) noLevel (P .levels) (shape (b .plan) (h .sound .fit .plan-known) .some-checks) (b .level) low))
     where
       finds : (c : List ℕ) → In c (L .checks)
-          → totalFill b L c ≡ (if dependent (P .field) (L .weights) (lossy P (b .marks)) then tied else one (across P X c))
+          → totalFill b L c ≡ (if levelTied (b .plan) (b .level) (b .marks) then tied else one (across P X c))
       finds c m =
           ap (λ target. fill (P .field) (L .weights) target (lossy P (b .marks)) (across P (b .symbols) c))
           (sym (word-totals (b .plan) X (h .codeword) (b .level) (h .sound .fit .level-pos) low m))
@@ -224,18 +234,16 @@ module _ (p : ℕ) (X : List ℕ) (b : Bench) (h : Held p X b) where
       own-plan (λ p. r < planOf p .rows → getD (b .marks) r 0 ≡ 0 → rowAt (planOf p) (b .symbols) r ≡ rowAt (planOf p) X r) h
       (λ g. own-unmarked X b g r)
 
-  pub row-finds : (r : ℕ) → r < Q .rows
-      → rowFill b r ≡ (if dependent (Q .field) (checksTo Q (b .level)) (marksAt Q (b .marks) r) then tied else one (rowAt Q X r))
+  pub row-finds : (r : ℕ) → r < Q .rows → rowFill b r ≡ (if rowTied p (b .level) (b .marks) r then tied else one (rowAt Q X r))
   row-finds r =
-      own-plan (λ p. r < planOf p .rows → rowFill b r
-      ≡ (if dependent (planOf p .field) (checksTo (planOf p) (b .level)) (marksAt (planOf p) (b .marks) r) then tied else one (rowAt (planOf p) X r))) h
+      own-plan (λ p. r < planOf p .rows → rowFill b r ≡ (if rowTied p (b .level) (b .marks) r then tied else one (rowAt (planOf p) X r))) h
       (λ g. own-row-finds X b g r)
 
   pub level-finds : b .level < length (Q .levels)
-      → levelFill b ≡ (if dependent (Q .field) (levelOf Q (suc (b .level)) .weights) (lossy Q (b .marks)) then blocked else learned (wordSums p (b .level) X))
+      → levelFill b ≡ (if levelTied p (b .level) (b .marks) then blocked else learned (wordSums p (b .level) X))
   level-finds =
-      own-plan (λ p. b .level < length (planOf p .levels) → levelFill b
-      ≡ (if dependent (planOf p .field) (levelOf (planOf p) (suc (b .level)) .weights) (lossy (planOf p) (b .marks)) then blocked else learned (wordSums p (b .level) X))) h
+      own-plan (λ p. b .level < length (planOf p .levels)
+      → levelFill b ≡ (if levelTied p (b .level) (b .marks) then blocked else learned (wordSums p (b .level) X))) h
       (λ g. own-level-finds X b g)
 
   pub held-put : (r : ℕ) → r < Q .rows → Held p X (putRow b r (rowAt Q X r))
@@ -246,19 +254,19 @@ module _ (p : ℕ) (X : List ℕ) (b : Bench) (h : Held p X b) where
 
   -- ---- what each step makes of the bench
 
-  abbrev rowTied : ℕ → Bool
-  rowTied r = dependent (Q .field) (checksTo Q (b .level)) (marksAt Q (b .marks) r)
+  abbrev tiedHere : ℕ → Bool
+  tiedHere = rowTied p (b .level) (b .marks)
 
-  abbrev levelTied : Bool
-  levelTied = dependent (Q .field) (levelOf Q (suc (b .level)) .weights) (lossy Q (b .marks))
+  abbrev tiedAcross : Bool
+  tiedAcross = levelTied p (b .level) (b .marks)
 
   -- no row step is Clash
-  pub row-makes : (r : ℕ) → r < Q .rows → rowStep b r ≡ rowStepBy b r (if rowTied r then tied else one (rowAt Q X r))
+  pub row-makes : (r : ℕ) → r < Q .rows → rowStep b r ≡ rowStepBy b r (if tiedHere r then tied else one (rowAt Q X r))
   row-makes r l =
       row-step b (h .sound .fit) r (subst (λ q. r < planOf q .rows) (sym (h .plan)) l) ∙ ap (rowStepBy b r) (row-finds r l)
 
   -- no level step is Clash
-  pub level-makes : b .level < length (Q .levels) → levelStep b ≡ levelStepBy b (if levelTied then blocked else learned (wordSums p (b .level) X))
+  pub level-makes : b .level < length (Q .levels) → levelStep b ≡ levelStepBy b (if tiedAcross then blocked else learned (wordSums p (b .level) X))
   level-makes low =
       level-step b (h .sound .fit)
       ∙ ap (λ q. if ltb (b .level) (length (planOf q .levels)) then levelStepBy b (levelFill b) else stepped b Top) (h .plan)
@@ -274,23 +282,23 @@ module _ (p : ℕ) (X : List ℕ) (b : Bench) (h : Held p X b) where
   pub row-fills : (r : ℕ) → r < Q .rows → RowFree p (b .level) (b .marks) r → rowStep b r .bench ≡ putRow b r (rowAt Q X r)
   unfolding rowStepBy stepped
   row-fills r l i =
-      ap (λ (s : Stepped). s .bench) (row-makes r l ∙ ap (rowStepBy b r) (if-false (rowTied r) tied (one (rowAt Q X r)) i))
+      ap (λ (s : Stepped). s .bench) (row-makes r l ∙ ap (rowStepBy b r) (if-false (tiedHere r) tied (one (rowAt Q X r)) i))
 
-  pub row-stays : (r : ℕ) → r < Q .rows → T (rowTied r) → rowStep b r .bench ≡ b
+  pub row-stays : (r : ℕ) → r < Q .rows → T (tiedHere r) → rowStep b r .bench ≡ b
   unfolding rowStepBy stepped
-  row-stays r l t = ap (λ (s : Stepped). s .bench) (row-makes r l ∙ ap (rowStepBy b r) (if-true (rowTied r) tied (one (rowAt Q X r)) t))
+  row-stays r l t = ap (λ (s : Stepped). s .bench) (row-makes r l ∙ ap (rowStepBy b r) (if-true (tiedHere r) tied (one (rowAt Q X r)) t))
 
   pub level-learns : b .level < length (Q .levels) → LevelFree p (b .level) (b .marks) → levelStep b .bench ≡ raise b (wordSums p (b .level) X)
   unfolding levelStepBy stepped
   level-learns low i =
       ap (λ (s : Stepped). s .bench)
-      (level-makes low ∙ ap (levelStepBy b) (if-false levelTied blocked (learned (wordSums p (b .level) X)) i))
+      (level-makes low ∙ ap (levelStepBy b) (if-false tiedAcross blocked (learned (wordSums p (b .level) X)) i))
 
-  pub level-stays : b .level < length (Q .levels) → T levelTied → levelStep b .bench ≡ b
+  pub level-stays : b .level < length (Q .levels) → T tiedAcross → levelStep b .bench ≡ b
   unfolding levelStepBy stepped
   level-stays low t =
       ap (λ (s : Stepped). s .bench)
-      (level-makes low ∙ ap (levelStepBy b) (if-true levelTied blocked (learned (wordSums p (b .level) X)) t))
+      (level-makes low ∙ ap (levelStepBy b) (if-true tiedAcross blocked (learned (wordSums p (b .level) X)) t))
 
 -- what a step may make of a held bench
 pub data Made (p : ℕ) (X : List ℕ) (b : Bench) : Bench → Type 0 where
@@ -305,7 +313,7 @@ module _ (p : ℕ) (X : List ℕ) where
       elim (either (ltb r (planOf p .rows))) [
         | inl t ↦
             let l = ltb→lt r (planOf p .rows) t in
-            elim (either (rowTied p X b h r)) [
+            elim (either (rowTied p (b .level) (b .marks) r)) [
               | inl d ↦ subst (Made p X b) (sym (row-stays p X b h r l d)) stays
               | inr i ↦ subst (Made p X b) (sym (row-fills p X b h r l i)) (fills r l i)
             ]
@@ -315,7 +323,7 @@ module _ (p : ℕ) (X : List ℕ) where
       elim (either (ltb (b .level) (length (planOf p .levels)))) [
         | inl t ↦
             let low = ltb→lt (b .level) (length (planOf p .levels)) t in
-            elim (either (levelTied p X b h)) [
+            elim (either (levelTied p (b .level) (b .marks))) [
               | inl d ↦ subst (Made p X b) (sym (level-stays p X b h low d)) stays
               | inr i ↦ subst (Made p X b) (sym (level-learns p X b h low i)) (learns low i)
             ]

@@ -1,4 +1,5 @@
 -- Why the demands hold.
+pub mod Lists
 pub mod Marked
 pub mod Binary
 pub mod Few
@@ -6,6 +7,8 @@ pub mod Alike
 pub mod Codewords
 pub mod Held
 pub mod Order
+pub mod Whole
+pub mod Reached
 pub mod Matrix
 pub mod Square
 pub mod Systems

@@ -41,13 +41,16 @@ bits-step n w =
     (map-up-suc (λ k. eqb (w / 2 ^ k % 2) 1) 0 n
     ∙ ap (λ f. map f (upFrom 0 n)) (fun-ext (λ k. ap (λ x. eqb (x % 2) 1) (ap (λ i. w / 2 ^ i) (sym (one-add k)) ∙ sym (shr-shr w 1 k)))))
 
+pub half-lt : (n w : ℕ) → w < 2 ^ suc n → w / 2 < 2 ^ n
+half-lt n w h = shr-lt n 1 (subst (λ i. w < 2 ^ i) (sym (add-one n)) h)
+
 -- as many as the word has ones
 pub marked-bits : (n w : ℕ) → w < 2 ^ n → marked (bitsOf n w) ≡ ones w
 unfolding if_then_else_ upFrom only bitsOf ones
 marked-bits zero w h = ap ones (sym (lt-one h))
 marked-bits (suc n) w h =
     ap marked (bits-step n w) ∙ front (w % 2) (bit w) (bitsOf n (w / 2))
-    ∙ ap (λ k. w % 2 + k) (marked-bits n (w / 2) (shr-lt n 1 (subst (λ i. w < 2 ^ i) (sym (add-one n)) h))) ∙ sym (ones-step w)
+    ∙ ap (λ k. w % 2 + k) (marked-bits n (w / 2) (half-lt n w h)) ∙ sym (ones-step w)
   where
     front : (b : ℕ) → b < 2 → (ms : List Bool) → marked (eqb b 1 ∷ ms) ≡ b + marked ms
     front b l ms = of-bits (λ b. marked (eqb b 1 ∷ ms) ≡ b + marked ms) (sym (zero-add (marked ms))) (sym (one-add (marked ms))) b l

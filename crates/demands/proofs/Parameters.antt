@@ -1,39 +1,44 @@
 -- The plans' parameters: symbols carried, the distance of a row code and of the whole code. Assumes nothing.
-use mathlib.Core.Path.{_≡_, refl, sym, ap, ap₂, _∙_, subst}
-use mathlib.Core.Bool.{Bool, not, true, false}
+use mathlib.Core.Path.{_≡_, refl, _∙_}
 use mathlib.Core.Logic.{inl, inr}
-use mathlib.Core.List.{List, [], _∷_, _++_, map, flatMap}
-use Prim.Native.Nat.{ℕ, zero, suc, _<_}
-use native.Mathlib.Nat.{not-suc-le-zero, zero-lt-suc}
+use mathlib.Core.List.{List, _∷_, flatMap}
+use Prim.Native.Nat.{ℕ, zero, suc, _+_, _<_}
 use native.Mathlib.Omega.{arith}
-use lib.Dec.{T, eqb, ltb, ltb→lt}
+use lib.Dec.{T}
 use lib.ListN.{length, replicate}
 use Rattle.field.specs.Lists.{if_then_else_, upFrom}
-use Rattle.field.specs.Field.{_⊕_, Field, size, double, times, mul, dot, gf2, gf16, gf32}
+use Rattle.field.specs.Field.{_⊕_, size, double, times, mul, dot, gf2, gf16, gf32}
 use Rattle.field.specs.Power.{power}
-use Rattle.field.proofs.Test.{both-left, both-right}
 use Rattle.field.proofs.Words.{weight}
-use Rattle.linear.specs.Lists.{all, only, zeros, vanish, first, rest}
-use Rattle.linear.specs.Marks.{bitsOf}
+use Rattle.linear.specs.Lists.{all, vanish}
 use Rattle.linear.specs.Fill.{sumsOf}
 use Rattle.linear.proofs.Tests.{either}
-use Rattle.linear.proofs.Choices.{Agrees}
 use Rattle.linear.proofs.Filling.{no-dependency}
-use Rattle.repair.specs.Plan.{Plan, ones, bitChecks, wordOf, locations1, plan1, locations2, powers2, plan2, locations3, powers3, plan3, noPlan, known, planOf}
-use Rattle.repair.specs.Plan.{noLevel, levelOf, checksTo, rowAt, marksAt, marksOf}
+use Rattle.repair.specs.Plan.{ones, bitChecks, locations1, plan1, locations2, powers2, plan2, locations3, powers3, plan3, known, planOf}
+use Rattle.repair.specs.Plan.{levelOf, checksTo, rowAt}
 use Rattle.repair.specs.Refusal.{allBelow}
 use Rattle.repair.specs.Steps.{across}
-use Rattle.repair.specs.Codeword.{rowsHold, totalsHold, isCodeword, checkPlacesOf, carried}
-use Rattle.repair.proofs.Samples.{rowOf}
-use Rattle.repair.proofs.Shape.{of-known}
-use Rattle.repair.proofs.Levels.{checks-suc}
+use Rattle.repair.specs.Codeword.{rowsHold, totalsHold, isCodeword, carried}
+use Rattle.repair.proofs.Samples.{rowOf, sizes}
+use Rattle.repair.proofs.Shape.{of-known, shape}
+use Rattle.repair.proofs.Levels.{checks-first}
 use Rattle.demands.specs.Words.{Codeword, counts, rowDistance, distance}
-use Rattle.demands.proofs.Marked.{marked, support, support-length, support-marked, support-agrees}
+use Rattle.demands.proofs.Marked.{support, support-length, support-marked, support-agrees}
 use Rattle.demands.proofs.Few.{count, few-independent}
 use Rattle.demands.proofs.Square.{symbols-fit}
-use Rattle.demands.proofs.Build.{first-checks}
 
 -- ---- statements
+
+-- k: the symbols that a plan carries
+unfoldable pub symbolsCarried : ℕ → ℕ
+symbolsCarried zero = 0
+symbolsCarried (suc zero) = 15
+symbolsCarried (suc (suc zero)) = 198
+symbolsCarried (suc (suc (suc zero))) = 98
+symbolsCarried (suc (suc (suc (suc p)))) = 0
+
+abbrev pub CarriedMet : Type 0
+CarriedMet = (p : ℕ) → T (known p) → carried (planOf p) ≡ symbolsCarried p
 
 -- a row of symbols whose level-1 sums are zero
 pub record RowWord (p : ℕ) (w : List ℕ) : Type 0 where
@@ -54,6 +59,12 @@ Distance = (p : ℕ) (X : List ℕ) → Codeword p X → weight X < distance p �
 
 abbrev pub DistanceMet : Type 0
 DistanceMet = (p : ℕ) → T (known p) → (X : List ℕ) × Codeword p X × (weight X ≡ distance p)
+
+-- ---- symbols carried
+
+pub carried-met : CarriedMet
+unfolding planOf symbolsCarried
+carried-met = of-known (λ p. carried (planOf p) ≡ symbolsCarried p) (sizes .0) (sizes .1) (sizes .2)
 
 -- ---- lightest words, found by another program
 
@@ -92,6 +103,15 @@ distance-met =
 
 -- ---- no word is lighter
 
+-- unknown numbers have no distances
+pub known-by-distance : (p : ℕ) → 0 < rowDistance p + distance p → T (known p)
+unfolding known rowDistance distance
+known-by-distance zero h = absurd (omega arith)
+known-by-distance (suc zero) h = tt
+known-by-distance (suc (suc zero)) h = tt
+known-by-distance (suc (suc (suc zero))) h = tt
+known-by-distance (suc (suc (suc (suc p)))) h = absurd (omega arith)
+
 -- d0 is the first of the published mark numbers
 row-count : (p : ℕ) → rowDistance p ≡ count p 0 .0
 unfolding counts rowDistance
@@ -105,6 +125,7 @@ pub row-distance : RowDistance
 unfolding allBelow
 row-distance p w h light =
     let F = planOf p .field in
+    let kn : T (known p) = known-by-distance p (omega arith) in
     elim (either (vanish w)) [
       | inl t ↦ t
       | inr n ↦
@@ -114,6 +135,6 @@ row-distance p w h light =
           record {
             agrees = support-agrees F w (symbols-fit F w (h .symbols));
             nonzero = n;
-            vanishes = rw (first-checks (planOf p)) (h .holds);
+            vanishes = rw (checks-first (planOf p) (shape p kn .levels-pos)) (h .holds);
           })
     ]

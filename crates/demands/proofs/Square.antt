@@ -66,7 +66,8 @@ square F K checks ms inverse tested = record { independent = independent-of F ch
     none w d =
         let u = picked ms w in
         let back : sumsOf F inverse (sumsOf F (columnsAt ms checks) u) ≡ u =
-        undone F K inverse (columnsAt ms checks) u (picked-fit F K ms w (agrees-fit F ms w (d .agrees))) (tested .0 ∙ ap identity (sym (picked-length F K ms w))) in
+        undone F K inverse (columnsAt ms checks) u (picked-fit F K ms w (agrees-fit F ms w (d .agrees)))
+        (tested .0 ∙ ap identity (sym (picked-length F K ms w))) in
         let zero-sums : T (vanish (sumsOf F (columnsAt ms checks) u)) =
         subst (λ s. T (vanish s)) (ap (sumsOf F checks) (agrees-put F K ms w (d .agrees)) ∙ sums-picked F K checks ms u) (d .vanishes) in
         T-not (vanish w) (d .nonzero)

@@ -1,8 +1,7 @@
 -- The square systems of encoding: a row's check places under the checks in force when the row is mended, and the weights of the rows still marked
 -- at a level step. The inverses are data, found by another program. Assumes nothing.
-use mathlib.Core.Path.{_≡_, refl, sym, subst}
-use mathlib.Core.Logic.{inl, inr}
-use mathlib.Core.List.{List, [], _∷_, _++_, map, flatMap, List·Memᴰ·not-nil, List·Memᴰ·cases-cons}
+use mathlib.Core.Path.{refl}
+use mathlib.Core.List.{List, [], _∷_, _++_, map, flatMap}
 use Prim.Native.Nat.{ℕ, zero, suc, _<_, _≤_}
 use native.Mathlib.Nat.{not-suc-le-zero}
 use native.Mathlib.Omega.{arith}
@@ -18,16 +17,12 @@ use Rattle.field.proofs.Fields.{gf2-field, gf16-field}
 use Rattle.field.proofs.Words.{Each}
 use Rattle.linear.specs.Lists.{only, first, rest}
 use Rattle.linear.specs.Marks.{bitsOf}
-use Rattle.linear.proofs.Tests.{In, in-up}
-use Rattle.repair.specs.Plan.{Plan, Level, ones, bitChecks, wordOf, locations1, plan1, locations2, powers2, plan2, locations3, powers3, plan3}
-use Rattle.repair.specs.Plan.{noPlan, planOf, noLevel, levelOf, checksTo, marksAt}
+use Rattle.repair.specs.Plan.{Plan, ones, bitChecks, wordOf, locations1, plan1, locations2, powers2, plan2, locations3, powers3, plan3}
+use Rattle.repair.specs.Plan.{noPlan, planOf, levelOf, checksTo, marksAt}
 use Rattle.repair.proofs.Samples.{rowOf}
+use Rattle.demands.proofs.Lists.{in-below, each-in}
 use Rattle.demands.proofs.Matrix.{picked, combine, product, identity}
 use Rattle.demands.proofs.Square.{Square, Inverts, square}
-
-each-in : (P : ℕ → Type 0) (xs : List ℕ) → Each P xs → {x : ℕ} → In x xs → P x
-each-in P [] h m = absurd (List·Memᴰ·not-nil m)
-each-in P (y ∷ xs) h m = elim (List·Memᴰ·cases-cons m) [ inl e ↦ subst P (sym e) (h .0) | inr n ↦ each-in P xs (h .1) n ]
 
 -- ---- the inverses: a row of symbols for each marked place
 
@@ -150,7 +145,7 @@ rows-square (suc (suc (suc zero))) = (
 rows-square (suc (suc (suc (suc p)))) = tt
 
 pub row-square : (p r : ℕ) → r < planOf p .rows → RowSquare p r
-row-square p r h = each-in (RowSquare p) (upFrom 0 (planOf p .rows)) (rows-square p) (in-up 0 (planOf p .rows) r (omega arith) (omega arith))
+row-square p r h = each-in (RowSquare p) (upFrom 0 (planOf p .rows)) (rows-square p) (in-below h)
 
 pub level-square : (p i : ℕ) → suc i < length (planOf p .levels) → LevelSquare p (suc i)
 unfolding if_then_else_ upFrom _⊕_ size double times mul gf2 gf16 power only first rest
