@@ -8,3 +8,5 @@ pub mod Held
 pub mod Order
 pub mod Whole
 pub mod Reached
+pub mod Rounds
+pub mod Third
