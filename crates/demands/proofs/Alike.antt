@@ -8,7 +8,7 @@ use native.Mathlib.Nat.{suc-inj, suc-mul, zero-mul, zero-add, zero-lt-suc, mod-l
 use native.Mathlib.Numerals.{add-one}
 use native.Mathlib.Omega.{arith}
 use lib.Arith.{lt-one}
-use lib.Dec.{T, T-not, eqb}
+use lib.Dec.{T, T-not, eqb, ltb}
 use lib.Count.{ones, onesIn}
 use lib.ListN.{length, take, drop, getD, length-append, List·getD-append}
 use lib.Pow.{pow-pos, shr-lt}
@@ -16,11 +16,13 @@ use lib.Seq.{getD-take, getD-drop, getD-append-add}
 use Rattle.field.specs.Lists.{if_then_else_, upFrom}
 use Rattle.field.specs.Field.{Field}
 use Rattle.field.proofs.Sum.{of-bits, bit}
-use Rattle.linear.specs.Lists.{only, vanish, first, rest}
+use Rattle.field.proofs.Test.{both-left, both-right, both}
+use Rattle.linear.specs.Lists.{all, only, vanish, first, rest}
 use Rattle.linear.specs.Marks.{bitsOf}
 use Rattle.linear.proofs.Choices.{Alike, Inside}
 use Rattle.linear.proofs.Filling.{Independent, independent-of}
 use Rattle.repair.specs.Plan.{Plan, planOf, rowAt, marksAt, marksOf}
+use Rattle.repair.specs.Refusal.{allBelow, unmarkedBelow}
 use Rattle.repair.proofs.Sound.{marks-length}
 use Rattle.demands.specs.Words.{Agree}
 use Rattle.demands.proofs.Marked.{marked, bits-step, marked-bits, agrees-weight, weightless-vanish}
@@ -62,6 +64,17 @@ alike-unmarked (true ∷ ms) v w z l k a = absurd (omega arith)
 alike-unmarked (false ∷ ms) [] w z l k a = absurd (omega arith)
 alike-unmarked (false ∷ ms) (x ∷ v) [] z l k a = absurd (omega arith)
 alike-unmarked (false ∷ ms) (x ∷ v) (y ∷ w) z l k a = ap₂ _∷_ (a .0) (alike-unmarked ms v w z (suc-inj l) (suc-inj k) (a .1))
+
+-- where no symbol is marked, each is below q
+pub unmarked-all : (q : ℕ) (ms : List Bool) (v : List ℕ) → marked ms ≡ 0 → length v ≡ length ms → T (unmarkedBelow q ms v) → T (allBelow q v)
+unfolding if_then_else_ only all allBelow unmarkedBelow
+unmarked-all q [] [] z l t = tt
+unmarked-all q [] (x ∷ v) z l t = absurd (omega arith)
+unmarked-all q (true ∷ ms) v z l t = absurd (omega arith)
+unmarked-all q (false ∷ ms) [] z l t = tt
+unmarked-all q (false ∷ ms) (x ∷ v) z l t =
+    both (ltb x q) (allBelow q v) (both-left (ltb x q) (unmarkedBelow q ms v) t)
+    (unmarked-all q ms v z (suc-inj l) (both-right (ltb x q) (unmarkedBelow q ms v) t))
 
 -- no columns are independent
 pub unmarked-independent : (F : Field) (checks : List (List ℕ)) (ms : List Bool) → marked ms ≡ 0 → Independent F checks ms

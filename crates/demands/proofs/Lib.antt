@@ -9,6 +9,8 @@ pub mod Held
 pub mod Order
 pub mod Whole
 pub mod Reached
+pub mod Rounds
+pub mod Third
 pub mod Matrix
 pub mod Square
 pub mod Systems
