@@ -10,3 +10,4 @@ pub mod Whole
 pub mod Reached
 pub mod Rounds
 pub mod Third
+pub mod Second
