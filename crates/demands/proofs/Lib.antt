@@ -11,6 +11,7 @@ pub mod Whole
 pub mod Reached
 pub mod Rounds
 pub mod Third
+pub mod Second
 pub mod Matrix
 pub mod Square
 pub mod Systems

@@ -33,7 +33,7 @@ module _ (p : ℕ) where
   abbrev pub RowInside : (M N : List ℕ) → ℕ → Type 0
   RowInside M N r = Inside (marksAt P M r) (marksAt P N r)
 
-  row-free-more : (t u : ℕ) (M N : List ℕ) (r : ℕ) → t ≤ u → RowInside M N r → RowFree p t N r → RowFree p u M r
+  pub row-free-more : (t u : ℕ) (M N : List ℕ) (r : ℕ) → t ≤ u → RowInside M N r → RowFree p t N r → RowFree p u M r
   row-free-more t u M N r h i f =
       let g = checks-grow P t u h in
       subst (λ cs. Independent (P .field) cs (marksAt P M r)) (sym (g .1))
@@ -59,14 +59,14 @@ module _ (p : ℕ) where
 
 module _ (p : ℕ) (X : List ℕ) (e : Bench) (h : Held p X e) (quiet : Quiet e) where
   -- a row that may be filled has no marks
-  quiet-row : (r : ℕ) → r < planOf p .rows → RowFree p (e .level) (e .marks) r → getD (e .marks) r 0 ≡ 0
+  pub quiet-row : (r : ℕ) → r < planOf p .rows → RowFree p (e .level) (e .marks) r → getD (e .marks) r 0 ≡ 0
   unfolding putRow
   quiet-row r l i =
       ap (λ (b : Bench). getD (b .marks) r 0) (sym (quiet (onRow r)) ∙ row-fills p X e h r l i)
       ∙ getD-set-same (e .marks) r 0 0 (omega (arith, held-words p X e h))
 
   -- no level may be learned
-  quiet-level : e .level < length (planOf p .levels) → LevelFree p (e .level) (e .marks) → ⊥
+  pub quiet-level : e .level < length (planOf p .levels) → LevelFree p (e .level) (e .marks) → ⊥
   unfolding raise
   quiet-level low i = omega (arith, ap (λ (b : Bench). b .level) (sym (quiet onLevel) ∙ level-learns p X e h low i))
 
