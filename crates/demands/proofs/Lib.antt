@@ -19,3 +19,6 @@ pub mod Build
 pub mod Existence
 pub mod Parameters
 pub mod Distance
+pub mod Data
+pub mod Clear
+pub mod Encoding
