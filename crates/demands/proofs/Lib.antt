@@ -11,3 +11,4 @@ pub mod Reached
 pub mod Rounds
 pub mod Third
 pub mod Second
+pub mod Samples
