@@ -39,7 +39,7 @@ none-lossy marks k zero h = refl
 none-lossy marks k (suc n) h = rw (h k (omega arith)) (none-lossy marks (suc k) n (λ r l. h r (omega arith)))
 
 -- where rows with marks pass a test, they lie inside those that pass it
-lossy-inside : (marks : List ℕ) (g : ℕ → Bool) (k n : ℕ) → ((r : ℕ) → r < k + n → (getD marks r 0 ≡ 0) ⊎ T (g r))
+pub lossy-inside : (marks : List ℕ) (g : ℕ → Bool) (k n : ℕ) → ((r : ℕ) → r < k + n → (getD marks r 0 ≡ 0) ⊎ T (g r))
     → Inside (map (λ r. not (eqb (getD marks r 0) 0)) (upFrom k n)) (map g (upFrom k n))
 unfolding upFrom
 lossy-inside marks g k zero h = tt

@@ -1,15 +1,14 @@
 -- What a codeword is, row by row and level by level. Assumes nothing.
 use mathlib.Core.Path.{_≡_, refl, sym, ap, ap₂, _∙_, subst}
-use mathlib.Core.Bool.{Bool, true, false}
+use mathlib.Core.Bool.{Bool}
 use mathlib.Core.List.{List, [], _∷_, map}
-use Prim.Native.Nat.{ℕ, zero, suc, _+_, _*_, _<_, _≤_}
+use Prim.Native.Nat.{ℕ, zero, suc, _*_, _<_}
 use native.Mathlib.Nat.{suc-inj, le-of-suc-le-suc, not-suc-le-zero}
 use native.Mathlib.Numerals.{one-add}
 use native.Mathlib.Omega.{arith}
 use lib.Dec.{T, eqb, ltb, lt→ltb, eqb→eq}
-use lib.ListN.{length, take, drop, getD, length-map, length-drop}
+use lib.ListN.{length, drop, getD, length-map, length-drop}
 use lib.Seq.{getD-drop}
-use Rattle.field.specs.Lists.{upFrom}
 use Rattle.field.specs.Field.{Field, size, dot}
 use Rattle.field.proofs.Test.{both-left, both-right, both}
 use Rattle.field.proofs.Lists.{getD-map-below}
@@ -17,7 +16,7 @@ use Rattle.field.proofs.Laws.{IsField, dot-lt}
 use Rattle.linear.specs.Lists.{all, zeros, vanish}
 use Rattle.linear.specs.Fill.{sumsOf}
 use Rattle.linear.proofs.Tests.{In, all-in, vanish→zeros}
-use Rattle.repair.specs.Plan.{Plan, Level, noLevel, planOf, levelOf, checksTo, rowAt}
+use Rattle.repair.specs.Plan.{Plan, noLevel, planOf, levelOf, rowAt}
 use Rattle.repair.specs.Refusal.{allBelow}
 use Rattle.repair.specs.Steps.{across}
 use Rattle.repair.specs.Codeword.{rowsHold, totalsHold, isCodeword}

@@ -28,13 +28,13 @@ use Rattle.repair.proofs.Shape.{plan-field}
 use Rattle.repair.proofs.Fit.{rows-all, all-zeros, all-take, all-drop, fit-lent}
 use Rattle.repair.proofs.Sound.{unmarked-below}
 use Rattle.demands.specs.Words.{Codeword, Agree, Fit, total, distance}
-use Rattle.demands.specs.Second.{DistanceSuffices}
 use Rattle.demands.proofs.Lists.{all-map}
 use Rattle.demands.proofs.Marked.{marked, marked-bits, wordWith, word-lt, word-bits, support, support-length, support-marked, support-agrees}
 use Rattle.demands.proofs.Alike.{rows-agree}
 use Rattle.demands.proofs.Codewords.{vanish-same, word-row, word-below}
 use Rattle.demands.proofs.Matrix.{dot-vanish, sums-vanish}
 use Rattle.demands.proofs.Square.{symbols-fit, zeros-length}
+use Rattle.demands.proofs.Counts.{distance-suffices}
 use Rattle.demands.proofs.Parameters.{Distance, known-by-distance}
 
 -- ---- weights by rows
@@ -157,13 +157,13 @@ module _ (p : ℕ) (kn : T (known p)) (X : List ℕ) (word : Codeword p X) where
       rw (word-at r h, word-has r h, ← same)
       (agrees-alike F (support x) (zeros (support x)) x (support-agrees F x (symbols-fit F x (word-below p X word r h)))))
 
-pub distance-from : DistanceSuffices → Distance
+pub no-lighter : Distance
 unfolding blankOf vanish
-distance-from suffices p X word light =
+no-lighter p X word light =
     let kn : T (known p) = known-by-distance p (omega arith) in
     let few : total (marks p kn X word) < distance p = rw (marks-total p kn X word) light in
     let mended : (Y : List ℕ) → Codeword p Y → Agree p (marks p kn X word) Y X → mendStripe p X (marks p kn X word) ≡ Y =
-    λ Y w a. suffices p Y X (marks p kn X word) w (fit p kn X word) a few .1 in
+    λ Y w a. distance-suffices p Y X (marks p kn X word) w (fit p kn X word) a few .1 in
     let zero-word : X ≡ blankOf (planOf p) =
     sym (mended X word (λ i e. refl)) ∙ mended (blankOf (planOf p)) (blank-codeword p (plan-field p kn)) (blank-agrees p kn X word) in
     rw zero-word (all-zeros (λ x. eqb x 0) tt (planOf p .rows * planOf p .columns))

@@ -20,7 +20,8 @@ use Rattle.repair.specs.Plan.{ones, bitChecks, locations1, plan1, locations2, p
 use Rattle.repair.specs.Plan.{noPlan, planOf, noLevel, levelOf, checksTo}
 use Rattle.demands.specs.Words.{counts}
 use Rattle.demands.proofs.Lists.{in-below}
-use Rattle.demands.proofs.Marked.{marked, light-independent, unmarked-independent}
+use Rattle.demands.proofs.Marked.{marked, light-independent}
+use Rattle.demands.proofs.Alike.{unmarked-independent}
 use Rattle.demands.proofs.Binary.{binaryChecks, sum-zero, power-sums-zero}
 
 -- ---- any field, any locations

@@ -1,40 +1,37 @@
 -- A bench held to a codeword that agrees with its unmarked symbols: no step is Clash, a filled row is the codeword's, learned sums are
 -- the codeword's. Assumes nothing.
 use mathlib.Core.Path.{_≡_, refl, sym, ap, ap₂, _∙_, subst, subst₂}
-use mathlib.Core.Logic.{_≢_, inl, inr}
+use mathlib.Core.Logic.{inl, inr}
 use mathlib.Core.Bool.{Bool, true, false, not}
 use mathlib.Core.List.{List, [], _∷_, _++_, map, List·Memᴰ·head, List·Memᴰ·tail}
-use Prim.Native.Nat.{ℕ, zero, suc, _+_, _*_, _^_, _<_, _≤_}
-use native.Mathlib.Nat.{zero-add, zero-lt-suc}
+use Prim.Native.Nat.{ℕ, zero, suc, _+_, _^_, _<_, _≤_}
+use native.Mathlib.Nat.{zero-add}
 use native.Mathlib.Omega.{arith}
-use borrow.Author.Tests.{lt-ltb}
 use lib.Arith.{le→nltb}
 use lib.Dec.{T, eqb, ltb, eqb→eq, ltb→lt, lt→ltb, nltb→le}
-use lib.ListN.{length, take, drop, getD, replicate, length-map}
+use lib.ListN.{length, getD, length-map}
 use Rattle.field.specs.Lists.{if_then_else_, upFrom}
-use Rattle.field.specs.Field.{Field, size, dot}
-use Rattle.field.proofs.Lists.{length-up}
-use Rattle.linear.specs.Lists.{all, zeros, vanish, first, rest}
+use Rattle.field.specs.Field.{dot}
+use Rattle.linear.specs.Lists.{vanish, first, rest}
 use Rattle.linear.specs.Marks.{bitsOf}
-use Rattle.linear.specs.Fill.{sumsOf, dependent, Fill, tied, none, one, fill}
+use Rattle.linear.specs.Fill.{sumsOf, dependent, Fill, tied, one, fill}
 use Rattle.linear.proofs.Tests.{In, either}
-use Rattle.linear.proofs.Choices.{areSymbols, Alike, Inside}
+use Rattle.linear.proofs.Choices.{Alike}
 use Rattle.linear.proofs.Vectors.{sums-append}
-use Rattle.linear.proofs.Filling.{Independent, fill-true}
+use Rattle.linear.proofs.Filling.{fill-true}
 use Rattle.repair.specs.Plan.{Plan, Level, noLevel, known, planOf, levelOf, checksTo, rowAt, marksAt}
 use Rattle.repair.specs.Refusal.{allBelow, room, sumsAt}
-use Rattle.repair.specs.Steps.{fresh, stepped, rowFill, putRow, rowStepBy, rowStep, lossy, across, Learned, blocked, failing, learned, join, joined, levelFill, raise, levelStepBy, levelStep}
+use Rattle.repair.specs.Steps.{fresh, stepped, rowFill, putRow, rowStepBy, rowStep, lossy, across, blocked, learned, join, joined, levelFill, raise, levelStepBy, levelStep}
 use Rattle.repair.specs.declared.Bench.{Bench}
 use Rattle.repair.specs.declared.Stepped.{Stepped}
 use Rattle.repair.specs.declared.Step.the-variants.{Top}
-use Rattle.repair.proofs.Rows.{of-rows, row-end, row-length, learnedAt}
+use Rattle.repair.proofs.Rows.{of-rows, row-end, row-length}
 use Rattle.repair.proofs.Levels.{checks-first, checks-suc, checks-le, sums-length}
-use Rattle.repair.proofs.Shape.{Shape, shape, plan-field}
-use Rattle.repair.proofs.Fit.{BenchFit, Sized, LentFit, if-true, if-false, lent-fit, fresh-mark, fresh-row, fresh-sums}
-use Rattle.repair.proofs.Sound.{Sound, sound-fresh, marks-length, across-below, totalFill, row-outside, sized-put, sized-raise, row-step, level-step, row-place, put-mark, put-mark-other, put-row, put-row-other, fit-put, raise-sums, fit-raise}
-use Rattle.demands.specs.Words.{Codeword, Agree, Fit, Move, onRow, onLevel, after, walk, Quiet}
+use Rattle.repair.proofs.Shape.{shape, plan-field}
+use Rattle.repair.proofs.Fit.{if-true, if-false, lent-fit, fresh-mark, fresh-row, fresh-sums}
+use Rattle.repair.proofs.Sound.{Sound, sound-fresh, marks-length, across-below, totalFill, row-outside, sized-put, sized-raise, row-step, level-step, row-place, put-mark-other, put-row, put-row-other, fit-put, raise-sums, fit-raise}
+use Rattle.demands.specs.Words.{Codeword, Agree, Fit, Move, onRow, onLevel, after, walk}
 use Rattle.demands.proofs.Alike.{alike-refl, alike-sym, alike-unmarked, agree-rows, clear-unmarked}
-use Rattle.demands.proofs.Marked.{marked}
 use Rattle.demands.proofs.Codewords.{vanish-same, all-at, sums-count, sums-below, across-row, word-row, word-below, word-sums, word-totals}
 
 -- the stripe Y has the learned sums

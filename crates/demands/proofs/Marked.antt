@@ -3,10 +3,10 @@ use mathlib.Core.Path.{_≡_, refl, sym, ap, ap₂, _∙_, subst, fun-ext}
 use mathlib.Core.Bool.{Bool, true, false, not}
 use mathlib.Core.List.{List, [], _∷_, map}
 use Prim.Native.Nat.{ℕ, zero, suc, _+_, _*_, _/_, _%_, _^_, _≤_, _<_}
-use native.Mathlib.Nat.{div-one, zero-add, le-trans, le-of-eq, pow-suc}
+use native.Mathlib.Nat.{div-one, zero-add, le-trans, pow-suc}
 use native.Mathlib.Numerals.{add-one, one-add}
 use native.Mathlib.Omega.{arith}
-use lib.Arith.{lt-one, le-zero, digits-div, digits-mod}
+use lib.Arith.{lt-one, digits-div, digits-mod}
 use lib.Count.{ones, ones-step}
 use lib.Dec.{T, T-not, eqb, eqb·suc-zero, lit<}
 use lib.ListN.{length, length-map}
@@ -134,6 +134,3 @@ light-independent F checks n m only-zero ms l h =
     T-not (vanish w) (d .nonzero)
     (weightless-vanish w (only-zero w (agrees-fit F ms w (d .agrees)) (d .vanishes)
     (agrees-length F ms (zeros ms) w (d .agrees) ∙ l) (le-trans (agrees-weight F ms w (d .agrees)) h)))
-
-pub unmarked-independent : (F : Field) (checks : List (List ℕ)) (ms : List Bool) → marked ms ≡ 0 → Independent F checks ms
-unmarked-independent F checks ms e = light-independent F checks (length ms) 0 (λ w h z l le. le-zero le) ms refl (le-of-eq e)

@@ -1,11 +1,11 @@
 -- The order of steps, over two benches held to one codeword: where the second has no marks but the first's, what a step changes in the first
 -- it would change in the second. So no walk from the first passes a quiet end of the second. Assumes nothing.
-use mathlib.Core.Path.{_≡_, refl, sym, ap, _∙_, subst, subst₂}
-use mathlib.Core.Logic.{_≢_, inl, inr}
-use mathlib.Core.Bool.{Bool, not}
+use mathlib.Core.Path.{_≡_, sym, ap, _∙_, subst}
+use mathlib.Core.Logic.{inl, inr}
+use mathlib.Core.Bool.{not}
 use mathlib.Core.List.{List, [], _∷_, map}
-use Prim.Native.Nat.{ℕ, zero, suc, _+_, _*_, _<_, _≤_}
-use native.Mathlib.Nat.{zero-add, le-refl, le-trans, eq-or-lt-of-le, suc-inj}
+use Prim.Native.Nat.{ℕ, zero, suc, _+_, _<_, _≤_}
+use native.Mathlib.Nat.{zero-add, le-refl, le-trans, eq-or-lt-of-le}
 use native.Mathlib.Omega.{arith}
 use lib.Dec.{T, T-not, not-T, eqb, eqb→eq}
 use lib.ListN.{length, getD, set}
@@ -14,14 +14,14 @@ use Rattle.field.specs.Lists.{upFrom}
 use Rattle.linear.specs.Marks.{bitsOf}
 use Rattle.linear.proofs.Choices.{Inside}
 use Rattle.linear.proofs.Filling.{Independent, independent-inside, independent-mono}
-use Rattle.repair.specs.Plan.{Plan, planOf, levelOf, checksTo, rowAt, marksAt}
+use Rattle.repair.specs.Plan.{Plan, planOf, levelOf, checksTo, marksAt}
 use Rattle.repair.specs.Steps.{putRow, raise, lossy}
 use Rattle.repair.specs.declared.Bench.{Bench}
 use Rattle.repair.proofs.Rows.{of-rows}
 use Rattle.repair.proofs.Levels.{checks-grow}
 use Rattle.demands.specs.Words.{Move, onRow, onLevel, after, walk, Quiet}
 use Rattle.demands.proofs.Alike.{inside-refl, inside-trans, clear-inside, inside-clear}
-use Rattle.demands.proofs.Held.{Held, RowFree, LevelFree, wordSums, held-mark-lt, held-words, row-fills, level-learns, Made, stays, fills, learns, makes, held-made, held-after, held-walk}
+use Rattle.demands.proofs.Held.{Held, RowFree, LevelFree, held-mark-lt, held-words, row-fills, level-learns, Made, stays, fills, learns, makes, held-after, held-walk}
 
 -- ---- what may be filled and learned under fewer marks, at a higher level
 
@@ -123,8 +123,10 @@ module _ (p : ℕ) (X : List ℕ) where
       level = below .level;
       marks =
           of-rows (RowInside p (e .marks) (set (b .marks) r 0)) r
-          (rw (getD-set-same (b .marks) r 0 0 (omega (arith, held-words p X b h)),
-          quiet-row p X e k quiet r l (row-free-more p (b .level) (e .level) (e .marks) (b .marks) r (below .level) (below .marks r l) i))
+          (rw (
+            getD-set-same (b .marks) r 0 0 (omega (arith, held-words p X b h)),
+            quiet-row p X e k quiet r l (row-free-more p (b .level) (e .level) (e .marks) (b .marks) r (below .level) (below .marks r l) i),
+          )
           (inside-refl (bitsOf (planOf p .columns) 0)))
           (λ j g ne. rw (getD-set-other (b .marks) r j 0 0 ne) (below .marks j g));
     }

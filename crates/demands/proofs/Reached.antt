@@ -1,35 +1,32 @@
 -- Benches that steps reach from a fresh one, whether or not a codeword agrees: unmarked symbols stay, and a stripe that has the learned sums
 -- meets every check of the levels learned. Assumes nothing.
-use mathlib.Core.Path.{_≡_, refl, sym, ap, ap₂, _∙_, subst, subst₂}
-use mathlib.Core.Logic.{_≢_, inl, inr}
+use mathlib.Core.Path.{_≡_, refl, sym, ap, _∙_, subst}
 use mathlib.Core.Bool.{Bool, true, false, not}
-use mathlib.Core.List.{List, [], _∷_, _++_, map}
-use Prim.Native.Nat.{ℕ, zero, suc, _+_, _*_, _<_, _≤_}
-use native.Mathlib.Nat.{suc-inj}
+use mathlib.Core.List.{List, [], _∷_, _++_}
+use Prim.Native.Nat.{ℕ, suc, _<_}
 use native.Mathlib.Omega.{arith}
-use lib.Dec.{T, T-not, eqb}
+use lib.Dec.{T, eqb}
 use lib.ListN.{length, take, drop, getD, length-map, drop-of-length-le, length-take}
-use lib.Seq.{take-suc, drop-append-le, ext-getD, length-take-le, take-append-seam, drop-append-seam, take-at, drop-at}
+use lib.Seq.{take-suc, drop-append-le, ext-getD, take-append-seam, drop-append-seam, take-at, drop-at}
 use Rattle.field.specs.Lists.{if_then_else_, upFrom}
-use Rattle.field.specs.Field.{Field, dot}
+use Rattle.field.specs.Field.{dot}
 use Rattle.field.proofs.Test.{both}
 use Rattle.field.proofs.Lists.{length-up, getD-map-below}
 use Rattle.linear.specs.Lists.{all, zeros, vanish}
-use Rattle.linear.specs.Marks.{bitsOf}
-use Rattle.linear.specs.Fill.{sumsOf, dependent, Fill, tied, none, one, fill}
-use Rattle.linear.proofs.Tests.{either, zeros-vanish, all-append}
-use Rattle.linear.proofs.Choices.{Alike, Inside, agrees-length, agrees-alike}
+use Rattle.linear.specs.Fill.{sumsOf, tied, one}
+use Rattle.linear.proofs.Tests.{zeros-vanish, all-append}
+use Rattle.linear.proofs.Choices.{Alike, agrees-length, agrees-alike}
 use Rattle.linear.proofs.Vectors.{sums-append}
-use Rattle.linear.proofs.Filling.{Means, Filling, fill-means}
+use Rattle.linear.proofs.Filling.{Means, fill-means}
 use Rattle.repair.specs.Plan.{Plan, Level, noLevel, planOf, levelOf, checksTo, rowAt, marksAt}
 use Rattle.repair.specs.Refusal.{room, sumsAt}
-use Rattle.repair.specs.Steps.{fresh, rowFill, putRow, lossy, across, Learned, blocked, failing, learned, levelFill, raise}
+use Rattle.repair.specs.Steps.{fresh, rowFill, putRow, lossy, across, blocked, learned, levelFill, raise}
 use Rattle.repair.specs.Codeword.{rowsHold, totalsHold}
 use Rattle.repair.specs.declared.Bench.{Bench}
 use Rattle.repair.proofs.Rows.{of-rows, row-end, learnedAt}
 use Rattle.repair.proofs.Levels.{checks-first, checks-suc, checks-le, sums-length}
 use Rattle.repair.proofs.Shape.{shape}
-use Rattle.repair.proofs.Fit.{if-true, if-false, lent-fit, rows-all, fresh-mark, fresh-row, fresh-sums}
+use Rattle.repair.proofs.Fit.{lent-fit, rows-all, fresh-mark, fresh-row, fresh-sums}
 use Rattle.repair.proofs.Sound.{Ones, Sound, sound-fresh, totalFill, filled-row, put-mark, put-mark-other, put-row, put-row-other, learned-ones, learned-length, raise-sums, sound-put, sound-raise}
 use Rattle.demands.specs.Words.{Codeword, Agree, Fit}
 use Rattle.demands.proofs.Alike.{alike-refl, alike-trans, alike-inside, inside-refl, clear-inside}

@@ -1,37 +1,34 @@
 -- Mending in one call: where its rounds end, and what holds there. Assumes nothing.
 use mathlib.Core.Path.{_≡_, refl, sym, ap, ap₂, _∙_, subst}
 use mathlib.Core.Logic.{_⊎_, _≢_, inl, inr}
-use mathlib.Core.Bool.{Bool, true, false, not}
+use mathlib.Core.Bool.{Bool, true, false}
 use mathlib.Core.List.{List, [], _∷_, _++_, map}
 use Prim.Native.Nat.{ℕ, zero, suc, _+_, _*_, _<_, _≤_, zero-le}
-use native.Mathlib.Nat.{add-zero, add-suc, zero-add, zero-mul, suc-mul, mul-le-mul-right, le-refl, eq-or-lt-of-le, le-of-suc-le-suc, not-suc-le-zero}
+use native.Mathlib.Nat.{add-zero, add-suc, zero-add, zero-mul, suc-mul, mul-le-mul-right, eq-or-lt-of-le, le-of-suc-le-suc, not-suc-le-zero}
 use native.Mathlib.Omega.{arith}
 use borrow.Author.Tests.{ltb-true}
 use lib.Arith.{le→nltb}
 use lib.Dec.{T, eqb, ltb, ltb→lt, lt→ltb, nltb→le}
-use lib.ListN.{length, take, drop, getD, set, replicate}
-use lib.Seq.{sets, set-getD}
+use lib.ListN.{length, getD, set, replicate}
+use lib.Seq.{set-getD}
 use Rattle.field.specs.Lists.{if_then_else_, upFrom}
-use Rattle.field.specs.Field.{Field, size}
-use Rattle.linear.specs.Marks.{bitsOf}
-use Rattle.linear.specs.Fill.{sumsOf, dependent, Fill, tied, none, one, fill}
+use Rattle.field.specs.Field.{size}
+use Rattle.linear.specs.Fill.{sumsOf, Fill, tied, none, one}
 use Rattle.linear.proofs.Tests.{either}
-use Rattle.linear.proofs.Choices.{Alike, alike-agrees}
-use Rattle.linear.proofs.Filling.{Means, Filling, dependent-in, in-dependent, fill-means, fill-tied, fill-one}
-use Rattle.repair.specs.Plan.{Plan, Level, planOf, levelOf, checksTo, rowAt, marksAt}
+use Rattle.linear.proofs.Choices.{alike-agrees}
+use Rattle.linear.proofs.Filling.{Means, dependent-in, in-dependent, fill-means, fill-tied, fill-one}
+use Rattle.repair.specs.Plan.{Plan, planOf, checksTo, rowAt, marksAt}
 use Rattle.repair.specs.Answers.{stepNumber}
 use Rattle.repair.specs.Refusal.{allBelow, sumsAt}
 use Rattle.repair.specs.Steps.{fresh, stepped, rowFill, putRow, rowStepBy, rowStep, Learned, blocked, failing, learned, levelFill, raise, levelStepBy, levelStep}
 use Rattle.repair.specs.Rounds.{Standing, Turn, on, end, clash, counted, afterRow, afterLevel, takeTurn, goOn, turns, mended}
 use Rattle.repair.specs.declared.Bench.{Bench}
 use Rattle.repair.specs.declared.Stepped.{Stepped}
-use Rattle.repair.specs.declared.Step.{Step}
-use Rattle.repair.specs.declared.Step.the-variants.{Whole, Filled, Tied, Raised, Blocked, Top, Clash}
+use Rattle.repair.specs.declared.Step.the-variants.{Whole, Filled, Tied, Top}
 use Rattle.repair.proofs.Rows.{row-length, row-again}
-use Rattle.repair.proofs.Shape.{shape}
 use Rattle.repair.proofs.Fit.{if-true, if-false}
 use Rattle.repair.proofs.Sound.{Sound, marks-length, row-outside, row-step, level-step, row-place, filled-row, put-mark, put-mark-other, put-row, put-row-other}
-use Rattle.demands.specs.Words.{Codeword, Agree, Fit, Move, onRow, onLevel, after, walk, Quiet, rounds}
+use Rattle.demands.specs.Words.{Codeword, Agree, Fit, Move, onRow, onLevel, walk, Quiet, rounds}
 use Rattle.demands.proofs.Marked.{marked}
 use Rattle.demands.proofs.Alike.{alike-refl, unmarked-all, unmarked-independent, clear-unmarked}
 use Rattle.demands.proofs.Held.{rowTied, levelTied, wordSums, row-finds, level-finds}

@@ -4,20 +4,18 @@ use mathlib.Core.Logic.{inl, inr}
 use mathlib.Core.Bool.{Bool, true, false, not}
 use mathlib.Core.List.{List, [], _∷_, map}
 use Prim.Native.Nat.{ℕ, zero, suc, _+_, _*_, _<_, _≤_, zero-le}
-use native.Mathlib.Nat.{zero-add, zero-mul, suc-mul, zero-lt-suc, le-of-suc-le-suc, eq-or-lt-of-le, le-of-eq}
+use native.Mathlib.Nat.{zero-mul, suc-mul, zero-lt-suc, le-of-suc-le-suc, eq-or-lt-of-le, le-of-eq}
 use native.Mathlib.Omega.{arith}
 use borrow.Author.Tests.{eqb-true}
 use lib.Dec.{T, T-not, eqb, ltb, eqb→eq}
 use lib.ListN.{length, take, drop, getD, replicate, take-append-drop, drop-of-length-le}
 use lib.Seq.{take-add, take-length, length-take-le, getD-take}
 use Rattle.field.specs.Lists.{if_then_else_, upFrom}
-use Rattle.field.specs.Field.{Field, size}
+use Rattle.field.specs.Field.{size}
 use Rattle.field.proofs.Test.{both}
 use Rattle.linear.specs.Lists.{all, only, zeros}
-use Rattle.linear.specs.Marks.{bitsOf}
-use Rattle.linear.specs.Fill.{sumsOf, Fill, tied, none, one, fill}
+use Rattle.linear.specs.Fill.{sumsOf, Fill, tied, none, one}
 use Rattle.linear.proofs.Tests.{all-append}
-use Rattle.linear.proofs.Choices.{Alike}
 use Rattle.linear.proofs.Filling.{Means, no-dependency, fill-means}
 use Rattle.repair.specs.Plan.{Plan, Level, planOf, levelOf, checksTo, rowAt, marksAt}
 use Rattle.repair.specs.Refusal.{allBelow, lentRefusal}
@@ -25,14 +23,13 @@ use Rattle.repair.specs.Steps.{lossy, across, Learned, blocked, failing, learne
 use Rattle.repair.specs.Rounds.{Standing, Turn, on, end, clash, mended, rowsLeft, endReport, bare, turnReport, turnStripe, turnMarks, mendReport, mendStripe, mendMarks}
 use Rattle.repair.specs.Codeword.{rowsHold, totalsHold, isCodeword}
 use Rattle.repair.specs.declared.Bench.{Bench}
-use Rattle.repair.specs.declared.Place.{Place}
 use Rattle.repair.specs.declared.Report.{Report}
 use Rattle.repair.specs.declared.Answer.{Answer}
 use Rattle.repair.specs.declared.Answer.the-variants.{Restored, Stuck, Clash, Refused}
 use Rattle.repair.proofs.Rows.{row-end, row-length, row-append, rows-ext}
 use Rattle.repair.proofs.Shape.{shape}
 use Rattle.repair.proofs.Fit.{if-true, RowFits, lent-fit}
-use Rattle.repair.proofs.Sound.{marks-length, totalFill, row-place}
+use Rattle.repair.proofs.Sound.{marks-length, totalFill}
 use Rattle.demands.specs.Words.{Codeword, Agree, Fit}
 use Rattle.demands.specs.Second.{IsRestored, RestoredMeans, ClashMeans, StuckMeans}
 use Rattle.demands.proofs.Marked.{marked}
@@ -62,7 +59,7 @@ zeros-take (suc n) [] h z = absurd (omega arith)
 zeros-take (suc n) (x ∷ l) h z = ap₂ _∷_ (z 0 (zero-lt-suc n)) (zeros-take n l (le-of-suc-le-suc h) (λ r k. z (suc r) (omega arith)))
 
 -- where no row has marks, each mark word is 0
-lossy-none : (marks : List ℕ) (k n : ℕ) → marked (map (λ r. not (eqb (getD marks r 0) 0)) (upFrom k n)) ≡ 0
+pub lossy-none : (marks : List ℕ) (k n : ℕ) → marked (map (λ r. not (eqb (getD marks r 0) 0)) (upFrom k n)) ≡ 0
     → (r : ℕ) → k ≤ r → r < k + n → getD marks r 0 ≡ 0
 unfolding if_then_else_ upFrom only
 lossy-none marks k zero e r h l = absurd (omega arith)

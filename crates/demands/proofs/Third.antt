@@ -1,7 +1,7 @@
 -- The third demand. Assumes nothing.
 use mathlib.Core.Path.{_≡_, refl, sym, _∙_, subst}
 use mathlib.Core.List.{List}
-use Prim.Native.Nat.{ℕ, _<_, _≤_}
+use Prim.Native.Nat.{ℕ}
 use native.Mathlib.Nat.{le-antisymm}
 use lib.ListN.{length, getD}
 use Rattle.repair.specs.Plan.{planOf, marksAt}
@@ -9,7 +9,7 @@ use Rattle.repair.specs.Steps.{fresh}
 use Rattle.repair.specs.Rounds.{Standing, Turn, on, end, clash, mended}
 use Rattle.repair.specs.declared.Bench.{Bench}
 use Rattle.demands.specs.Words.{Move, walk, Quiet, rounds}
-use Rattle.demands.specs.Third.{Premise, OrderNeverMatters, EndsThere, MendingEndsThere, RoundsSuffice}
+use Rattle.demands.specs.Third.{Premise, OrderNeverMatters, MendingEndsThere, RoundsSuffice}
 use Rattle.demands.proofs.Alike.{inside-same}
 use Rattle.demands.proofs.Held.{Held, held-fresh, held-walk, held-mark-lt}
 use Rattle.demands.proofs.Order.{below-refl, fewer-marks}

@@ -1,7 +1,7 @@
 -- Whole benches: what steps leave as it was, room included; and benches that came from one and have the same level and marks are equal.
 -- Assumes nothing.
 use mathlib.Core.Path.{_≡_, refl, sym, ap, ap₂, _∙_, subst}
-use mathlib.Core.Logic.{_⊎_, _≢_, inl, inr}
+use mathlib.Core.Logic.{_⊎_, inl, inr}
 use mathlib.Core.List.{List, [], _∷_, _++_}
 use Prim.Native.Nat.{ℕ, zero, suc, _+_, _*_, _<_, _≤_, zero-le}
 use native.Mathlib.Nat.{zero-add, le-refl, zero-lt-suc, le-of-suc-le-suc, not-suc-le-zero}
@@ -10,7 +10,7 @@ use lib.ListN.{length, take, drop, getD, set, length-append, length-map, take-ap
 use lib.Seq.{sets, drop-drop, drop-set-lt, take-take, getD-set-same, getD-set-other}
 use Rattle.field.specs.Lists.{upFrom}
 use Rattle.linear.specs.Fill.{sumsOf}
-use Rattle.repair.specs.Plan.{Plan, planOf, levelOf, checksTo, rowAt, marksAt}
+use Rattle.repair.specs.Plan.{Plan, planOf, levelOf, checksTo, rowAt}
 use Rattle.repair.specs.Refusal.{room, sumsAt}
 use Rattle.repair.specs.Steps.{putRow, across, keepSums, raise}
 use Rattle.repair.specs.declared.Bench.{Bench}
