@@ -103,8 +103,12 @@ module _ (p : ℕ) (X marks : List ℕ) (words : length marks ≡ planOf p .rows
     left-le : (r : ℕ) → r < P .rows → ones (left r) ≤ ones (getD marks r 0)
     unfolding marksAt
     left-le r h =
-        omega (arith, inside-marked (bitsOf (P .columns) (left r)) (bitsOf (P .columns) (getD marks r 0)) (fewer r h),
-        marked-bits (P .columns) (left r) (held-mark-lt p X b held r h), marked-bits (P .columns) (getD marks r 0) (mark-lt r h))
+        omega (
+          arith,
+          inside-marked (bitsOf (P .columns) (left r)) (bitsOf (P .columns) (getD marks r 0)) (fewer r h),
+          marked-bits (P .columns) (left r) (held-mark-lt p X b held r h),
+          marked-bits (P .columns) (getD marks r 0) (mark-lt r h),
+        )
 
     -- rows with few marks are filled at level i + 1, so the others are as few as the counts allow
     module _ (i : ℕ) (at : b .level ≡ suc i) where

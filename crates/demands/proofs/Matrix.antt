@@ -33,6 +33,24 @@ put [] u v = []
 put (true ∷ ms) u v = first u ∷ put ms (rest u) (rest v)
 put (false ∷ ms) u v = first v ∷ put ms u (rest v)
 
+pub picked-length : (ms : List Bool) (w : List ℕ) → length (picked ms w) ≡ marked ms
+unfolding if_then_else_ only picked
+picked-length [] w = refl
+picked-length (true ∷ ms) w = ap suc (picked-length ms (rest w))
+picked-length (false ∷ ms) w = picked-length ms (rest w)
+
+pub put-vanish : (ms : List Bool) (u : List ℕ) → T (vanish u) → T (vanish (put ms u []))
+unfolding all vanish first rest put
+put-vanish [] u t = tt
+put-vanish (true ∷ ms) [] t = put-vanish ms [] t
+put-vanish (true ∷ ms) (x ∷ u) t =
+    both (eqb x 0) (vanish (put ms u [])) (both-left (eqb x 0) (vanish u) t) (put-vanish ms u (both-right (eqb x 0) (vanish u) t))
+put-vanish (false ∷ ms) u t = put-vanish ms u t
+
+vanish-[] : T (vanish [])
+unfolding all vanish
+vanish-[] = tt
+
 -- ---- matrices, as lists of rows
 
 -- the sum of the rows, each times its coefficient
@@ -48,11 +66,9 @@ unfoldable pub identity : ℕ → List (List ℕ)
 identity zero = []
 identity (suc n) = (1 ∷ replicate n 0) ∷ map (λ r. 0 ∷ r) (identity n)
 
-vanish-[] : T (vanish [])
-unfolding all vanish
-vanish-[] = tt
-
 module _ (F : Field) (K : IsField F) where
+  -- ---- sums
+
   dot-comm : (a b : List ℕ) → dot F a b ≡ dot F b a
   unfolding dot
   dot-comm [] [] = refl
@@ -71,6 +87,24 @@ module _ (F : Field) (K : IsField F) where
   dot-zeros zero u = refl
   dot-zeros (suc n) [] = refl
   dot-zeros (suc n) (x ∷ u) = ap₂ _⊕_ (zero-mul F K x) (dot-zeros n u) ∙ ⊕-self 0
+
+  pub dot-vanish : (c u : List ℕ) → T (vanish u) → dot F c u ≡ 0
+  unfolding all vanish dot
+  dot-vanish [] u t = refl
+  dot-vanish (k ∷ c) [] t = refl
+  dot-vanish (k ∷ c) (x ∷ u) t =
+      ap₂ _⊕_ (ap (mul F k) (eqb→eq x 0 (both-left (eqb x 0) (vanish u) t)) ∙ mul-zero F K k) (dot-vanish c u (both-right (eqb x 0) (vanish u) t))
+      ∙ ⊕-self 0
+
+  dot-right : (c : List ℕ) (x : ℕ) (u : List ℕ) → dot F c (x ∷ u) ≡ mul F (first c) x ⊕ dot F (rest c) u
+  unfolding first rest dot
+  dot-right [] x u = sym (ap (λ z. z ⊕ 0) (zero-mul F K x) ∙ ⊕-self 0)
+  dot-right (k ∷ c) x u = refl
+
+  dot-left : (k : ℕ) (c u : List ℕ) → dot F (k ∷ c) u ≡ mul F k (first u) ⊕ dot F c (rest u)
+  dot-left k c u = dot-comm (k ∷ c) u ∙ dot-right u k c ∙ ap₂ _⊕_ (K .comm (first u) k) (dot-comm (rest u) c)
+
+  -- ---- products
 
   -- sums of sums are those of the combined rows
   dot-combine : (ks : List ℕ) (rows : List (List ℕ)) (u : List ℕ) → dot F ks (sumsOf F rows u) ≡ dot F (combine F ks rows) u
@@ -101,7 +135,7 @@ module _ (F : Field) (K : IsField F) where
   pub undone : (A C : List (List ℕ)) (u : List ℕ) → Fit (size F) u → product F A C ≡ identity (length u) → sumsOf F A (sumsOf F C u) ≡ u
   undone A C u h e = sums-product A C u ∙ ap (λ M. sumsOf F M u) e ∙ sums-identity u h
 
-  -- ---- sums and marks
+  -- ---- entries at the marks
 
   pub put-agrees : (ms : List Bool) (u v : List ℕ) → Fit (size F) u → Agrees F ms v (put ms u v)
   unfolding first rest put
@@ -124,38 +158,6 @@ module _ (F : Field) (K : IsField F) where
   picked-fit (true ∷ ms) (x ∷ w) h = (h .0, picked-fit ms w (h .1))
   picked-fit (false ∷ ms) [] h = picked-fit ms [] h
   picked-fit (false ∷ ms) (x ∷ w) h = picked-fit ms w (h .1)
-
-  pub picked-length : (ms : List Bool) (w : List ℕ) → length (picked ms w) ≡ marked ms
-  unfolding if_then_else_ only picked
-  picked-length [] w = refl
-  picked-length (true ∷ ms) w = ap suc (picked-length ms (rest w))
-  picked-length (false ∷ ms) w = picked-length ms (rest w)
-
-  pub put-vanish : (ms : List Bool) (u : List ℕ) → T (vanish u) → T (vanish (put ms u []))
-  unfolding all vanish first rest put
-  put-vanish [] u t = tt
-  put-vanish (true ∷ ms) [] t = put-vanish ms [] t
-  put-vanish (true ∷ ms) (x ∷ u) t =
-      both (eqb x 0) (vanish (put ms u [])) (both-left (eqb x 0) (vanish u) t) (put-vanish ms u (both-right (eqb x 0) (vanish u) t))
-  put-vanish (false ∷ ms) u t = put-vanish ms u t
-
-  -- ---- sums of entries at the marks
-
-  pub dot-vanish : (c u : List ℕ) → T (vanish u) → dot F c u ≡ 0
-  unfolding all vanish dot
-  dot-vanish [] u t = refl
-  dot-vanish (k ∷ c) [] t = refl
-  dot-vanish (k ∷ c) (x ∷ u) t =
-      ap₂ _⊕_ (ap (mul F k) (eqb→eq x 0 (both-left (eqb x 0) (vanish u) t)) ∙ mul-zero F K k) (dot-vanish c u (both-right (eqb x 0) (vanish u) t))
-      ∙ ⊕-self 0
-
-  dot-right : (c : List ℕ) (x : ℕ) (u : List ℕ) → dot F c (x ∷ u) ≡ mul F (first c) x ⊕ dot F (rest c) u
-  unfolding first rest dot
-  dot-right [] x u = sym (ap (λ z. z ⊕ 0) (zero-mul F K x) ∙ ⊕-self 0)
-  dot-right (k ∷ c) x u = refl
-
-  dot-left : (k : ℕ) (c u : List ℕ) → dot F (k ∷ c) u ≡ mul F k (first u) ⊕ dot F c (rest u)
-  dot-left k c u = dot-comm (k ∷ c) u ∙ dot-right u k c ∙ ap₂ _⊕_ (K .comm (first u) k) (dot-comm (rest u) c)
 
   -- the sum of the marked entries, and that of the others
   dot-put : (c : List ℕ) (ms : List Bool) (u v : List ℕ) → dot F c (put ms u v) ≡ dot F (picked ms c) u ⊕ dot F c (put ms [] v)

@@ -67,12 +67,12 @@ square F K checks ms inverse tested = record { independent = independent-of F ch
         let u = picked ms w in
         let back : sumsOf F inverse (sumsOf F (columnsAt ms checks) u) ≡ u =
         undone F K inverse (columnsAt ms checks) u (picked-fit F K ms w (agrees-fit F ms w (d .agrees)))
-        (tested .0 ∙ ap identity (sym (picked-length F K ms w))) in
+        (tested .0 ∙ ap identity (sym (picked-length ms w))) in
         let zero-sums : T (vanish (sumsOf F (columnsAt ms checks) u)) =
         subst (λ s. T (vanish s)) (ap (sumsOf F checks) (agrees-put F K ms w (d .agrees)) ∙ sums-picked F K checks ms u) (d .vanishes) in
         T-not (vanish w) (d .nonzero)
         (subst (λ w. T (vanish w)) (sym (agrees-put F K ms w (d .agrees)))
-        (put-vanish F K ms u (subst (λ u. T (vanish u)) back (sums-vanish F K inverse _ zero-sums))))
+        (put-vanish ms u (subst (λ u. T (vanish u)) back (sums-vanish F K inverse _ zero-sums))))
 
     met : (target v : List ℕ) → length target ≡ length checks → T (areSymbols F target) → (y : List ℕ) × Filling F checks target ms v y
     met target v l t =
