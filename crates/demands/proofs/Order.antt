@@ -84,7 +84,8 @@ pub below-trans : (p : ℕ) (a b c : Bench) → Below p a b → Below p b c → 
 below-trans p a b c f g = record {
   level = le-trans (f .level) (g .level);
   marks = λ r l.
-      inside-trans (marksAt (planOf p) (c .marks) r) (marksAt (planOf p) (b .marks) r) (marksAt (planOf p) (a .marks) r) (g .marks r l) (f .marks r l);
+      inside-trans (marksAt (planOf p) (c .marks) r) (marksAt (planOf p) (b .marks) r) (marksAt (planOf p) (a .marks) r) (g .marks r l)
+      (f .marks r l);
 }
 
 module _ (p : ℕ) (X : List ℕ) where

@@ -282,7 +282,8 @@ module _ (b : Bench) where
       unfolding raise
       raise-sums r inside =
           let sh = shape (b .plan) (f .plan-known) in
-          sums-learned P (b .level) cs (b .sums) r low count (omega (arith, checks-le P low, sh .sums-le)) (omega (arith, sh .rows-le, s .sums)) inside
+          sums-learned P (b .level) cs (b .sums) r low count (omega (arith, checks-le P low, sh .sums-le))
+          (omega (arith, sh .rows-le, s .sums)) inside
 
       pub fit-raise : ((r : ℕ) → r < P .rows → T (allBelow (size (P .field)) (learnedAt cs r))) → BenchFit (raise b cs)
       unfolding raise allBelow
