@@ -75,7 +75,7 @@ unmarked-all q (false ∷ ms) (x ∷ v) z l t =
     both (ltb x q) (allBelow q v) (both-left (ltb x q) (unmarkedBelow q ms v) t)
     (unmarked-all q ms v z (suc-inj l) (both-right (ltb x q) (unmarkedBelow q ms v) t))
 
--- no columns are independent
+-- where no column is marked, the marked columns are independent
 pub unmarked-independent : (F : Field) (checks : List (List ℕ)) (ms : List Bool) → marked ms ≡ 0 → Independent F checks ms
 unmarked-independent F checks ms z =
     independent-of F checks ms λ w d.
