@@ -75,7 +75,7 @@ unmarked-all q (false ∷ ms) (x ∷ v) z l t =
     both (ltb x q) (allBelow q v) (both-left (ltb x q) (unmarkedBelow q ms v) t)
     (unmarked-all q ms v z (suc-inj l) (both-right (ltb x q) (unmarkedBelow q ms v) t))
 
--- no columns are independent
+-- where no column is marked, the marked columns are independent
 pub unmarked-independent : (F : Field) (checks : List (List ℕ)) (ms : List Bool) → marked ms ≡ 0 → Independent F checks ms
 unmarked-independent F checks ms z =
     independent-of F checks ms λ w d.
@@ -149,7 +149,8 @@ module _ (p : ℕ) (marks X Y : List ℕ) where
       at-alike (marksAt P marks r) (rowAt P X r) (rowAt P Y r) (λ c e.
       let l : c < P .columns = subst (λ n. c < n) (marks-length P marks r) (unmarked-lt (marksAt P marks r) c e) in
       row-at X r c l
-      ∙ a (r * P .columns + c) (flat-at (P .columns) (marksAt P marks) (marks-length P marks) 0 (P .rows) r c h l ∙ ap (λ k. getD (marksAt P marks k) c true) (zero-add r) ∙ e)
+      ∙ a (r * P .columns + c)
+      (flat-at (P .columns) (marksAt P marks) (marks-length P marks) 0 (P .rows) r c h l ∙ ap (λ k. getD (marksAt P marks k) c true) (zero-add r) ∙ e)
       ∙ sym (row-at Y r c l))
 
   pub rows-agree : ((r : ℕ) → r < P .rows → Alike (marksAt P marks r) (rowAt P X r) (rowAt P Y r)) → Agree p marks X Y
@@ -158,7 +159,8 @@ module _ (p : ℕ) (marks X Y : List ℕ) where
       let N = P .columns in
       let r = i / N in
       let c = i % N in
-      let l : i < P .rows * N = subst (λ n. i < n) (flat-length N (marksAt P marks) (marks-length P marks) 0 (P .rows)) (unmarked-lt (marksOf P marks) i e) in
+      let l : i < P .rows * N =
+      subst (λ n. i < n) (flat-length N (marksAt P marks) (marks-length P marks) 0 (P .rows)) (unmarked-lt (marksOf P marks) i e) in
       let z : 0 < N = positive N (P .rows) i l in
       let lr : r < P .rows = div-lt-iff-lt-mul z .1 l in
       let lc : c < N = mod-lt i z in

@@ -1,14 +1,14 @@
 -- The published row counts suffice, and so do any d - 1 marks. Assumes nothing.
 use mathlib.Core.Path.{_≡_, refl, sym, ap, _∙_, subst}
 use mathlib.Core.Logic.{_⊎_, inl, inr}
-use mathlib.Core.Bool.{Bool, true, false}
+use mathlib.Core.Bool.{Bool, true, false, not}
 use mathlib.Core.List.{List, [], _∷_, map}
 use Prim.Native.Nat.{ℕ, zero, suc, pred, _+_, _*_, _^_, _<_, _≤_, zero-le}
 use native.Mathlib.Nat.{eq-or-lt-of-le, not-suc-le-zero, le-of-suc-le-suc, le-trans, suc-mul, zero-mul}
 use native.Mathlib.Omega.{arith}
 use borrow.Author.Tests.{leb-true}
 use lib.Count.{ones}
-use lib.Dec.{T, leb, leb→le, le→leb, nleb→lt}
+use lib.Dec.{T, T-not, eqb, leb, nleb→lt}
 use lib.ListN.{length, take, getD, length-map}
 use lib.Seq.{ext-getD, getD-take, length-take-le}
 use Rattle.field.specs.Lists.{if_then_else_, upFrom}
@@ -19,17 +19,36 @@ use Rattle.linear.proofs.Tests.{either}
 use Rattle.linear.proofs.Choices.{Inside}
 use Rattle.repair.specs.Plan.{Plan, plan1, plan2, plan3, noPlan, planOf, marksAt}
 use Rattle.repair.specs.Steps.{lossy}
-use Rattle.repair.specs.declared.Bench.{Bench}
 use Rattle.repair.proofs.Fit.{lent-fit}
 use Rattle.repair.proofs.Sound.{marks-length}
-use Rattle.demands.specs.Words.{Quiet, rowsWith, counts, Within, MeetsCounts, total, distance}
+use Rattle.demands.specs.Words.{rowsWith, counts, Within, MeetsCounts, total, distance}
 use Rattle.demands.specs.Second.{CountsSuffice, DistanceSuffices}
 use Rattle.demands.proofs.Marked.{marked, marked-bits}
 use Rattle.demands.proofs.Few.{count, few-independent, weights-independent}
-use Rattle.demands.proofs.Held.{Held, RowFree, LevelFree, held-level, held-mark-lt}
-use Rattle.demands.proofs.Order.{RowInside, quiet-row, quiet-level}
-use Rattle.demands.proofs.Second.{lossy-none}
-use Rattle.demands.proofs.Clear.{lossy-inside, Clears, clear-restores}
+use Rattle.demands.proofs.Held.{rowTied, levelTied, LevelFree}
+use Rattle.demands.proofs.Left.{lossy-none}
+use Rattle.demands.proofs.Second.{restores}
+
+-- ---- what is left where mending ends
+
+-- of these marks row r has none left in M, or all of them, and is tied at level t
+abbrev pub RowLeft : ℕ → (marks : List ℕ) → ℕ → (M : List ℕ) → ℕ → Type 0
+RowLeft p marks t M r = (getD M r 0 ≡ 0) ⊎ ((getD M r 0 ≡ getD marks r 0) × T (rowTied p t M r))
+
+-- where all rows are so, and tied together unless t is the last level, no mark is left
+abbrev pub Clears : ℕ → (marks : List ℕ) → Type 0
+Clears p marks = (t : ℕ) (M : List ℕ) → 0 < t → t ≤ length (planOf p .levels) → ((r : ℕ) → r < planOf p .rows → RowLeft p marks t M r)
+    → (t < length (planOf p .levels) → T (levelTied p t M)) → (r : ℕ) → r < planOf p .rows → getD M r 0 ≡ 0
+
+-- where rows with marks pass a test, they lie inside those that pass it
+pub lossy-inside : (marks : List ℕ) (g : ℕ → Bool) (k n : ℕ) → ((r : ℕ) → r < k + n → (getD marks r 0 ≡ 0) ⊎ T (g r))
+    → Inside (map (λ r. not (eqb (getD marks r 0) 0)) (upFrom k n)) (map g (upFrom k n))
+unfolding upFrom
+lossy-inside marks g k zero h = tt
+lossy-inside marks g k (suc n) h = (
+  λ t. elim (h k (omega arith)) [ inl e ↦ absurd (subst (λ w. T (not (eqb w 0))) e t) | inr s ↦ s ],
+  lossy-inside marks g (suc k) n (λ r l. h r (omega arith)),
+)
 
 -- ---- the counts
 
@@ -88,82 +107,67 @@ rows-with P marks n e =
         let h : r < P .rows = omega (arith, full) in
         getD-take (P .rows) marks r 0 h ∙ sym (getD-map-below (λ r. getD marks r 0) (P .rows) r 0 h))
 
--- ---- a quiet bench has no marks left
+-- ---- marks that meet the counts
 
-module _ (p : ℕ) (X marks : List ℕ) (words : length marks ≡ planOf p .rows)
+module _ (p : ℕ) (marks : List ℕ) (words : length marks ≡ planOf p .rows)
     (mark-lt : (r : ℕ) → r < planOf p .rows → getD marks r 0 < 2 ^ planOf p .columns) (meets : MeetsCounts p marks) where
   abbrev P : Plan
   P = planOf p
 
-  module _ (b : Bench) (held : Held p X b) (quiet : Quiet b) (fewer : (r : ℕ) → r < P .rows → RowInside p (b .marks) marks r) where
-    abbrev left : ℕ → ℕ
-    left r = getD (b .marks) r 0
+  -- rows with few marks are not tied at level i + 1, so the tied ones are as few as the counts allow
+  module _ (i : ℕ) (M : List ℕ) (rows : (r : ℕ) → r < P .rows → RowLeft p marks (suc i) M r) where
+    enough : ℕ → Bool
+    enough r = leb (count p i .0) (ones (getD marks r 0))
 
-    -- as many marks as left, or fewer
-    left-le : (r : ℕ) → r < P .rows → ones (left r) ≤ ones (getD marks r 0)
-    unfolding marksAt
-    left-le r h =
-        omega (
-          arith,
-          inside-marked (bitsOf (P .columns) (left r)) (bitsOf (P .columns) (getD marks r 0)) (fewer r h),
-          marked-bits (P .columns) (left r) (held-mark-lt p X b held r h),
-          marked-bits (P .columns) (getD marks r 0) (mark-lt r h),
-        )
-
-    -- rows with few marks are filled at level i + 1, so the others are as few as the counts allow
-    module _ (i : ℕ) (at : b .level ≡ suc i) where
-      filled : (r : ℕ) → r < P .rows → ones (left r) < count p i .0 → left r ≡ 0
-      unfolding marksAt
-      filled r h l =
-          quiet-row p X b held quiet r h
-          (subst (λ t. RowFree p t (b .marks) r) (sym at)
-          (few-independent p i (marksAt P (b .marks) r) (marks-length P (b .marks) r)
-          (omega (arith, marked-bits (P .columns) (left r) (held-mark-lt p X b held r h)))))
-
-      many : (r : ℕ) → r < P .rows → (left r ≡ 0) ⊎ T (leb (count p i .0) (ones (getD marks r 0)))
-      many r h =
-          elim (either (leb (count p i .0) (ones (left r)))) [
-            | inl t ↦ inr (le→leb (count p i .0) (ones (getD marks r 0)) (le-trans (leb→le (count p i .0) (ones (left r)) t) (left-le r h)))
-            | inr t ↦ inl (filled r h (nleb→lt (count p i .0) (ones (left r)) t))
+    many : (r : ℕ) → r < P .rows → (getD M r 0 ≡ 0) ⊎ T (enough r)
+    unfolding marksAt enough
+    many r h =
+        elim (rows r h) [
+          | inl z ↦ inl z
+          | inr s ↦ elim (either (leb (count p i .0) (ones (getD marks r 0)))) [
+            | inl t ↦ inr t
+            | inr t ↦
+                absurd (T-not (rowTied p (suc i) M r)
+                (few-independent p i (marksAt P M r) (marks-length P M r)
+                (omega (
+                  arith,
+                  nleb→lt (count p i .0) (ones (getD marks r 0)) t,
+                  ap (λ w. marked (bitsOf (P .columns) w)) (s .0),
+                  marked-bits (P .columns) (getD marks r 0) (mark-lt r h),
+                ))) (s .1))
           ]
+        ]
 
-      few-left : i < length (P .levels) → marked (lossy P (b .marks)) ≤ count p i .1
-      unfolding lossy
-      few-left l =
-          le-trans
-          (inside-marked (lossy P (b .marks)) (map (λ r. leb (count p i .0) (ones (getD marks r 0))) (upFrom 0 (P .rows)))
-          (lossy-inside (b .marks) (λ r. leb (count p i .0) (ones (getD marks r 0))) 0 (P .rows) (λ r l. many r (omega arith))))
-          (subst (λ n. n ≤ count p i .1) (rows-with P marks (count p i .0) words)
-          (within-at P marks (counts p) meets i (omega (arith, counts-levels p .0))))
+    few-left : suc i ≤ length (P .levels) → marked (lossy P M) ≤ count p i .1
+    unfolding lossy enough
+    few-left l =
+        le-trans
+        (inside-marked (lossy P M) (map enough (upFrom 0 (P .rows))) (lossy-inside M enough 0 (P .rows) (λ r l. many r (omega arith))))
+        (subst (λ n. n ≤ count p i .1) (rows-with P marks (count p i .0) words)
+        (within-at P marks (counts p) meets i (omega (arith, counts-levels p .0))))
 
-      raised : suc i < length (P .levels) → ⊥
-      unfolding lossy
-      raised low =
-          quiet-level p X b held quiet (omega arith)
-          (subst (λ t. LevelFree p t (b .marks)) (sym at)
-          (weights-independent p i (lossy P (b .marks)) (length-map (upFrom 0 (P .rows)) _ ∙ length-up 0 (P .rows)) (few-left (omega arith))))
+    learned : suc i < length (P .levels) → LevelFree p (suc i) M
+    unfolding lossy
+    learned low = weights-independent p i (lossy P M) (length-map (upFrom 0 (P .rows)) _ ∙ length-up 0 (P .rows)) (few-left (omega arith))
 
-      at-top : suc i ≡ length (P .levels) → (r : ℕ) → r < P .rows → left r ≡ 0
-      unfolding lossy
-      at-top e r h =
-          let none : count p i .1 ≡ 0 = ap (λ n. count p (pred n) .1) e ∙ counts-levels p .1 in
-          lossy-none (b .marks) 0 (P .rows) (omega (arith, few-left (omega arith))) r zero-le (omega arith)
+    clear : suc i ≡ length (P .levels) → (r : ℕ) → r < P .rows → getD M r 0 ≡ 0
+    unfolding lossy
+    clear e r h =
+        let none : count p i .1 ≡ 0 = ap (λ n. count p (pred n) .1) e ∙ counts-levels p .1 in
+        lossy-none M 0 (P .rows) (omega (arith, few-left (omega arith))) r zero-le (omega arith)
 
-  pub counts-clear : Clears p X marks
-  counts-clear b held quiet fewer = go (b .level) refl
-    where
-      go : (t : ℕ) → b .level ≡ t → (r : ℕ) → r < P .rows → getD (b .marks) r 0 ≡ 0
-      go zero e = absurd (omega (arith, held .sound .fit .level-pos))
-      go (suc i) e =
-          elim (eq-or-lt-of-le (held-level p X b held)) [
-            | inl top ↦ at-top b held quiet fewer i e (sym e ∙ top)
-            | inr low ↦ absurd (raised b held quiet fewer i e (omega arith))
-          ]
+  counts-clear : Clears p marks
+  counts-clear zero M pos le rows level = absurd (omega arith)
+  counts-clear (suc i) M pos le rows level =
+      elim (eq-or-lt-of-le le) [
+        | inl e ↦ clear i M rows e
+        | inr low ↦ absurd (T-not (levelTied p (suc i) M) (learned i M rows low) (level low))
+      ]
 
 pub counts-suffice : CountsSuffice
 counts-suffice p X stripe marks word fit agree meets =
     let lent = lent-fit p stripe marks fit in
-    clear-restores p X stripe marks word fit agree (counts-clear p X marks (lent .words) (lent .mark-lt) meets)
+    restores p X stripe marks word fit agree (counts-clear p marks (lent .words) (lent .mark-lt) meets)
 
 -- ---- any d - 1 marks
 

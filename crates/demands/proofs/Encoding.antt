@@ -1,16 +1,21 @@
 -- The second demand on encoding and extraction. Assumes nothing.
 use mathlib.Core.Path.{_≡_, refl, sym, ap, _∙_}
+use mathlib.Core.Logic.{_⊎_, inl, inr}
 use mathlib.Core.Bool.{_&&_}
 use mathlib.Core.List.{List}
-use Prim.Native.Nat.{ℕ, _*_, _^_}
-use lib.Dec.{T, eqb, ltb, eqb→eq, ltb→lt, lt→ltb}
+use Prim.Native.Nat.{ℕ, zero, suc, _*_, _^_, _<_}
+use native.Mathlib.Nat.{eq-or-lt-of-le}
+use native.Mathlib.Omega.{arith}
+use lib.Dec.{T, T-not, leb, leb→le, nleb→lt, eqb, ltb, eqb→eq, ltb→lt, lt→ltb}
 use lib.ListN.{length, drop, getD}
 use Rattle.field.specs.Lists.{upFrom}
 use Rattle.field.specs.Field.{size}
 use Rattle.field.proofs.Test.{both-left, below, at}
 use Rattle.field.proofs.Ring.{size-pos}
-use Rattle.linear.specs.Lists.{only}
-use Rattle.repair.specs.Plan.{Plan, wordOf, plan1, plan2, plan3, known, planOf, rowAt, marksAt, marksOf}
+use Rattle.linear.proofs.Tests.{either}
+use Rattle.linear.proofs.Filling.{independent-inside}
+use Rattle.repair.specs.Plan.{Plan, wordOf, plan1, plan2, plan3, known, planOf, levelOf, rowAt, marksAt, marksOf}
+use Rattle.repair.specs.Steps.{lossy}
 use Rattle.repair.specs.Refusal.{unasked, stripeFits, allBelow}
 use Rattle.repair.specs.Codeword.{isCodeword, checkPlacesOf, carried, placed, encoded, encodeRefusal, encodeStripe, extracted, extractRefusal, extractData}
 use Rattle.repair.proofs.Shape.{of-known}
@@ -19,9 +24,13 @@ use Rattle.repair.proofs.Sound.{unmarked-below, marks-length}
 use Rattle.demands.specs.Words.{Codeword, Agree, Fit}
 use Rattle.demands.specs.Second.{IsEncoded, EncodingMeans, ExtractionMeans, CodewordsAreEncodings}
 use Rattle.demands.proofs.Lists.{flat-length}
-use Rattle.demands.proofs.Alike.{alike-at, at-alike}
+use Rattle.demands.proofs.Alike.{alike-at, at-alike, inside-refl}
 use Rattle.demands.proofs.Data.{placed-length, placed-all, taken-length, taken-all, taken-placed, alike-taken, taken-alike}
-use Rattle.demands.proofs.Clear.{clear-restores, places-clear}
+use Rattle.demands.proofs.Held.{rowTied, levelTied, LevelFree}
+use Rattle.demands.proofs.Order.{row-free-more}
+use Rattle.demands.proofs.Second.{restores}
+use Rattle.demands.proofs.Counts.{Clears, lossy-inside}
+use Rattle.demands.proofs.Systems.{mendLevel, pending, row-square, level-square, mend-level-bounds}
 use Rattle.demands.proofs.Existence.{codeword-holds}
 
 -- ---- the check places
@@ -39,6 +48,36 @@ places-fit =
 places-count : (P : Plan) → length (checkPlacesOf P) ≡ P .rows * P .columns
 unfolding marksOf checkPlacesOf
 places-count P = flat-length (marksAt P (P .checkPlaces)) (P .columns) 0 (P .rows) (λ r l. marks-length P (P .checkPlaces) r)
+
+-- a row is filled at its level, so the rows still marked are those whose weights are independent at the next
+places-clear : (p : ℕ) → Clears p (planOf p .checkPlaces)
+unfolding marksAt lossy
+places-clear p t M pos le rows level =
+    elim (eq-or-lt-of-le le) [ inl e ↦ at-top e | inr low ↦ absurd (T-not (levelTied p t M) (free t pos low waits) (level low)) ]
+  where
+    waits : (r : ℕ) → r < planOf p .rows → (getD M r 0 ≡ 0) ⊎ T (ltb t (mendLevel p r))
+    waits r h =
+        elim (rows r h) [
+          | inl z ↦ inl z
+          | inr s ↦ elim (either (leb (mendLevel p r) t)) [
+            | inl l ↦
+                absurd (T-not (rowTied p t M r)
+                (row-free-more p (mendLevel p r) t M (planOf p .checkPlaces) r (leb→le (mendLevel p r) t l)
+                (rw (s .0) (inside-refl (marksAt (planOf p) (planOf p .checkPlaces) r))) (row-square p r h .independent)) (s .1))
+            | inr l ↦ inr (lt→ltb t (mendLevel p r) (nleb→lt (mendLevel p r) t l))
+          ]
+        ]
+
+    at-top : t ≡ length (planOf p .levels) → (r : ℕ) → r < planOf p .rows → getD M r 0 ≡ 0
+    at-top e r h = elim (waits r h) [ inl z ↦ z | inr l ↦ absurd (omega (arith, ltb→lt t (mendLevel p r) l, mend-level-bounds p r h .1)) ]
+
+    free : (t : ℕ) → 0 < t → t < length (planOf p .levels) → ((r : ℕ) → r < planOf p .rows → (getD M r 0 ≡ 0) ⊎ T (ltb t (mendLevel p r)))
+        → LevelFree p t M
+    free zero pos low waits = absurd (omega arith)
+    free (suc i) pos low waits =
+        independent-inside (planOf p .field) (levelOf (planOf p) (suc (suc i)) .weights) (lossy (planOf p) M) (pending p (suc i))
+        (lossy-inside M (λ r. ltb (suc i) (mendLevel p r)) 0 (planOf p .rows) (λ r l. waits r (omega arith)))
+        (level-square p i low .independent)
 
 -- ---- data of the right number and symbols
 
@@ -85,7 +124,7 @@ module _ (p : ℕ) (kn : T (known p)) (ds : List ℕ) (count : length ds ≡ car
   -- mending D gives the codeword that holds the data
   pub encodes : (X : List ℕ) → Codeword p X → extracted P X ≡ ds → encoded p ds ≡ X
   unfolding encoded
-  encodes X word e = clear-restores p X D (P .checkPlaces) word fit (data-agrees X word e) (places-clear p X) .1
+  encodes X word e = restores p X D (P .checkPlaces) word fit (data-agrees X word e) (places-clear p) .1
 
   pub is-encoded : IsEncoded p ds (encoded p ds)
   is-encoded =

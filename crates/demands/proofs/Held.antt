@@ -93,11 +93,13 @@ module _ (p : ℕ) (X stripe marks : List ℕ) (fit : Fit p stripe marks) (word 
             (sums-length (planOf p) 1 (fresh p stripe marks .sums) r (omega (arith, checks-le (planOf p) (sh .levels-pos), sh .sums-le))
             (omega (arith, row-end room l, sh .rows-le)) ∙ sym (sums-count (planOf p .field) C (rowAt (planOf p) X r)))
             (fresh-sums p stripe marks r)
-            (subst (λ cs. T (vanish (sumsOf (planOf p .field) cs (rowAt (planOf p) X r)))) (sym (checks-first (planOf p) (sh .levels-pos))) (word-sums p X word r l));
+            (subst (λ cs. T (vanish (sumsOf (planOf p .field) cs (rowAt (planOf p) X r)))) (sym (checks-first (planOf p) (sh .levels-pos)))
+            (word-sums p X word r l));
       }
 
--- ---- steps
+-- ---- what is found for a row and for a level
 
+-- fillings that are tied together, or none is
 joined-same : (D : Bool) (f : List ℕ → Fill) (g : List ℕ → List ℕ) (xs : List (List ℕ))
     → ((x : List ℕ) → In x xs → f x ≡ (if D then tied else one (g x))) → 0 < length xs
     → joined (map f xs) ≡ (if D then blocked else learned (map g xs))
@@ -110,7 +112,7 @@ joined-same false f g xs h z = ones xs h
     ones [] h = refl
     ones (x ∷ xs) h = ap₂ join (h x (List·Memᴰ·head refl)) (ones xs (λ y m. h y (List·Memᴰ·tail m)))
 
--- check by check
+-- vectors over the rows that agree in each row that passes the test
 alike-up : (d : ℕ → Bool) (f g : ℕ → ℕ) (k n : ℕ) → ((r : ℕ) → r < k + n → T (d r) → f r ≡ g r)
     → Alike (map (λ r. not (d r)) (upFrom k n)) (map f (upFrom k n)) (map g (upFrom k n))
 unfolding upFrom first rest
@@ -139,6 +141,7 @@ module _ (X : List ℕ) (b : Bench) (h : Held (b .plan) X b) where
       (row-length P (b .symbols) r (row-place b f r l (h .sound .sized)) ∙ sym (marks-length P (b .marks) r))
       (word-row (b .plan) X (h .codeword) r l ∙ sym (marks-length P (b .marks) r)) (h .alike r l)
 
+  -- the row's filling is the codeword's, or its columns are dependent
   own-row-finds : (r : ℕ) → r < P .rows
       → rowFill b r ≡ (if rowTied (b .plan) (b .level) (b .marks) r then tied else one (rowAt P X r))
   unfolding rowFill allBelow
@@ -149,13 +152,15 @@ module _ (X : List ℕ) (b : Bench) (h : Held (b .plan) X b) where
       ∙ fill-true (P .field) C ms (rowAt P (b .symbols) r) (rowAt P X r) (h .alike r l)
       (word-row (b .plan) X (h .codeword) r l ∙ sym (marks-length P (b .marks) r)) (word-below (b .plan) X (h .codeword) r l)
 
+  -- and so for the rows' sums under each check of the next level
   own-level-finds : b .level < length (P .levels)
       → levelFill b ≡ (if levelTied (b .plan) (b .level) (b .marks) then blocked else learned (wordSums (b .plan) (b .level) X))
   unfolding levelFill across lossy allBelow levelOf
   own-level-finds low =
       joined-same (levelTied (b .plan) (b .level) (b .marks)) (totalFill b L) (across P X) (L .checks) finds
       (ltb→lt 0 (length (L .checks))
-      (all-at (λ (L : Level). ltb 0 (length (L .checks))) noLevel (P .levels) (shape (b .plan) (h .sound .fit .plan-known) .some-checks) (b .level) low))
+      (all-at (λ (L : Level). ltb 0 (length (L .checks))) noLevel (P .levels)
+      (shape (b .plan) (h .sound .fit .plan-known) .some-checks) (b .level) low))
     where
       finds : (c : List ℕ) → In c (L .checks)
           → totalFill b L c ≡ (if levelTied (b .plan) (b .level) (b .marks) then tied else one (across P X c))
@@ -163,9 +168,11 @@ module _ (X : List ℕ) (b : Bench) (h : Held (b .plan) X b) where
           ap (λ target. fill (P .field) (L .weights) target (lossy P (b .marks)) (across P (b .symbols) c))
           (sym (word-totals (b .plan) X (h .codeword) (b .level) (h .sound .fit .level-pos) low m))
           ∙ fill-true (P .field) (L .weights) (lossy P (b .marks)) (across P (b .symbols) c) (across P X c)
-          (alike-up (λ r. eqb (getD (b .marks) r 0) 0) (λ r. dot (P .field) c (rowAt P (b .symbols) r)) (λ r. dot (P .field) c (rowAt P X r)) 0 (P .rows)
+          (alike-up (λ r. eqb (getD (b .marks) r 0) 0) (λ r. dot (P .field) c (rowAt P (b .symbols) r)) (λ r. dot (P .field) c (rowAt P X r)) 0
+          (P .rows)
           (λ r l t. ap (dot (P .field) c) (own-unmarked r (subst (λ n. r < n) (zero-add (P .rows)) l) (eqb→eq (getD (b .marks) r 0) 0 t))))
-          (length-map (upFrom 0 (P .rows)) (λ r. dot (P .field) c (rowAt P X r)) ∙ sym (length-map (upFrom 0 (P .rows)) (λ r. not (eqb (getD (b .marks) r 0) 0))))
+          (length-map (upFrom 0 (P .rows)) (λ r. dot (P .field) c (rowAt P X r))
+          ∙ sym (length-map (upFrom 0 (P .rows)) (λ r. not (eqb (getD (b .marks) r 0) 0))))
           (across-below P (plan-field (b .plan) (h .sound .fit .plan-known)) X c)
 
   own-put : (r : ℕ) → r < P .rows → Held (b .plan) X (putRow b r (rowAt P X r))
@@ -177,7 +184,10 @@ module _ (X : List ℕ) (b : Bench) (h : Held (b .plan) X b) where
       let c = putRow b r (rowAt P X r) in
       record {
         plan = refl;
-        sound = record { fit = fit-put b f r l s (rowAt P X r) long (word-below (b .plan) X (h .codeword) r l); sized = sized-put b s r (rowAt P X r) };
+        sound = record {
+          fit = fit-put b f r l s (rowAt P X r) long (word-below (b .plan) X (h .codeword) r l);
+          sized = sized-put b s r (rowAt P X r);
+        };
         codeword = h .codeword;
         alike =
             of-rows (λ k. Alike (marksAt P (c .marks) k) (rowAt P (c .symbols) k) (rowAt P X k)) r
@@ -314,7 +324,9 @@ module _ (p : ℕ) (X : List ℕ) where
               | inl d ↦ subst (Made p X b) (sym (row-stays p X b h r l d)) stays
               | inr i ↦ subst (Made p X b) (sym (row-fills p X b h r l i)) (fills r l i)
             ]
-        | inr t ↦ subst (Made p X b) (sym (row-outside b r (subst (λ q. planOf q .rows ≤ r) (sym (h .plan)) (nltb→le r (planOf p .rows) t)))) stays
+        | inr t ↦
+            let high = subst (λ q. planOf q .rows ≤ r) (sym (h .plan)) (nltb→le r (planOf p .rows) t) in
+            subst (Made p X b) (sym (row-outside b r high)) stays
       ]
   makes b h onLevel =
       elim (either (ltb (b .level) (length (planOf p .levels)))) [
@@ -324,7 +336,9 @@ module _ (p : ℕ) (X : List ℕ) where
               | inl d ↦ subst (Made p X b) (sym (level-stays p X b h low d)) stays
               | inr i ↦ subst (Made p X b) (sym (level-learns p X b h low i)) (learns low i)
             ]
-        | inr t ↦ subst (Made p X b) (sym (ap (λ (s : Stepped). s .bench) (level-top p X b h (nltb→le (b .level) (length (planOf p .levels)) t)))) stays
+        | inr t ↦
+            let high = nltb→le (b .level) (length (planOf p .levels)) t in
+            subst (Made p X b) (sym (ap (λ (s : Stepped). s .bench) (level-top p X b h high))) stays
       ]
 
   pub held-made : (b c : Bench) → Held p X b → Made p X b c → Held p X c

@@ -59,14 +59,14 @@ module _ (p : ℕ) where
 
 module _ (p : ℕ) (X : List ℕ) (e : Bench) (h : Held p X e) (quiet : Quiet e) where
   -- a row that may be filled has no marks
-  pub quiet-row : (r : ℕ) → r < planOf p .rows → RowFree p (e .level) (e .marks) r → getD (e .marks) r 0 ≡ 0
+  quiet-row : (r : ℕ) → r < planOf p .rows → RowFree p (e .level) (e .marks) r → getD (e .marks) r 0 ≡ 0
   unfolding putRow
   quiet-row r l i =
       ap (λ (b : Bench). getD (b .marks) r 0) (sym (quiet (onRow r)) ∙ row-fills p X e h r l i)
       ∙ getD-set-same (e .marks) r 0 0 (omega (arith, held-words p X e h))
 
   -- no level may be learned
-  pub quiet-level : e .level < length (planOf p .levels) → LevelFree p (e .level) (e .marks) → ⊥
+  quiet-level : e .level < length (planOf p .levels) → LevelFree p (e .level) (e .marks) → ⊥
   unfolding raise
   quiet-level low i = omega (arith, ap (λ (b : Bench). b .level) (sym (quiet onLevel) ∙ level-learns p X e h low i))
 
@@ -84,7 +84,8 @@ pub below-trans : (p : ℕ) (a b c : Bench) → Below p a b → Below p b c → 
 below-trans p a b c f g = record {
   level = le-trans (f .level) (g .level);
   marks = λ r l.
-      inside-trans (marksAt (planOf p) (c .marks) r) (marksAt (planOf p) (b .marks) r) (marksAt (planOf p) (a .marks) r) (g .marks r l) (f .marks r l);
+      inside-trans (marksAt (planOf p) (c .marks) r) (marksAt (planOf p) (b .marks) r) (marksAt (planOf p) (a .marks) r) (g .marks r l)
+      (f .marks r l);
 }
 
 module _ (p : ℕ) (X : List ℕ) where

@@ -2,8 +2,9 @@
 -- meets every check of the levels learned. Assumes nothing.
 use mathlib.Core.Path.{_≡_, refl, sym, ap, _∙_, subst}
 use mathlib.Core.Bool.{Bool, true, false, not}
+use mathlib.Core.Logic.{_⊎_, inl, inr}
 use mathlib.Core.List.{List, [], _∷_, _++_}
-use Prim.Native.Nat.{ℕ, suc, _<_}
+use Prim.Native.Nat.{ℕ, suc, _<_, _≤_}
 use native.Mathlib.Omega.{arith}
 use lib.Dec.{T, eqb}
 use lib.ListN.{length, take, drop, getD, length-map, drop-of-length-le, length-take}
@@ -15,7 +16,8 @@ use Rattle.field.proofs.Lists.{length-up, getD-map-below}
 use Rattle.linear.specs.Lists.{all, zeros, vanish}
 use Rattle.linear.specs.Fill.{sumsOf, tied, one}
 use Rattle.linear.proofs.Tests.{zeros-vanish, all-append}
-use Rattle.linear.proofs.Choices.{Alike, agrees-length, agrees-alike}
+use Rattle.linear.specs.Marks.{bitsOf}
+use Rattle.linear.proofs.Choices.{Alike, Inside, agrees-length, agrees-alike}
 use Rattle.linear.proofs.Vectors.{sums-append}
 use Rattle.linear.proofs.Filling.{Means, fill-means}
 use Rattle.repair.specs.Plan.{Plan, Level, noLevel, planOf, levelOf, checksTo, rowAt, marksAt}
@@ -32,7 +34,6 @@ use Rattle.demands.specs.Words.{Codeword, Agree, Fit}
 use Rattle.demands.proofs.Alike.{alike-refl, alike-trans, alike-inside, inside-refl, clear-inside}
 use Rattle.demands.proofs.Codewords.{sums-count}
 use Rattle.demands.proofs.Held.{Has, Held, held-fresh, row-finds, level-finds, held-put, held-raise, wordSums, rowTied, levelTied}
-use Rattle.demands.proofs.Order.{RowInside}
 
 -- the stripe Y meets the checks of levels 1 to t
 pub record Meets (p t : ℕ) (Y : List ℕ) : Type 0 where
@@ -44,10 +45,12 @@ no-levels : (P : Plan) (Y : List ℕ) → T (all (totalsHold P Y) [])
 unfolding all
 no-levels P Y = tt
 
+-- what holds of each bench that steps reach from the fresh one
 pub record Reached (p : ℕ) (stripe marks : List ℕ) (b : Bench) : Type 0 where
   pub plan : b .plan ≡ p
   pub sound : Sound b
-  pub fewer : (r : ℕ) → r < planOf p .rows → RowInside p (b .marks) marks r
+  -- a row has no marks, or those that were lent
+  pub words : (r : ℕ) → r < planOf p .rows → (getD (b .marks) r 0 ≡ 0) ⊎ (getD (b .marks) r 0 ≡ getD marks r 0)
   pub same : (r : ℕ) → r < planOf p .rows → Alike (marksAt (planOf p) marks r) (rowAt (planOf p) stripe r) (rowAt (planOf p) (b .symbols) r)
   pub meets : (Y : List ℕ) → Has p b Y → Meets p (b .level) Y
   pub held : (X : List ℕ) → Codeword p X → Agree p marks X stripe → Held p X b
@@ -66,7 +69,9 @@ module _ (p : ℕ) (stripe marks : List ℕ) (fit : Fit p stripe marks) where
         rows =
             rows-all (λ r. vanish (sumsOf (P .field) (levelOf P 1 .checks) (rowAt P Y r))) (P .rows) (λ r l.
             subst (λ cs. T (vanish (sumsOf (P .field) cs (rowAt P Y r)))) first (subst (λ s. T (vanish s)) (has r l) (fresh-sums p stripe marks r)));
-        totals = subst (λ ls. T (all (totalsHold P Y) ls)) (sym (drop-of-length-le (take 1 (P .levels)) {i = 1} (simp length-take (omega arith)))) (no-levels P Y);
+        totals =
+            subst (λ ls. T (all (totalsHold P Y) ls)) (sym (drop-of-length-le (take 1 (P .levels)) {i = 1} (simp length-take (omega arith))))
+            (no-levels P Y);
       }
 
   pub reached-fresh : Reached p stripe marks (fresh p stripe marks)
@@ -76,7 +81,7 @@ module _ (p : ℕ) (stripe marks : List ℕ) (fit : Fit p stripe marks) where
       record {
         plan = refl;
         sound = sound-fresh p stripe marks fit;
-        fewer = λ r l. rw (fresh-mark p stripe marks lent r l) (inside-refl (marksAt P marks r));
+        words = λ r l. inr (fresh-mark p stripe marks lent r l);
         same = λ r l. rw (fresh-row p stripe marks lent r l) (alike-refl (marksAt P marks r) (rowAt P stripe r));
         meets = meets-fresh;
         held = λ X word agree. held-fresh p X stripe marks fit word agree;
@@ -90,6 +95,11 @@ append-parts a b c d e l = (
   sym (take-append-seam a b) ∙ ap (take (length a)) e ∙ take-at c d (length a) (sym l),
   sym (drop-append-seam a b) ∙ ap (drop (length a)) e ∙ drop-at c d (length a) (sym l),
 )
+
+-- no marks, or the same, lie inside
+fewer : (n w u : ℕ) → (w ≡ 0) ⊎ (w ≡ u) → Inside (bitsOf n w) (bitsOf n u)
+fewer n w u (inl e) = rw e (clear-inside n u)
+fewer n w u (inr e) = rw e (inside-refl (bitsOf n u))
 
 -- a filling is one at most
 one-row : (D : Bool) (x row : List ℕ) → (if D then tied else one x) ≡ one row → x ≡ row
@@ -124,20 +134,21 @@ module _ (stripe marks : List ℕ) (b : Bench) (s : Reached (b .plan) stripe mar
       record {
         plan = refl;
         sound = sound-put b (s .sound) r row l e;
-        fewer =
-            of-rows (RowInside (b .plan) (c .marks) marks) r
-            (rw (put-mark b f r l z row long) (clear-inside (Q .columns) (getD marks r 0)))
-            (λ k g ne. rw (put-mark-other b f r l z row long k ne) (s .fewer k g));
+        words =
+            of-rows (λ k. (getD (c .marks) k 0 ≡ 0) ⊎ (getD (c .marks) k 0 ≡ getD marks k 0)) r (inl (put-mark b f r l z row long))
+            (λ k g ne. rw (put-mark-other b f r l z row long k ne) (s .words k g));
         same =
             of-rows (λ k. Alike (marksAt Q marks k) (rowAt Q stripe k) (rowAt Q (c .symbols) k)) r
             (rw (put-row b f r l z row long)
             (alike-trans (marksAt Q marks r) (rowAt Q stripe r) v row (s .same r l)
-            (alike-inside ms (marksAt Q marks r) v row (s .fewer r l) (agrees-alike (Q .field) ms v row (m .1 .agrees)))))
+            (alike-inside ms (marksAt Q marks r) v row (fewer (Q .columns) (getD (b .marks) r 0) (getD marks r 0) (s .words r l))
+            (agrees-alike (Q .field) ms v row (m .1 .agrees)))))
             (λ k g ne. rw (put-row-other b f r l z row long k ne) (s .same k g));
         meets = s .meets;
         held = λ X word agree.
             let h = s .held X word agree in
-            subst (λ x. Held (b .plan) X (putRow b r x)) (one-row (rowTied (b .plan) (b .level) (b .marks) r) (rowAt Q X r) row (sym (row-finds (b .plan) X b h r l) ∙ e))
+            subst (λ x. Held (b .plan) X (putRow b r x))
+            (one-row (rowTied (b .plan) (b .level) (b .marks) r) (rowAt Q X r) row (sym (row-finds (b .plan) X b h r l) ∙ e))
             (held-put (b .plan) X b h r l);
       }
 
@@ -162,14 +173,17 @@ module _ (stripe marks : List ℕ) (b : Bench) (s : Reached (b .plan) stripe mar
           let u = across Q (b .symbols) c in
           let m = subst (Means (Q .field) ws (zeros ws) ms u) q (fill-means (Q .field) ws (zeros ws) ms u) in
           let long : length v ≡ Q .rows =
-          agrees-length (Q .field) ms u v (m .1 .agrees) ∙ length-map (upFrom 0 (Q .rows)) (λ r. not (eqb (getD (b .marks) r 0) 0)) ∙ length-up 0 (Q .rows) in
-          let wide : length (across Q Y c) ≡ Q .rows = length-map (upFrom 0 (Q .rows)) (λ r. dot (Q .field) c (rowAt Q Y r)) ∙ length-up 0 (Q .rows) in
+          agrees-length (Q .field) ms u v (m .1 .agrees)
+          ∙ length-map (upFrom 0 (Q .rows)) (λ r. not (eqb (getD (b .marks) r 0) 0)) ∙ length-up 0 (Q .rows) in
+          let wide : length (across Q Y c) ≡ Q .rows =
+          length-map (upFrom 0 (Q .rows)) (λ r. dot (Q .field) c (rowAt Q Y r)) ∙ length-up 0 (Q .rows) in
           let same : v ≡ across Q Y c =
           ext-getD 0 v (across Q Y c) (long ∙ sym wide) (λ r l.
           let h : r < Q .rows = subst (λ n. r < n) long l in
           g r h ∙ sym (getD-map-below (λ r. dot (Q .field) c (rowAt Q Y r)) (Q .rows) r 0 h)) in
           subst (λ x. T (vanish (sumsOf (Q .field) ws x))) same (subst (λ z. T (vanish z)) (sym (m .1 .meets)) (zeros-vanish ws))
 
+  -- the levels from 2 to t + 1
   more-levels : b .level < length (Q .levels) → drop 1 (take (suc (b .level)) (Q .levels)) ≡ drop 1 (take (b .level) (Q .levels)) ++ (L ∷ [])
   unfolding levelOf
   more-levels low =
@@ -186,7 +200,8 @@ module _ (stripe marks : List ℕ) (b : Bench) (s : Reached (b .plan) stripe mar
         let f = s .sound .fit in
         let sh = shape (b .plan) (f .plan-known) in
         let C = checksTo Q (b .level) in
-        append-parts (sumsAt Q (b .level) (b .sums) r) (learnedAt cs r) (sumsOf (Q .field) C (rowAt Q Y r)) (sumsOf (Q .field) (L .checks) (rowAt Q Y r))
+        append-parts (sumsAt Q (b .level) (b .sums) r) (learnedAt cs r) (sumsOf (Q .field) C (rowAt Q Y r))
+        (sumsOf (Q .field) (L .checks) (rowAt Q Y r))
         (sym (raise-sums b f (s .sound .sized) low cs (learned-length b f cs e) r l) ∙ has r l
         ∙ ap (λ cs. sumsOf (Q .field) cs (rowAt Q Y r)) (checks-suc Q (b .level) low) ∙ sums-append (Q .field) C (L .checks) (rowAt Q Y r))
         (sums-length Q (b .level) (b .sums) r (omega (arith, checks-le Q (f .level-le), sh .sums-le))
@@ -210,7 +225,7 @@ module _ (stripe marks : List ℕ) (b : Bench) (s : Reached (b .plan) stripe mar
     own-raise = record {
       plan = refl;
       sound = sound-raise b (s .sound) cs low e;
-      fewer = s .fewer;
+      words = s .words;
       same = s .same;
       meets = meets-raise;
       held = λ X word agree.
@@ -224,6 +239,9 @@ module _ (stripe marks : List ℕ) (b : Bench) (s : Reached (b .plan) stripe mar
 module _ (p : ℕ) (stripe marks : List ℕ) (b : Bench) (s : Reached p stripe marks b) where
   reached-own : (S : ℕ → Type 0) → (Reached (b .plan) stripe marks b → S (b .plan)) → S p
   reached-own S f = subst S (s .plan) (f (subst (λ q. Reached q stripe marks b) (sym (s .plan)) s))
+
+  pub reached-level : b .level ≤ length (planOf p .levels)
+  reached-level = subst (λ q. b .level ≤ length (planOf q .levels)) (s .plan) (s .sound .fit .level-le)
 
   pub reached-put : (r : ℕ) (row : List ℕ) → r < planOf p .rows → rowFill b r ≡ one row → Reached p stripe marks (putRow b r row)
   reached-put r row =

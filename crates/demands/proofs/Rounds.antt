@@ -32,7 +32,7 @@ use Rattle.demands.specs.Words.{Codeword, Agree, Fit, Move, onRow, onLev
 use Rattle.demands.proofs.Marked.{marked}
 use Rattle.demands.proofs.Alike.{alike-refl, unmarked-all, unmarked-independent, clear-unmarked}
 use Rattle.demands.proofs.Held.{rowTied, levelTied, wordSums, row-finds, level-finds}
-use Rattle.demands.proofs.Reached.{Reached, reached-fresh, reached-put, reached-raise}
+use Rattle.demands.proofs.Reached.{Reached, reached-fresh, reached-level, reached-put, reached-raise}
 
 -- ---- the moves of the rounds
 
@@ -313,7 +313,8 @@ module _ (p : ℕ) (stripe marks : List ℕ) (fit : Fit p stripe marks) where
       level-goes : (low : Bool) → ltb (b .level) top ≡ low → (a : Learned) → levelFill b ≡ a
           → Goes (Round n) Out (afterLevel m (levelStep b .answer) (levelStep b .bench))
       unfolding if_then_else_ afterLevel levelStepBy stepped raise
-      level-goes low t a e = subst (λ (s : Stepped). Goes (Round n) Out (afterLevel m (s .answer) (s .bench))) (sym (step-by low t a e)) (go low t a e)
+      level-goes low t a e =
+          subst (λ (s : Stepped). Goes (Round n) Out (afterLevel m (s .answer) (s .bench))) (sym (step-by low t a e)) (go low t a e)
         where
           go : (low : Bool) → ltb (b .level) top ≡ low → (a : Learned) → levelFill b ≡ a
               → (let s = if low then levelStepBy b a else stepped b Top in Goes (Round n) Out (afterLevel m (s .answer) (s .bench)))
@@ -347,8 +348,8 @@ module _ (p : ℕ) (stripe marks : List ℕ) (fit : Fit p stripe marks) where
   -- the turns suffice
   spent : (m : Standing) → Round 0 m → ⊥
   spent m i =
-      let low : m .bench .level ≤ top = subst (λ q. m .bench .level ≤ length (planOf q .levels)) (i .reached .plan) (i .reached .sound .fit .level-le) in
-      omega (arith, i .left, i .turn-le, mul-le-mul-right (suc (Q .rows)) low, suc-mul top (suc (Q .rows)))
+      let low = mul-le-mul-right (suc (Q .rows)) (reached-level p stripe marks (m .bench) (i .reached)) in
+      omega (arith, i .left, i .turn-le, low, suc-mul top (suc (Q .rows)))
 
   -- where mending in one call ends
   pub mended-out : Out (mended p stripe marks)

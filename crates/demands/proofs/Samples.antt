@@ -58,7 +58,8 @@ example = record {
   fit = refl;
   true-stripe = exampleAfter;
   codeword = example-word;
-  agrees = alike-at (marksOf (planOf 1) exampleMarks) exampleAfter exampleStripe (are-alike (marksOf (planOf 1) exampleMarks) exampleAfter exampleStripe tt);
+  agrees =
+      let ms = marksOf (planOf 1) exampleMarks in alike-at ms exampleAfter exampleStripe (are-alike ms exampleAfter exampleStripe tt);
 }
 
 -- two sequences of steps that end quiet: the rounds, and a shorter one in another order

@@ -1,227 +1,28 @@
 -- The second demand: what Restored, Clash and Stuck mean. Assumes nothing.
-use mathlib.Core.Path.{_≡_, refl, sym, ap, ap₂, _∙_, subst, subst₂}
-use mathlib.Core.Logic.{inl, inr}
-use mathlib.Core.Bool.{Bool, true, false, not}
-use mathlib.Core.List.{List, [], _∷_, map}
-use Prim.Native.Nat.{ℕ, zero, suc, _+_, _*_, _<_, _≤_, zero-le}
-use native.Mathlib.Nat.{zero-mul, suc-mul, zero-lt-suc, le-of-suc-le-suc, eq-or-lt-of-le, le-of-eq}
+use mathlib.Core.Path.{_≡_, refl, sym, ap, _∙_, subst, subst₂}
+use mathlib.Core.Logic.{_⊎_, inl, inr}
+use mathlib.Core.Bool.{Bool, true, false}
+use mathlib.Core.List.{List}
+use Prim.Native.Nat.{ℕ, _<_, _≤_}
+use native.Mathlib.Nat.{zero-add}
 use native.Mathlib.Omega.{arith}
 use borrow.Author.Tests.{eqb-true}
-use lib.Dec.{T, T-not, eqb, ltb, eqb→eq}
-use lib.ListN.{length, take, drop, getD, replicate, take-append-drop, drop-of-length-le}
-use lib.Seq.{take-add, take-length, length-take-le, getD-take}
-use Rattle.field.specs.Lists.{if_then_else_, upFrom}
-use Rattle.field.specs.Field.{size}
-use Rattle.field.proofs.Test.{both}
-use Rattle.linear.specs.Lists.{all, only, zeros}
-use Rattle.linear.specs.Fill.{sumsOf, Fill, tied, none, one}
-use Rattle.linear.proofs.Tests.{all-append}
-use Rattle.linear.proofs.Filling.{Means, no-dependency, fill-means}
-use Rattle.repair.specs.Plan.{Plan, Level, planOf, levelOf, checksTo, rowAt, marksAt}
-use Rattle.repair.specs.Refusal.{allBelow, lentRefusal}
-use Rattle.repair.specs.Steps.{lossy, across, Learned, blocked, failing, learned, join, joined, levelFill}
-use Rattle.repair.specs.Rounds.{Standing, Turn, on, end, clash, mended, rowsLeft, endReport, bare, turnReport, turnStripe, turnMarks, mendReport, mendStripe, mendMarks}
-use Rattle.repair.specs.Codeword.{rowsHold, totalsHold, isCodeword}
+use lib.Dec.{T, eqb}
+use lib.ListN.{length, getD}
+use Rattle.field.specs.Lists.{if_then_else_}
+use Rattle.linear.specs.Lists.{only}
+use Rattle.repair.specs.Plan.{planOf}
+use Rattle.repair.specs.Steps.{lossy, blocked, learned}
+use Rattle.repair.specs.Rounds.{Turn, on, end, clash, mended, rowsLeft, endReport, bare, turnReport, turnStripe, turnMarks, mendReport, mendStripe, mendMarks}
 use Rattle.repair.specs.declared.Bench.{Bench}
 use Rattle.repair.specs.declared.Report.{Report}
-use Rattle.repair.specs.declared.Answer.{Answer}
-use Rattle.repair.specs.declared.Answer.the-variants.{Restored, Stuck, Clash, Refused}
-use Rattle.repair.proofs.Rows.{row-end, row-length, row-append, rows-ext}
-use Rattle.repair.proofs.Shape.{shape}
-use Rattle.repair.proofs.Fit.{if-true, RowFits, lent-fit}
-use Rattle.repair.proofs.Sound.{marks-length, totalFill}
+use Rattle.repair.specs.declared.Answer.the-variants.{Restored, Stuck, Clash}
+use Rattle.repair.proofs.Fit.{if-true}
 use Rattle.demands.specs.Words.{Codeword, Agree, Fit}
 use Rattle.demands.specs.Second.{IsRestored, RestoredMeans, ClashMeans, StuckMeans}
-use Rattle.demands.proofs.Marked.{marked}
-use Rattle.demands.proofs.Alike.{alike-sym, unmarked-all, unmarked-independent, clear-unmarked, rows-agree}
-use Rattle.demands.proofs.Held.{Has, rowTied, held-unmarked}
-use Rattle.demands.proofs.Rounds.{Ended, Out, mended-out}
-
--- ---- lists
-
--- the rows of a list's first part are its own
-row-take : (P : Plan) (l : List ℕ) (n r : ℕ) → n ≤ length l → r * P .columns + P .columns ≤ n → rowAt P (take n l) r ≡ rowAt P l r
-row-take P l n r h k =
-    sym (row-append P (take n l) (drop n l) r (subst (λ m. r * P .columns + P .columns ≤ m) (sym (length-take-le n l h)) k))
-    ∙ ap (λ l. rowAt P l r) (take-append-drop n l)
-
--- where each row holds symbols, so do all
-rows-below : (q N R : ℕ) (l : List ℕ) → ((r : ℕ) → r < R → T (allBelow q (take N (drop (r * N) l)))) → T (allBelow q (take (R * N) l))
-unfolding allBelow all
-rows-below q N zero l h = subst (λ n. T (allBelow q (take n l))) (sym (zero-mul N)) tt
-rows-below q N (suc R) l h =
-    subst (λ x. T (allBelow q x)) (sym (ap (λ n. take n l) (suc-mul R N) ∙ take-add (R * N) N l))
-    (all-append (λ x. ltb x q) (take (R * N) l) (take N (drop (R * N) l)) (rows-below q N R l (λ r k. h r (omega arith))) (h R (omega arith)))
-
-zeros-take : (n : ℕ) (l : List ℕ) → n ≤ length l → ((r : ℕ) → r < n → getD l r 0 ≡ 0) → take n l ≡ replicate n 0
-zeros-take zero l h z = refl
-zeros-take (suc n) [] h z = absurd (omega arith)
-zeros-take (suc n) (x ∷ l) h z = ap₂ _∷_ (z 0 (zero-lt-suc n)) (zeros-take n l (le-of-suc-le-suc h) (λ r k. z (suc r) (omega arith)))
-
--- where no row has marks, each mark word is 0
-pub lossy-none : (marks : List ℕ) (k n : ℕ) → marked (map (λ r. not (eqb (getD marks r 0) 0)) (upFrom k n)) ≡ 0
-    → (r : ℕ) → k ≤ r → r < k + n → getD marks r 0 ≡ 0
-unfolding if_then_else_ upFrom only
-lossy-none marks k zero e r h l = absurd (omega arith)
-lossy-none marks k (suc n) e r h l = go (eqb (getD marks k 0) 0) refl e (lossy-none marks (suc k) n)
-  where
-    go : (z : Bool) → eqb (getD marks k 0) 0 ≡ z → marked (not z ∷ map (λ r. not (eqb (getD marks r 0) 0)) (upFrom (suc k) n)) ≡ 0
-        → (marked (map (λ r. not (eqb (getD marks r 0) 0)) (upFrom (suc k) n)) ≡ 0 → (r : ℕ) → suc k ≤ r → r < suc k + n → getD marks r 0 ≡ 0)
-        → getD marks r 0 ≡ 0
-    go true q e ih =
-        elim (eq-or-lt-of-le h) [
-          | inl g ↦ subst (λ j. getD marks j 0 ≡ 0) g (eqb→eq (getD marks k 0) 0 (subst T (sym q) tt))
-          | inr g ↦ ih e r g (omega arith)
-        ]
-    go false q e ih = absurd (omega arith)
-
--- a level is Blocked only where a filling is tied
-joined-free : {A : Type 0} (f : A → Fill) → ((x : A) → f x ≡ tied → ⊥) → (xs : List A) → joined (map f xs) ≡ blocked → ⊥
-unfolding joined join
-joined-free f free [] e = let z : _≡_ {A = ℕ} 0 1 = cc in omega arith
-joined-free f free (x ∷ xs) e = go (f x) refl (joined (map f xs)) refl e (joined-free f free xs)
-  where
-    go : (a : Fill) → f x ≡ a → (l : Learned) → joined (map f xs) ≡ l → join a l ≡ blocked → (joined (map f xs) ≡ blocked → ⊥) → ⊥
-    go tied p l q e ih = free x p
-    go none p blocked q e ih = ih q
-    go none p failing q e ih = let z : _≡_ {A = ℕ} 0 1 = cc in omega arith
-    go none p (learned cs) q e ih = let z : _≡_ {A = ℕ} 0 1 = cc in omega arith
-    go (one v) p blocked q e ih = ih q
-    go (one v) p failing q e ih = let z : _≡_ {A = ℕ} 0 1 = cc in omega arith
-    go (one v) p (learned cs) q e ih = let z : _≡_ {A = ℕ} 0 1 = cc in omega arith
-
--- ---- what is left behind where the rounds end
-
-module _ (p : ℕ) (stripe marks : List ℕ) (fit : Fit p stripe marks) (m : Standing) (e : Ended p stripe marks fit m) where
-  abbrev P : Plan
-  P = planOf p
-
-  abbrev b : Bench
-  b = m .bench
-
-  abbrev Y : List ℕ
-  Y = take (length stripe) (b .symbols)
-
-  long : length stripe ≡ P .rows * P .columns
-  long = lent-fit p stripe marks fit .long
-
-  words : length marks ≡ P .rows
-  words = lent-fit p stripe marks fit .words
-
-  enough : P .rows * P .columns ≤ length (b .symbols)
-  enough = omega (arith, shape p (lent-fit p stripe marks fit .plan-known) .symbols-le, e .reached .sound .sized .symbols)
-
-  enough-words : P .rows ≤ length (b .marks)
-  enough-words = omega (arith, shape p (lent-fit p stripe marks fit .plan-known) .rows-le, e .reached .sound .sized .marks)
-
-  row-left : (r : ℕ) → r < P .rows → rowAt P Y r ≡ rowAt P (b .symbols) r
-  row-left r l = row-take P (b .symbols) (length stripe) r (omega (arith, long, enough)) (omega (arith, long, row-end (P .columns) l))
-
-  -- a codeword that agrees has each symbol that is now unmarked
-  agrees-left : (X : List ℕ) → Codeword p X → Agree p marks X stripe → Agree p (take (length marks) (b .marks)) X Y
-  unfolding marksAt
-  agrees-left X word agree =
-      let h = e .reached .held X word agree in
-      rows-agree p (take (length marks) (b .marks)) X Y (λ r l.
-      rw (row-left r l, getD-take (length marks) (b .marks) r 0 (omega (arith, words)))
-      (alike-sym (marksAt P (b .marks) r) (rowAt P (b .symbols) r) (rowAt P X r) (h .alike r l)))
-
-  -- where no row has marks
-  module _ (none-left : rowsLeft b ≡ 0) where
-    clear : (r : ℕ) → r < P .rows → getD (b .marks) r 0 ≡ 0
-    unfolding rowsLeft lossy
-    clear r l =
-        lossy-none (b .marks) 0 (planOf (b .plan) .rows) none-left r zero-le
-        (subst (λ q. r < 0 + planOf q .rows) (sym (e .reached .plan)) (omega arith))
-
-    unmarked : (r : ℕ) → r < P .rows → marked (marksAt P (b .marks) r) ≡ 0
-    unfolding marksAt
-    unmarked r l = rw (clear r l) (clear-unmarked (P .columns))
-
-    -- the last level was learned
-    at-top : b .level ≡ length (P .levels)
-    unfolding rowsLeft levelFill
-    at-top =
-        let high : b .level ≤ length (P .levels) = subst (λ q. b .level ≤ length (planOf q .levels)) (e .reached .plan) (e .reached .sound .fit .level-le) in
-        elim (eq-or-lt-of-le high) [ inl q ↦ q | inr low ↦ absurd (joined-free (totalFill b L) free (L .checks) (e .stopped low)) ]
-      where
-        L : Level
-        L = levelOf (planOf (b .plan)) (suc (b .level))
-
-        free : (c : List ℕ) → totalFill b L c ≡ tied → ⊥
-        free c q =
-            let F = planOf (b .plan) .field in
-            let ms = lossy (planOf (b .plan)) (b .marks) in
-            let v = across (planOf (b .plan)) (b .symbols) c in
-            let d = subst (Means F (L .weights) (zeros (L .weights)) ms v) q (fill-means F (L .weights) (zeros (L .weights)) ms v) in
-            no-dependency F (L .weights) ms (unmarked-independent F (L .weights) ms none-left) (d .1)
-
-    has : Has p b Y
-    has r l =
-        elim (e .settled r l) [
-          | inl t ↦ absurd (T-not (rowTied p (b .level) (b .marks) r)
-              (unmarked-independent (P .field) (checksTo P (b .level)) (marksAt P (b .marks) r) (unmarked r l)) t)
-          | inr s ↦ s .1 ∙ ap (sumsOf (P .field) (checksTo P (b .level))) (sym (row-left r l))
-        ]
-
-    row-symbols : (r : ℕ) → r < P .rows → T (allBelow (size (P .field)) (rowAt P (b .symbols) r))
-    row-symbols r l =
-        unmarked-all (size (P .field)) (marksAt P (b .marks) r) (rowAt P (b .symbols) r) (unmarked r l)
-        (row-length P (b .symbols) r (omega (arith, enough, row-end (P .columns) l)) ∙ sym (marks-length P (b .marks) r))
-        (subst (λ q. (r : ℕ) → r < planOf q .rows → RowFits (planOf q) (b .marks) (b .symbols) r) (e .reached .plan) (e .reached .sound .fit .row-fits) r l)
-
-    codeword-left : Codeword p Y
-    unfolding rowAt isCodeword
-    codeword-left =
-        let met = e .reached .meets Y has in
-        record {
-          long = length-take-le (length stripe) (b .symbols) (omega (arith, long, enough)) ∙ long;
-          symbols = subst (λ n. T (allBelow (size (P .field)) (take n (b .symbols)))) (sym long) (rows-below (size (P .field)) (P .columns) (P .rows) (b .symbols) row-symbols);
-          holds =
-              both (rowsHold P Y) (all (totalsHold P Y) (drop 1 (P .levels))) (met .rows)
-              (subst (λ ls. T (all (totalsHold P Y) (drop 1 ls))) (ap (λ t. take t (P .levels)) at-top ∙ take-length (P .levels)) (met .totals));
-        }
-
-    pub is-restored : (mendStripe p stripe marks ≡ Y) → mendMarks p stripe marks ≡ take (length marks) (b .marks) → IsRestored p stripe marks
-    unfolding rowAt
-    is-restored s t = record {
-      codeword = rw s codeword-left;
-      agrees = rw s (rows-agree p marks Y stripe (λ r l.
-          rw (row-left r l) (alike-sym (marksAt P marks r) (rowAt P stripe r) (rowAt P (b .symbols) r) (e .reached .same r l))));
-      only = λ X word agree.
-          rows-ext (P .columns) (P .rows) X Y (λ r l. sym (held-unmarked p X b (e .reached .held X word agree) r l (clear r l)) ∙ sym (row-left r l))
-          (drop-of-length-le X (le-of-eq (word .long)) ∙ sym (drop-of-length-le Y (le-of-eq (codeword-left .long)))) ∙ sym s;
-      clear = t ∙ ap (λ n. take n (b .marks)) words ∙ zeros-take (P .rows) (b .marks) enough-words clear;
-    }
-
--- ---- from the answer to where the rounds end
-
-module _ (p : ℕ) (stripe marks : List ℕ) where
-  -- an answer that is no refusal
-  not-refused : (a : Answer) → mendReport p stripe marks .answer ≡ a → ((n : ℕ) → Refused n ≡ a → ⊥) → Fit p stripe marks
-  unfolding if_then_else_ mendReport bare
-  not-refused a e other = go (eqb (lentRefusal p stripe marks) 0) refl e
-    where
-      go : (z : Bool) → eqb (lentRefusal p stripe marks) 0 ≡ z
-          → (if z then turnReport (mended p stripe marks) else bare (Refused (lentRefusal p stripe marks))) .answer ≡ a → Fit p stripe marks
-      go true q e = eqb-true (lentRefusal p stripe marks) 0 q
-      go false q e = absurd (other (lentRefusal p stripe marks) e)
-
-  module _ (fit : Fit p stripe marks) where
-    lent : T (eqb (lentRefusal p stripe marks) 0)
-    lent = rw fit tt
-
-    report-turn : mendReport p stripe marks ≡ turnReport (mended p stripe marks)
-    unfolding mendReport
-    report-turn = if-true (eqb (lentRefusal p stripe marks) 0) (turnReport (mended p stripe marks)) (bare (Refused (lentRefusal p stripe marks))) lent
-
-    stripe-turn : mendStripe p stripe marks ≡ turnStripe (mended p stripe marks) stripe
-    unfolding mendStripe
-    stripe-turn = if-true (eqb (lentRefusal p stripe marks) 0) (turnStripe (mended p stripe marks) stripe) stripe lent
-
-    marks-turn : mendMarks p stripe marks ≡ turnMarks (mended p stripe marks) marks
-    unfolding mendMarks
-    marks-turn = if-true (eqb (lentRefusal p stripe marks) 0) (turnMarks (mended p stripe marks) marks) marks lent
+use Rattle.demands.proofs.Held.{Held, rowTied, levelTied, wordSums, held-level, level-finds}
+use Rattle.demands.proofs.Left.{none-lossy, agrees-left, is-restored, not-refused, report-turn, stripe-turn, marks-turn}
+use Rattle.demands.proofs.Rounds.{Out, mended-out}
 
 pub restored-means : RestoredMeans
 unfolding if_then_else_ turnReport endReport bare turnStripe turnMarks
@@ -270,3 +71,55 @@ stuck-means p stripe marks e X word agree =
         subst₂ (λ ms Y. Agree p ms X Y) (sym (marks-turn p stripe marks fit ∙ ap (λ t. turnMarks t marks) q))
         (sym (stripe-turn p stripe marks fit ∙ ap (λ t. turnStripe t stripe) q)) (agrees-left p stripe marks fit m h X word agree)
     go fit (clash place) q h = absurd (h X word agree)
+
+-- ---- how Restored is shown
+
+blocked-tied : (D : Bool) (xs : List (List ℕ)) → (if D then blocked else learned xs) ≡ blocked → T D
+unfolding if_then_else_
+blocked-tied true xs e = tt
+blocked-tied false xs e = let z : _≡_ {A = ℕ} 0 1 = cc in absurd (omega arith)
+
+-- where no marks M are left that tie each marked row at level t, and tie the rows at level t + 1 unless t is the last,
+-- a codeword that agrees is restored to itself
+pub restores : (p : ℕ) (X stripe marks : List ℕ) → Codeword p X → Fit p stripe marks → Agree p marks X stripe
+    → ((t : ℕ) (M : List ℕ) → 0 < t → t ≤ length (planOf p .levels)
+    → ((r : ℕ) → r < planOf p .rows → (getD M r 0 ≡ 0) ⊎ ((getD M r 0 ≡ getD marks r 0) × T (rowTied p t M r)))
+    → (t < length (planOf p .levels) → T (levelTied p t M)) → (r : ℕ) → r < planOf p .rows → getD M r 0 ≡ 0)
+    → (mendReport p stripe marks .answer ≡ Restored) × (mendStripe p stripe marks ≡ X)
+unfolding turnReport endReport turnStripe turnMarks rowsLeft lossy
+restores p X stripe marks word fit agree none-tied = go (mended p stripe marks) refl (mended-out p stripe marks fit)
+  where
+    go : (t : Turn) → mended p stripe marks ≡ t → Out p stripe marks fit t
+        → (mendReport p stripe marks .answer ≡ Restored) × (mendStripe p stripe marks ≡ X)
+    go (on m) q h = absurd h
+    go (clash place) q h = absurd (h X word agree)
+    go (end m) q h = (
+      ap (λ (r : Report). r .answer) (report-turn p stripe marks fit ∙ ap turnReport q)
+          ∙ if-true (eqb (rowsLeft b) 0) Restored Stuck (rw none-left tt),
+      sym (is-restored p stripe marks fit m h none-left (stripe-turn p stripe marks fit ∙ ap (λ t. turnStripe t stripe) q)
+          (marks-turn p stripe marks fit ∙ ap (λ t. turnMarks t marks) q) .only X word agree),
+    )
+      where
+        b : Bench
+        b = m .bench
+
+        rows : (r : ℕ) → r < planOf p .rows
+            → (getD (b .marks) r 0 ≡ 0) ⊎ ((getD (b .marks) r 0 ≡ getD marks r 0) × T (rowTied p (b .level) (b .marks) r))
+        rows r l =
+            elim (h .settled r l) [
+              | inl t ↦ elim (h .reached .words r l) [ inl z ↦ inl z | inr w ↦ inr (w, t) ]
+              | inr s ↦ inl (s .0)
+            ]
+
+        held : Held p X b
+        held = h .reached .held X word agree
+
+        clear : (r : ℕ) → r < planOf p .rows → getD (b .marks) r 0 ≡ 0
+        clear =
+            none-tied (b .level) (b .marks) (h .reached .sound .fit .level-pos) (held-level p X b held) rows (λ low.
+            blocked-tied (levelTied p (b .level) (b .marks)) (wordSums p (b .level) X) (sym (level-finds p X b held low) ∙ h .stopped low))
+
+        none-left : rowsLeft b ≡ 0
+        none-left =
+            none-lossy (b .marks) 0 (planOf (b .plan) .rows) (λ r l.
+            clear r (subst (λ q. r < planOf q .rows) (h .reached .plan) (subst (λ n. r < n) (zero-add (planOf (b .plan) .rows)) l)))

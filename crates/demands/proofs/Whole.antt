@@ -6,8 +6,8 @@ use mathlib.Core.List.{List, [], _∷_, _++_}
 use Prim.Native.Nat.{ℕ, zero, suc, _+_, _*_, _<_, _≤_, zero-le}
 use native.Mathlib.Nat.{zero-add, le-refl, zero-lt-suc, le-of-suc-le-suc, not-suc-le-zero}
 use native.Mathlib.Omega.{arith}
-use lib.ListN.{length, take, drop, getD, set, length-append, length-map, take-append-drop}
-use lib.Seq.{sets, drop-drop, drop-set-lt, take-take, getD-set-same, getD-set-other}
+use lib.ListN.{length, take, drop, getD, length-append, length-map, take-append-drop}
+use lib.Seq.{drop-drop, drop-set-lt, take-take, getD-set-same, getD-set-other}
 use Rattle.field.specs.Lists.{upFrom}
 use Rattle.linear.specs.Fill.{sumsOf}
 use Rattle.repair.specs.Plan.{Plan, planOf, levelOf, checksTo, rowAt}
@@ -45,9 +45,10 @@ module _ (X : List ℕ) (a b : Bench) (h : Held (b .plan) X b) (k : Kept (b .pla
   unfolding putRow
   own-put r l =
       let long = word-row (b .plan) X (h .codeword) r l in
+      let c = putRow b r (rowAt P X r) in
       record {
         rows =
-            of-rows (λ j. (getD (set (b .marks) r 0) j 0 ≡ 0) ⊎ (rowAt P (sets (b .symbols) (r * P .columns) (rowAt P X r)) j ≡ rowAt P (a .symbols) j)) r
+            of-rows (λ j. (getD (c .marks) j 0 ≡ 0) ⊎ (rowAt P (c .symbols) j ≡ rowAt P (a .symbols) j)) r
             (inl (getD-set-same (b .marks) r 0 0 (omega (arith, held-words (b .plan) X b h))))
             (λ j g ne. rw (getD-set-other (b .marks) r j 0 0 ne, row-other P r (rowAt P X r) (b .symbols) long j ne) (k .rows j g));
         symbols =

@@ -22,6 +22,8 @@ use Rattle.repair.specs.declared.Bench.{Bench}
 use Rattle.repair.proofs.Rows.{row-end, row-append}
 use Rattle.repair.proofs.Shape.{shape}
 
+-- ---- a choice by a test
+
 pub if-true : {A : Type 0} (b : Bool) (x y : A) → T b → (if b then x else y) ≡ x
 unfolding if_then_else_
 if-true true x y t = refl
@@ -37,6 +39,7 @@ if-false false x y t = refl
 eq→eqb : (m n : ℕ) → m ≡ n → T (eqb m n)
 eq→eqb m n e = subst (λ k. T (eqb m k)) e (eqb-refl m)
 
+-- a test in the order that is passed, and one that is not in the way
 pass : (n : ℕ) (b : Bool) (rest : ℕ) → (if b then rest else suc n) ≡ 0 → T b × (rest ≡ 0)
 unfolding if_then_else_
 pass n true rest e = (tt, e)
@@ -107,6 +110,7 @@ RowFits P marks symbols r = T (unmarkedBelow (size (P .field)) (marksAt P marks 
 abbrev pub SumsFit : Plan → (t : ℕ) → (sums : List ℕ) → ℕ → Type 0
 SumsFit P t sums r = T (allBelow (size (P .field)) (sumsAt P t sums r))
 
+-- a test of all rows says it of each, and back
 module _ (P : Plan) where
   pub marks-fit : (marks : List ℕ) → T (marksFit P marks) → (r : ℕ) → r < P .rows → getD marks r 0 < 2 ^ P .columns
   unfolding marksFit

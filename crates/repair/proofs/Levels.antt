@@ -65,5 +65,6 @@ module _ (P : Plan) where
       let full : length part ≡ m = length-take-le m (drop (r * room) sums) (simp length-drop (omega arith)) in
       keep-part at cs (omega arith) 0 (P .rows) m sums r narrow zero-le (omega arith)
       ∙ sets-eq (learnedAt cs r) part at (omega arith)
-      ∙ ap₂ (λ a b. a ++ learnedAt cs r ++ b) (take-take at m (drop (r * room) sums) (omega arith)) (drop-of-length-le part {i = at + length (learnedAt cs r)} (omega arith))
+      ∙ ap₂ (λ a b. a ++ learnedAt cs r ++ b) (take-take at m (drop (r * room) sums) (omega arith))
+      (drop-of-length-le part {i = at + length (learnedAt cs r)} (omega arith))
       ∙ append-nil (take at (drop (r * room) sums) ++ learnedAt cs r)
