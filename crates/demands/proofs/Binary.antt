@@ -1,43 +1,34 @@
 -- Binary row checks: what they say of the power sums of a word of bits, in any location field. Assumes nothing.
-use mathlib.Core.Path.{_≡_, refl, sym, ap, ap₂, _∙_, subst}
-use mathlib.Core.List.{List, [], _∷_, map, flatMap, Memᴰ·map, Memᴰ·append-left, Memᴰ·append-right}
-use mathlib.Core.List.{List·Memᴰ·head, List·Memᴰ·tail, List·Memᴰ·not-nil, List·Memᴰ·cases-cons}
-use mathlib.Core.Logic.{inl, inr}
-use Prim.Native.Nat.{ℕ, zero, suc, _+_, _*_, _/_, _%_, _^_, _≤_, _<_}
-use native.Mathlib.Nat.{div-one, zero-div, zero-mod, le-trans}
-use native.Mathlib.Numerals.{add-one, one-add}
+use mathlib.Core.Path.{_≡_, refl, sym, ap, ap₂, _∙_}
+use mathlib.Core.List.{List, [], _∷_, map, flatMap, Memᴰ·map, List·Memᴰ·head, List·Memᴰ·tail}
+use Prim.Native.Nat.{ℕ, zero, suc, _+_, _/_, _%_, _^_, _<_}
+use native.Mathlib.Nat.{div-one, zero-div, le-trans}
+use native.Mathlib.Numerals.{one-add}
 use native.Mathlib.Omega.{arith}
 use lib.Arith.{bin-ind, lt-one}
 use lib.Dec.{T, eqb, eqb→eq}
 use lib.ListN.{length}
-use lib.Pow.{shr-shr, shr-lt}
+use lib.Pow.{shr-shr}
 use Rattle.field.specs.Lists.{upFrom}
 use Rattle.field.specs.Field.{_⊕_, Field, size, mul, dot, gf2}
 use Rattle.field.specs.Power.{power, powerSum}
 use Rattle.field.proofs.Sum.{of-bits, bit, ⊕-shr, ⊕-mod}
 use Rattle.field.proofs.Laws.{IsField, zero-mul, mul-zero, mul-one, dot-lt}
 use Rattle.field.proofs.Fields.{gf2-field}
-use Rattle.field.proofs.Words.{Fit, fit-le}
+use Rattle.field.proofs.Words.{Fit}
 use Rattle.field.proofs.Powers.{power-lt, square-sum}
 use Rattle.linear.specs.Lists.{vanish}
 use Rattle.linear.specs.Fill.{sumsOf}
-use Rattle.linear.proofs.Tests.{In, all-in, in-up}
+use Rattle.linear.proofs.Tests.{In, all-in}
 use Rattle.repair.specs.Plan.{ones, bitChecks}
+use Rattle.demands.proofs.Lists.{in-below, in-flat}
+use Rattle.demands.proofs.Marked.{half-lt}
 
 -- parity, and the bits of the power sums 1, 3, … 2 j - 1
 abbrev pub binaryChecks : Field → List ℕ → ℕ → List (List ℕ)
 binaryChecks L xs j = ones (length xs) ∷ flatMap (λ i. bitChecks (L .width) (map (λ x. power L x (suc (i + i))) xs)) (upFrom 0 j)
 
 -- ---- sums that vanish
-
-in-flat : {A B : Type 0} (f : A → List B) {x : A} {y : B} (l : List A) → In x l → In y (f x) → In y (flatMap f l)
-unfolding flatMap
-in-flat f [] m n = absurd (List·Memᴰ·not-nil m)
-in-flat f {y = y} (z ∷ l) m n =
-    elim (List·Memᴰ·cases-cons m) [
-      | inl e ↦ Memᴰ·append-left (flatMap f l) (subst (λ z. In y (f z)) e n)
-      | inr h ↦ Memᴰ·append-right (f z) (in-flat f l h n)
-    ]
 
 -- each sum of a vector whose sums vanish is 0
 pub sum-zero : (F : Field) (checks : List (List ℕ)) (w c : List ℕ) → T (vanish (sumsOf F checks w)) → In c checks → dot F c w ≡ 0
@@ -51,7 +42,7 @@ all-bits : (n s : ℕ) → s < 2 ^ n → ((k : ℕ) → k < n → s / 2 ^ k % 2 
 all-bits zero s h z = lt-one h
 all-bits (suc n) s h z =
     let half : s / 2 ≡ 0 =
-    all-bits n (s / 2) (shr-lt n 1 (subst (λ i. s < 2 ^ i) (sym (add-one n)) h))
+    all-bits n (s / 2) (half-lt n s h)
     (λ k l. ap (λ x. x % 2) (shr-shr s 1 k ∙ ap (λ i. s / 2 ^ i) (one-add k)) ∙ z (suc k) (omega arith)) in
     omega (arith, half, ap (λ x. x % 2) (sym (div-one s)) ∙ z 0 (omega arith))
 
@@ -100,8 +91,7 @@ module _ (L : Field) (K : IsField L) where
     unfolding powerSum bitChecks
     odd-zero i l =
         bits-zero (map (λ x. power L x (suc (i + i))) xs) w (powers-fit xs (suc (i + i))) h
-        (λ k m. sum-zero gf2 (binaryChecks L xs j) w _ t
-        (List·Memᴰ·tail (in-flat _ (upFrom 0 j) (in-up 0 j i (omega arith) (omega arith)) (Memᴰ·map _ (in-up 0 (L .width) k (omega arith) (omega arith))))))
+        (λ k m. sum-zero gf2 (binaryChecks L xs j) w _ t (List·Memᴰ·tail (in-flat _ (upFrom 0 j) (in-below l) (Memᴰ·map _ (in-below m)))))
 
     -- the even ones follow by squaring
     pub power-sums-zero : (p : ℕ) → p < suc (j + j) → powerSum L xs w p ≡ 0
@@ -110,7 +100,8 @@ module _ (L : Field) (K : IsField L) where
         (λ l. sym (parity xs w h) ∙ sum-zero gf2 (binaryChecks L xs j) w (ones (length xs)) t (List·Memᴰ·head refl))
         (λ p ih l. go p (p % 2) refl (bit p) ih l)
       where
-        go : (p b : ℕ) → p % 2 ≡ b → b < 2 → (p / 2 < suc (j + j) → powerSum L xs w (p / 2) ≡ 0) → p < suc (j + j) → powerSum L xs w p ≡ 0
+        go : (p b : ℕ) → p % 2 ≡ b → b < 2 → (p / 2 < suc (j + j) → powerSum L xs w (p / 2) ≡ 0) → p < suc (j + j)
+            → powerSum L xs w p ≡ 0
         go p zero e b ih l =
             ap (powerSum L xs w) (omega arith) ∙ sym (square-sum L K xs w (p / 2) h)
             ∙ ap (λ z. mul L z (powerSum L xs w (p / 2))) (ih (omega arith)) ∙ zero-mul L K (powerSum L xs w (p / 2))

@@ -4,10 +4,9 @@ use mathlib.Core.Bool.{Bool, _&&_}
 use mathlib.Core.List.{List, [], _∷_, _++_, map, flatMap, Memᴰ·map}
 use Prim.Native.Nat.{ℕ, zero, suc, _+_, _≤_, _<_}
 use native.Mathlib.Nat.{le-of-suc-le-suc, not-suc-le-zero}
-use native.Mathlib.Omega.{arith}
 use lib.Arith.{le-zero}
 use lib.Dec.{T, ltb, ltb→lt}
-use lib.ListN.{length, take, getD, replicate}
+use lib.ListN.{length, getD}
 use Rattle.field.specs.Lists.{upFrom}
 use Rattle.field.specs.Field.{_⊕_, Field, size, double, times, mul, gf2, gf8, gf16, gf32}
 use Rattle.field.specs.Power.{power, powerSum}
@@ -16,11 +15,13 @@ use Rattle.field.proofs.Laws.{IsField, mul-one}
 use Rattle.field.proofs.Fields.{gf8-field, gf16-field, gf32-field}
 use Rattle.field.proofs.Words.{Fit, weight, fit-le, fit, distinct, are-fit, are-distinct}
 use Rattle.field.proofs.Powers.{independent}
-use Rattle.linear.proofs.Tests.{in-up}
 use Rattle.linear.proofs.Filling.{Independent}
-use Rattle.repair.specs.Plan.{Level, ones, bitChecks, locations1, plan1, locations2, powers2, plan2, locations3, powers3, plan3, noPlan, planOf, noLevel, levelOf, checksTo}
+use Rattle.repair.specs.Plan.{ones, bitChecks, locations1, plan1, locations2, powers2, plan2, locations3, powers3, plan3}
+use Rattle.repair.specs.Plan.{noPlan, planOf, noLevel, levelOf, checksTo}
 use Rattle.demands.specs.Words.{counts}
+use Rattle.demands.proofs.Lists.{in-below}
 use Rattle.demands.proofs.Marked.{marked, light-independent}
+use Rattle.demands.proofs.Alike.{unmarked-independent}
 use Rattle.demands.proofs.Binary.{binaryChecks, sum-zero, power-sums-zero}
 
 -- ---- any field, any locations
@@ -55,7 +56,7 @@ module _ (L : Field) (K : IsField L) (xs : List ℕ) (t : T (areLocations L xs))
   powers-few m =
       light-independent L (powerChecks L xs m) (length xs) m
       (λ w h z l le. zero-word w m h l le
-      (λ p lt. sum-zero L (powerChecks L xs m) w _ z (Memᴰ·map _ (in-up 0 m p (omega arith) (omega arith)))))
+      (λ p lt. sum-zero L (powerChecks L xs m) w _ z (Memᴰ·map _ (in-below lt))))
       ms long
 
   -- and for bits, under parity and the power sums 1 to 2 j - 1, any 2 j + 1
@@ -65,10 +66,6 @@ module _ (L : Field) (K : IsField L) (xs : List ℕ) (t : T (areLocations L xs))
       light-independent gf2 (binaryChecks L xs j) (length xs) (suc (j + j))
       (λ w h z l le. zero-word w (suc (j + j)) (fit-le 2 (size L) (K .one-lt) w h) l le (power-sums-zero L K xs w h j z))
       ms long
-
--- no mark at all
-pub unmarked-independent : (F : Field) (checks : List (List ℕ)) (ms : List Bool) → marked ms ≤ 0 → Independent F checks ms
-unmarked-independent F checks ms = light-independent F checks (length ms) 0 (λ w h z l le. le-zero le) ms refl
 
 -- ---- our locations
 
@@ -122,18 +119,19 @@ few-independent (suc (suc (suc (suc p)))) i ms l h = absurd (not-suc-le-zero h)
 pub weights-independent : (p i : ℕ) (ms : List Bool) → length ms ≡ planOf p .rows → marked ms ≤ count p i .1
     → Independent (planOf p .field) (levelOf (planOf p) (suc (suc i)) .weights) ms
 unfolding flatMap upFrom size power gf8 ones plan1 plan2 plan3 planOf levelOf noLevel noPlan counts rowLocations
-weights-independent zero i ms l h = unmarked-independent gf2 _ ms h
+weights-independent zero i ms l h = unmarked-independent gf2 _ ms (le-zero h)
 weights-independent (suc zero) zero ms l h = binary-few gf8 gf8-field (upFrom 0 3) tt ms l 0 h
-weights-independent (suc zero) (suc zero) ms l h = unmarked-independent gf2 _ ms h
-weights-independent (suc zero) (suc (suc i)) ms l h = unmarked-independent gf2 _ ms h
+weights-independent (suc zero) (suc zero) ms l h = unmarked-independent gf2 _ ms (le-zero h)
+weights-independent (suc zero) (suc (suc i)) ms l h = unmarked-independent gf2 _ ms (le-zero h)
 weights-independent (suc (suc zero)) zero ms l h = binary-few gf8 gf8-field (upFrom 0 8) tt ms l 0 h
 weights-independent (suc (suc zero)) (suc zero) ms l h = binary-few gf8 gf8-field (upFrom 0 8) tt ms l 0 h
-weights-independent (suc (suc zero)) (suc (suc zero)) ms l h = unmarked-independent gf2 _ ms h
-weights-independent (suc (suc zero)) (suc (suc (suc i))) ms l h = unmarked-independent gf2 _ ms h
+weights-independent (suc (suc zero)) (suc (suc zero)) ms l h = unmarked-independent gf2 _ ms (le-zero h)
+weights-independent (suc (suc zero)) (suc (suc (suc i))) ms l h = unmarked-independent gf2 _ ms (le-zero h)
 weights-independent (suc (suc (suc zero))) zero ms l h =
-    subst (λ ys. Independent gf16 (ones 8 ∷ ys ∷ []) ms) (first-powers gf16 gf16-field rowLocations (both-right (distinct rowLocations) _ row-locations))
+    subst (λ ys. Independent gf16 (ones 8 ∷ ys ∷ []) ms)
+    (first-powers gf16 gf16-field rowLocations (both-right (distinct rowLocations) (fit (size gf16) rowLocations) row-locations))
     (powers-few gf16 gf16-field rowLocations row-locations ms l 2 h)
 weights-independent (suc (suc (suc zero))) (suc zero) ms l h = powers-few gf16 gf16-field rowLocations row-locations ms l 1 h
-weights-independent (suc (suc (suc zero))) (suc (suc zero)) ms l h = unmarked-independent gf16 _ ms h
-weights-independent (suc (suc (suc zero))) (suc (suc (suc i))) ms l h = unmarked-independent gf16 _ ms h
-weights-independent (suc (suc (suc (suc p)))) i ms l h = unmarked-independent gf2 _ ms h
+weights-independent (suc (suc (suc zero))) (suc (suc zero)) ms l h = unmarked-independent gf16 _ ms (le-zero h)
+weights-independent (suc (suc (suc zero))) (suc (suc (suc i))) ms l h = unmarked-independent gf16 _ ms (le-zero h)
+weights-independent (suc (suc (suc (suc p)))) i ms l h = unmarked-independent gf2 _ ms (le-zero h)
