@@ -79,11 +79,10 @@ module _ {p q rows n : ℕ} (is : Numbers p q rows n) where
       pub column-is : take rows column ≡ across (planOf p) symbols (rowIn (planOf p .columns) (checkTable (planOf p)) j)
       unfolding across rowAt rowSums padded
       column-is =
+          let check = part (j * n) n checks in
           ap (take rows) made ∙ take-at sums _ rows sums-rows
-          ∙ ap₂ (λ F k. map (λ r. dot F (part (j * n) n checks) (take (length (part (j * n) n checks)) (drop (r * length (part (j * n) n checks)) symbols))) (upFrom 0 k))
-          (is .field) (is .high)
-          ∙ ap₂ (λ check k. map (λ r. dot (planOf p .field) check (take k (drop (r * k) symbols))) (upFrom 0 (planOf p .rows)))
-          check-part check-wide
+          ∙ ap₂ (λ F k. map (λ r. dot F check (take (length check) (drop (r * length check) symbols))) (upFrom 0 k)) (is .field) (is .high)
+          ∙ ap₂ (λ c k. map (λ r. dot (planOf p .field) c (take k (drop (r * k) symbols))) (upFrom 0 (planOf p .rows))) check-part check-wide
 
   -- ---- weights
 
