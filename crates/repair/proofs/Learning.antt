@@ -1,14 +1,14 @@
 -- Learning a level: one check's sums filled, and the checks joined. Assumes nothing.
-use mathlib.Core.Path.{_≡_, refl, sym, ap, ap₂, _∙_, subst}
-use mathlib.Core.Bool.{Bool, true, false}
-use mathlib.Core.List.{List, [], _∷_, _++_, map}
+use mathlib.Core.Path.{_≡_, refl, sym, ap, ap₂, _∙_}
+use mathlib.Core.Bool.{Bool}
+use mathlib.Core.List.{List, [], _∷_, _++_}
 use Prim.Native.Nat.{ℕ, zero, suc, _+_, _*_, _^_, _≤_, _<_}
 use native.Mathlib.Numerals.{add-one}
 use native.Mathlib.Omega.{arith}
 use borrow.Author.Tests.{le-ltb, lt-ltb}
 use lib.Dec.{ltb}
-use lib.ListN.{length, getD, take, drop, List·getD-eq-default}
-use lib.Seq.{take-at, length-take-le, getD-take}
+use lib.ListN.{length, getD, take}
+use lib.Seq.{length-take-le}
 use Rattle.field.specs.Lists.{if_then_else_, upFrom}
 use Rattle.field.specs.Field.{size}
 use Rattle.field.specs.Ours.{fieldOf}
@@ -18,7 +18,7 @@ use Rattle.linear.specs.Marks.{rowsOf, bitsOf, fillOf, answerOf, vectorOf}
 use Rattle.linear.specs.Fill.{Fill, tied, none, one, fill}
 use Rattle.linear.specs.declared.Outcome.{Outcome}
 use Rattle.linear.specs.declared.Outcome.the-variants.{Tied, None, One}
-use Rattle.repair.specs.Plan.{Plan, planOf, levelOf, checksTo}
+use Rattle.repair.specs.Plan.{planOf, levelOf, checksTo}
 use Rattle.repair.specs.Steps.{lossy, Learned, blocked, failing, learned, levelFill, keepSums, raise, stepped, unlessRefused, levelStepBy, levelStep}
 use Rattle.repair.specs.Refusal.{unasked, benchRefusal}
 use Rattle.repair.specs.Tables.{padded, checkTable, rowSums}

@@ -1,11 +1,10 @@
 -- A plan's numbers as the code has them, and what its rows, checks and weights are by them. Assumes nothing.
-use mathlib.Core.Path.{_≡_, sym, ap, ap₂, _∙_}
+use mathlib.Core.Path.{_≡_, ap, ap₂, _∙_}
 use mathlib.Core.List.{List, map}
 use Prim.Native.Nat.{ℕ, suc, _+_, _*_, _≤_, _<_}
-use native.Mathlib.Nat.{le-trans, mul-le-mul-right}
+use native.Mathlib.Nat.{le-trans}
 use native.Mathlib.Numerals.{add-one}
-use native.Mathlib.Omega.{arith}
-use lib.ListN.{length, take, drop, replicate}
+use lib.ListN.{length, take, drop}
 use lib.Seq.{take-at, length-take-le}
 use Rattle.field.specs.Field.{dot}
 use Rattle.field.specs.Lists.{upFrom}

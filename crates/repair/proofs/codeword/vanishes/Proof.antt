@@ -1,6 +1,5 @@
 -- `codeword::vanishes` meets its contract: the invariant is that the checks passed give 0. Assumes nothing.
 use Prim.Native.Nat.{_-_}
-use mathlib.Core.Path.{sym}
 use native.Mathlib.Omega.{arith}
 use borrow.Author.Needs.{needs}
 use lib.ListN.{length}

@@ -1,6 +1,6 @@
 -- `level::learn_column` meets its contract. Assumes nothing.
 use Prim.Native.Nat.{suc, _+_, _*_, _≤_}
-use mathlib.Core.Path.{_≡_, sym, ap, ap₂, _∙_}
+use mathlib.Core.Path.{sym, ap, ap₂, _∙_}
 use native.Mathlib.Omega.{arith}
 use borrow.Author.Needs.{needs}
 use lib.ListN.{length}
