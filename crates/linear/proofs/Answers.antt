@@ -178,31 +178,30 @@ pub record Outcomes (q : ℕ) (checks target v : List ℕ) (marks : ℕ) (depend
   pub none : dependent ≡ false → consistent ≡ false → Answer q checks target v marks None v
   pub one : dependent ≡ false → consistent ≡ true → Answer q checks target v marks One filled
 
-pub outcomes : (q : ℕ) (checks target v : List ℕ) (marks k : ℕ) (places shown : List ℕ) (M : Matrix) (dependent consistent : Bool) (x z : ℕ → ℕ)
-    → Places marks k (vec places) → marks < 2 ^ length v → ((c : ℕ) → c < length v → vec shown c ≡ hidden marks v c)
-    → Gathered (fieldOf q) checks target (vec shown) (length v) k (vec places) M (length target)
+pub outcomes : (q : ℕ) (checks target v : List ℕ) (marks k : ℕ) (places : List ℕ) (M : Matrix) (dependent consistent : Bool) (x z : ℕ → ℕ)
+    → Places marks k (vec places) → marks < 2 ^ length v
+    → Gathered (fieldOf q) checks target (hidden marks v) (length v) k (vec places) M (length target)
     → Solved (fieldOf q) M (length target) k dependent consistent x z
     → Outcomes q checks target v marks dependent consistent (scattered v (vec places) x k)
 unfolding fillOf answerOf vectorOf
-outcomes q checks target v marks k places shown M dependent consistent x z P fit H G S = record {
+outcomes q checks target v marks k places M dependent consistent x z P fit G S = record {
   tied = λ d.
-      let e = answer-tied _ (our-field q) _ _ checks target v marks k _ (vec shown) M P fit G hole seen refl refl z (rw d at (S .dependence)) in
-      (rw e, rw e);
+      let e = answer-tied _ (our-field q) _ _ checks target v marks k _ _ M P fit G hole seen refl refl z (rw d at (S .dependence)) in (rw e, rw e);
   none = λ d c.
-      let e = answer-none _ (our-field q) _ _ checks target v marks k _ (vec shown) M P fit G hole seen refl refl x z
+      let e = answer-none _ (our-field q) _ _ checks target v marks k _ _ M P fit G hole seen refl refl x z
           (rw d at (S .dependence)) (rw c at (S .consistency)) in
       (rw e, rw e);
   one = λ d c.
-      let e = answer-one _ (our-field q) _ _ checks target v marks k _ (vec shown) M P fit G hole seen refl refl x z
+      let e = answer-one _ (our-field q) _ _ checks target v marks k _ _ M P fit G hole seen refl refl x z
           (rw d at (S .dependence)) (rw c at (S .consistency)) in
       (rw e, rw e);
 }
   where
-    hole : (t : ℕ) → t < k → vec shown (vec places t) ≡ 0
-    hole t l = H _ (bit-bound (length v) marks _ fit (P .marked t l)) ∙ hidden-marked marks v _ (P .marked t l)
+    hole : (t : ℕ) → t < k → hidden marks v (vec places t) ≡ 0
+    hole t l = hidden-marked marks v _ (P .marked t l)
 
-    seen : (c : ℕ) → c < length v → bitAt marks c ≢ 1 → vec shown c ≡ vec v c
-    seen c l ne = H c l ∙ hidden-unmarked marks v c ne
+    seen : (c : ℕ) → c < length v → bitAt marks c ≢ 1 → hidden marks v c ≡ vec v c
+    seen c l = hidden-unmarked marks v c
 
 module _ (q : ℕ) (checks target v : List ℕ) (marks : ℕ) (free : marks ≡ 0) where
   no-bit : (c : ℕ) → bitAt marks c ≢ 1

@@ -54,6 +54,10 @@ vectorOf (one w) v = w
 
 -- ---- the steps
 
+-- the room for a system of the most checks in the most columns
+abbrev pub room : ℕ
+room = mostChecks * (mostColumns + 1)
+
 -- `at` lists the k marked columns, each once
 pub record Places (marks k : ℕ) (at : ℕ → ℕ) : Type 0 where
   pub marked : (t : ℕ) → t < k → bitAt marks (at t) ≡ 1
