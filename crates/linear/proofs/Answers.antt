@@ -1,5 +1,5 @@
 -- The gathered system answers `fill`: its solutions are the fillings, and its dependencies those of the marked columns. Assumes nothing.
-use Prim.Native.Nat.{ℕ, _^_, _≤_, _<_}
+use Prim.Native.Nat.{ℕ, _^_, _<_}
 use mathlib.Core.Path.{_≡_, refl, sym, ap, ap₂, _∙_, subst}
 use mathlib.Core.Bool.{Bool, true, false}
 use mathlib.Core.Logic.{_≢_}
@@ -10,7 +10,7 @@ use native.Mathlib.Omega.{arith}
 use lib.Dec.{T, not-T, T-not}
 use lib.ListN.{length}
 use lib.Seq.{ext-getD}
-use Rattle.field.specs.Field.{Field, _⊕_, size, mul}
+use Rattle.field.specs.Field.{Field, _⊕_, mul}
 use Rattle.field.proofs.Sum.{⊕-comm, ⊕-undo, zero-⊕}
 use Rattle.field.specs.Ours.{fieldOf}
 use Rattle.field.proofs.Laws.{IsField, mul-zero}

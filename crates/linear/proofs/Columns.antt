@@ -1,8 +1,7 @@
 -- The steps around the solver: hiding what is marked, gathering the marked columns, writing them back. Assumes nothing.
-use Prim.Native.Nat.{ℕ, zero, suc, _+_, _*_, _/_, _%_, _^_, _≤_, _<_}
-use mathlib.Core.Path.{_≡_, refl, sym, ap, ap₂, _∙_}
-use mathlib.Core.Bool.{Bool, true, false}
-use mathlib.Core.Logic.{_≢_, _⊎_, inl, inr, ⊎-elim}
+use Prim.Native.Nat.{ℕ, zero, suc, _+_, _*_, _/_, _^_, _≤_, _<_}
+use mathlib.Core.Path.{_≡_, refl, sym, ap, _∙_}
+use mathlib.Core.Logic.{_≢_, inl, inr, ⊎-elim}
 use mathlib.Core.List.{List}
 use native.Mathlib.Nat.{div-one}
 use native.Mathlib.Numerals.{add-one}
@@ -11,16 +10,14 @@ use native.Mathlib.Omega.{arith}
 use borrow.Author.Count.{below-more}
 use borrow.Author.Tests.{eq-eqb, ne-eqb}
 use lib.Pow.{shr-shr}
-use lib.ListN.{length, getD, set, length-set}
+use lib.ListN.{length, set, length-set}
 use lib.Seq.{getD-set-same, getD-set-other}
 use Rattle.field.specs.Lists.{if_then_else_}
 use Rattle.field.specs.Field.{Field, _⊕_, size, mul}
-use Rattle.field.proofs.Laws.{IsField}
 use Rattle.linear.specs.System.{vec, Matrix, ent, inner}
 use Rattle.linear.specs.Marks.{bitAt, hidden, Copied, Gathered, scattered}
 use Rattle.linear.proofs.Rows.{row-fits}
 use Rattle.linear.proofs.Inner.{inner-same}
-use Rattle.linear.proofs.Turns.{set-elements}
 
 -- ---- `hide`, at column c
 

@@ -1,14 +1,9 @@
-use mathlib.Core.Path.{sym, _∙_}
-use Rattle.linear.proofs.Answers.{unmarked-one, unmarked-none}
 -- `fill` meets its contract. Assumes nothing.
-use native.Mathlib.Omega.{arith}
+use mathlib.Core.Path.{sym, _∙_}
 use borrow.Author.Needs.{needs}
+use Rattle.linear.proofs.Answers.{unmarked-one, unmarked-none}
 use Rattle.linear.proofs.fill.Statement.{statement}
 use Rattle.linear.proofs.fill.Tie as tie
-use Rattle.linear.proofs.fill.Reads as reads
-use Rattle.linear.proofs.fill.Lts as lts
-use Rattle.linear.proofs.fill_marked.Reads as fill-marked-reads
-use Rattle.linear.proofs.has_sums.Reads as has-sums-reads
 
 fill-marked-requires : tie.Need-fill-marked-requires
 fill-marked-requires c κs = search needs

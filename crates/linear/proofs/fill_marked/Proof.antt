@@ -1,24 +1,18 @@
+-- `fill_marked` meets its contract. Assumes nothing.
+use mathlib.Core.Path.{refl, _∙_}
+use native.Mathlib.Omega.{arith}
+use borrow.Author.Tests.{not-true, not-false}
+use borrow.Author.Needs.{needs}
+use lib.ListN.{length}
+use Rattle.field.proofs.Fields.{our-field}
+use Rattle.linear.specs.Marks.{scattered}
+use Rattle.linear.specs.System.{vec}
 use Rattle.linear.proofs.Answers.{Outcomes, outcomes}
 use Rattle.linear.proofs.Turns.{zero-elements}
 use Rattle.linear.proofs.Words.{bit-bound}
 use Rattle.linear.proofs.Rows.{system-fits}
-use Rattle.linear.specs.Marks.{scattered}
-use Rattle.linear.specs.System.{vec}
-use Rattle.field.proofs.Fields.{our-field}
-use lib.ListN.{length}
-use borrow.Author.Tests.{not-true, not-false}
-use mathlib.Core.Path.{refl, _∙_}
-use Prim.Native.Nat.{_+_, _*_}
--- `fill_marked` meets its contract. Assumes nothing.
-use native.Mathlib.Omega.{arith}
-use borrow.Author.Needs.{needs}
 use Rattle.linear.proofs.fill_marked.Statement.{statement}
 use Rattle.linear.proofs.fill_marked.Tie as tie
-use Rattle.linear.proofs.fill_marked.Reads as reads
-use Rattle.linear.proofs.fill_marked.Lts as lts
-use Rattle.linear.proofs.gather_marked.Reads as gather-marked-reads
-use Rattle.linear.proofs.scatter.Reads as scatter-reads
-use Rattle.linear.proofs.system.solve.Reads as solve-reads
 
 -- what the solved system says
 answers : (c : tie.After-solve) → let s = c .before .before .before .before .before .before .before .before .before .before .before .before .before .before .args in let r = c .solve .result in let k = c .before .before .before .before .before .before .before .gather-marked .result in

@@ -1,17 +1,12 @@
-use Rattle.linear.proofs.Columns.{gathered-same}
-use lib.ListN.{length}
-use Rattle.linear.proofs.Words.{bit-bound}
-use Rattle.linear.proofs.Rows.{system-fits}
 -- `gather_marked` meets its contract. Assumes nothing.
 use native.Mathlib.Omega.{arith}
 use borrow.Author.Needs.{needs}
+use lib.ListN.{length}
+use Rattle.linear.proofs.Columns.{gathered-same}
+use Rattle.linear.proofs.Words.{bit-bound}
+use Rattle.linear.proofs.Rows.{system-fits}
 use Rattle.linear.proofs.gather_marked.Statement.{statement}
 use Rattle.linear.proofs.gather_marked.Tie as tie
-use Rattle.linear.proofs.gather_marked.Reads as reads
-use Rattle.linear.proofs.gather_marked.Lts as lts
-use Rattle.linear.proofs.gather.Reads as gather-reads
-use Rattle.linear.proofs.hide.Reads as hide-reads
-use Rattle.linear.proofs.list_places.Reads as list-places-reads
 
 list-places-requires : tie.Need-list-places-requires
 list-places-requires c κs = search needs

@@ -1,18 +1,11 @@
-use lib.ListN.{length}
-use mathlib.Core.Path.{_≡_}
-use Rattle.linear.proofs.Marked.{symbols-at}
 -- `answer` meets its contract. Assumes nothing.
+use mathlib.Core.Path.{_≡_}
 use native.Mathlib.Omega.{arith}
 use borrow.Author.Needs.{needs}
+use lib.ListN.{length}
+use Rattle.linear.proofs.Marked.{symbols-at}
 use Rattle.linear_cases.proofs.answer.Statement.{statement}
 use Rattle.linear_cases.proofs.answer.Tie as tie
-use Rattle.linear_cases.proofs.answer.Reads as reads
-use Rattle.linear_cases.proofs.answer.Lts as lts
-use Rattle.field.proofs.products.Reads as products-reads
-use Rattle.io.proofs.write_all.Reads as write-all-reads
-use Rattle.linear.proofs.system.solve.Reads as solve-reads
-use Rattle.linear_cases.proofs.flag.Reads as flag-reads
-use Rattle.linear_cases.proofs.write_symbols.Reads as write-symbols-reads
 
 products-requires : tie.Need-products-requires
 products-requires c κs = search needs

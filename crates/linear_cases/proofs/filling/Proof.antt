@@ -1,18 +1,11 @@
-use lib.ListN.{length}
-use mathlib.Core.Path.{_≡_}
-use Rattle.linear.proofs.Marked.{symbols-at}
 -- `filling` meets its contract. Assumes nothing.
+use mathlib.Core.Path.{_≡_}
 use native.Mathlib.Omega.{arith}
 use borrow.Author.Needs.{needs}
+use lib.ListN.{length}
+use Rattle.linear.proofs.Marked.{symbols-at}
 use Rattle.linear_cases.proofs.filling.Statement.{statement}
 use Rattle.linear_cases.proofs.filling.Tie as tie
-use Rattle.linear_cases.proofs.filling.Reads as reads
-use Rattle.linear_cases.proofs.filling.Lts as lts
-use Rattle.field.proofs.products.Reads as products-reads
-use Rattle.io.proofs.write_all.Reads as write-all-reads
-use Rattle.linear.proofs.fill.Reads as fill-reads
-use Rattle.linear_cases.proofs.outcome.Reads as outcome-reads
-use Rattle.linear_cases.proofs.write_symbols.Reads as write-symbols-reads
 
 products-requires : tie.Need-products-requires
 products-requires c κs = search needs

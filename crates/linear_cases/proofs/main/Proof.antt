@@ -1,17 +1,12 @@
 -- `main` meets its contract: each system and vector is made of symbols, by computation. Assumes nothing.
+use borrow.Author.Needs.{needs}
 use lib.Dec.{lit<, lit≤}
 use Rattle.field.specs.Lists.{if_then_else_}
 use Rattle.field.specs.Field.{size, gf2, gf16}
 use Rattle.field.specs.Ours.{fieldOf}
 use Rattle.linear.specs.Lists.{all}
-use native.Mathlib.Omega.{arith}
-use borrow.Author.Needs.{needs}
 use Rattle.linear_cases.proofs.main.Statement.{statement}
 use Rattle.linear_cases.proofs.main.Tie as tie
-use Rattle.linear_cases.proofs.main.Reads as reads
-use Rattle.linear_cases.proofs.main.Lts as lts
-use Rattle.linear_cases.proofs.answer.Reads as answer-reads
-use Rattle.linear_cases.proofs.filling.Reads as filling-reads
 
 answer-requires : tie.Need-answer-requires
 unfolding size fieldOf gf2 gf16 all if_then_else_

@@ -1,18 +1,14 @@
-use mathlib.Core.Path.{refl}
-use Rattle.linear.proofs.Turns.{Clearing, clearing-start, clearing-skip, clearing-turn, clearing-end}
-use Rattle.linear.proofs.Rows.{row-fits}
-use Rattle.field.specs.Ours.{fieldOf}
-use mathlib.Core.Logic.{⊎-elim}
-use mathlib.Core.Path.{_∙_}
-use Prim.Native.Nat.{_-_}
 -- `system::clear_column` meets its contract. Assumes nothing.
+use mathlib.Core.Path.{refl, _∙_}
+use mathlib.Core.Logic.{⊎-elim}
+use Prim.Native.Nat.{_-_}
 use native.Mathlib.Omega.{arith}
 use borrow.Author.Needs.{needs}
+use Rattle.field.specs.Ours.{fieldOf}
+use Rattle.linear.proofs.Turns.{Clearing, clearing-start, clearing-skip, clearing-turn, clearing-end}
+use Rattle.linear.proofs.Rows.{row-fits}
 use Rattle.linear.proofs.system.clear_column.Statement.{statement}
 use Rattle.linear.proofs.system.clear_column.Tie as tie
-use Rattle.linear.proofs.system.clear_column.Reads as reads
-use Rattle.linear.proofs.system.clear_column.Lts as lts
-use Rattle.linear.proofs.system.add_row.Reads as add-row-reads
 
 abbrev Inv-loop : tie.InvT-loop
 Inv-loop q table a₀ m w p c i₀ a i = Clearing (fieldOf q) a₀ a w p c i

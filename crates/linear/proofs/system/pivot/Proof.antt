@@ -1,19 +1,13 @@
-use Rattle.linear.proofs.Elimination.{added-zero, pivoted}
-use Rattle.linear.proofs.Rows.{row-fits}
-use Rattle.field.proofs.Fields.{our-field}
-use Rattle.field.specs.Field.{_⊕_, mul}
-use mathlib.Core.Path.{_∙_, ap}
 -- `system::pivot` meets its contract. Assumes nothing.
+use mathlib.Core.Path.{_∙_, ap}
 use native.Mathlib.Omega.{arith}
 use borrow.Author.Needs.{needs}
+use Rattle.field.specs.Field.{_⊕_, mul}
+use Rattle.field.proofs.Fields.{our-field}
+use Rattle.linear.proofs.Elimination.{added-zero, pivoted}
+use Rattle.linear.proofs.Rows.{row-fits}
 use Rattle.linear.proofs.system.pivot.Statement.{statement}
 use Rattle.linear.proofs.system.pivot.Tie as tie
-use Rattle.linear.proofs.system.pivot.Reads as reads
-use Rattle.linear.proofs.system.pivot.Lts as lts
-use Rattle.field.proofs.inverse.Reads as inverse-reads
-use Rattle.field.proofs.product.Reads as product-reads
-use Rattle.linear.proofs.system.add_row.Reads as add-row-reads
-use Rattle.linear.proofs.system.clear_column.Reads as clear-column-reads
 
 mul-x : tie.Need-mul-x
 mul-x c = let s = c .before in omega (arith, row-fits (s .args .m) (s .args .w) (s .args .r) (omega arith))

@@ -1,15 +1,10 @@
-use Rattle.linear.proofs.Elimination.{same-consistency, same-dependence}
-use Rattle.field.proofs.Fields.{our-field}
 -- `system::solve` meets its contract. Assumes nothing.
 use native.Mathlib.Omega.{arith}
 use borrow.Author.Needs.{needs}
+use Rattle.field.proofs.Fields.{our-field}
+use Rattle.linear.proofs.Elimination.{same-consistency, same-dependence}
 use Rattle.linear.proofs.system.solve.Statement.{statement}
 use Rattle.linear.proofs.system.solve.Tie as tie
-use Rattle.linear.proofs.system.solve.Reads as reads
-use Rattle.linear.proofs.system.solve.Lts as lts
-use Rattle.linear.proofs.system.find_dependency.Reads as find-dependency-reads
-use Rattle.linear.proofs.system.find_solution.Reads as find-solution-reads
-use Rattle.linear.proofs.system.reduce.Reads as reduce-reads
 
 reduce-requires : tie.Need-reduce-requires
 reduce-requires c κs = let pre = c .before .before .before .before .before .before .pre in (pre .0, ((pre .1 .0 .0, pre .1 .0 .1), pre .1 .1))
