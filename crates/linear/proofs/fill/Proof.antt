@@ -1,5 +1,5 @@
 -- `fill` meets its contract. Assumes nothing.
-use mathlib.Core.Path.{sym, _∙_}
+use mathlib.Core.Path.{refl, sym, _∙_}
 use borrow.Author.Needs.{needs}
 use Rattle.linear.proofs.Answers.{unmarked-one, unmarked-none}
 use Rattle.linear.proofs.fill.Statement.{statement}
@@ -18,7 +18,7 @@ has-sums-requires : tie.Need-has-sums-requires
 has-sums-requires c κs = search needs
 
 same-length-2 : tie.Need-same-length-2
-same-length-2 c = search needs
+same-length-2 c = refl
 
 returns-2 : tie.Need-returns-2
 returns-2 c = let s = c .before .before .before .before .before .before .before in
@@ -26,7 +26,7 @@ returns-2 c = let s = c .before .before .before .before .before .before .before 
     (sym (c .if2 .taken) ∙ c .before .has-sums .ensures)
 
 same-length-3 : tie.Need-same-length-3
-same-length-3 c = search needs
+same-length-3 c = refl
 
 returns-3 : tie.Need-returns-3
 returns-3 c = let s = c .before .before .before .before .before .before .before in

@@ -1,8 +1,7 @@
 -- `fill_marked` meets its contract. Assumes nothing.
-use mathlib.Core.Path.{refl, _∙_}
+use mathlib.Core.Path.{refl, sym, _∙_}
 use native.Mathlib.Omega.{arith}
 use borrow.Author.Tests.{not-true, not-false}
-use borrow.Author.Needs.{needs}
 use lib.ListN.{length}
 use Rattle.field.proofs.Fields.{our-field}
 use Rattle.linear.specs.Marks.{scattered}
@@ -26,26 +25,26 @@ answers c =
     (gathered .ensures .0 .1) (s .pre .1 .0 .2) (gathered .ensures .1 .0) (c .solve .ensures)
 
 slice-aggregate-gather-marked : tie.Need-slice-aggregate-gather-marked
-slice-aggregate-gather-marked c = search needs
+slice-aggregate-gather-marked c = refl
 
 slice-aggregate-gather-marked-2 : tie.Need-slice-aggregate-gather-marked-2
-slice-aggregate-gather-marked-2 c = search needs
+slice-aggregate-gather-marked-2 c = refl
 
 gather-marked-requires : tie.Need-gather-marked-requires
 gather-marked-requires c κs = let s = c .before .before .before .before .before .before in
     (s .pre .0, (s .pre .1 .0, (s .pre .1 .1 .0, ((refl, refl), (s .pre .1 .1 .1 .0, s .pre .1 .1 .1 .1, zero-elements _ (our-field (s .args .q)) 528)))))
 
 slice-aggregate-solve : tie.Need-slice-aggregate-solve
-slice-aggregate-solve c = search needs
+slice-aggregate-solve c = sym (c .before .before .before .gather-marked .kept .1 .1 .1 .1 .1 .1 .1 .0)
 
 slice-aggregate-solve-2 : tie.Need-slice-aggregate-solve-2
-slice-aggregate-solve-2 c = search needs
+slice-aggregate-solve-2 c = refl
 
 slice-aggregate-solve-3 : tie.Need-slice-aggregate-solve-3
-slice-aggregate-solve-3 c = search needs
+slice-aggregate-solve-3 c = refl
 
 slice-aggregate-solve-4 : tie.Need-slice-aggregate-solve-4
-slice-aggregate-solve-4 c = search needs
+slice-aggregate-solve-4 c = refl
 
 solve-requires : tie.Need-solve-requires
 solve-requires c κs = let s = c .before .before .before .before .before .before .before .before .before .before .before .before .before in
@@ -57,22 +56,22 @@ solve-requires c κs = let s = c .before .before .before .before .before .before
     omega (arith, few, pre .1)), gathered .ensures .1 .1))
 
 same-length : tie.Need-same-length
-same-length c = search needs
+same-length c = refl
 
 returns : tie.Need-returns
 returns c = answers (c .before .before .before .before .before) .tied (c .if1 .taken)
 
 same-length-2 : tie.Need-same-length-2
-same-length-2 c = search needs
+same-length-2 c = refl
 
 returns-2 : tie.Need-returns-2
 returns-2 c = answers (c .before .before .before .before .before .before .before) .none (c .before .before .if1 .left) (not-true _ (c .if2 .taken))
 
 slice-aggregate-scatter : tie.Need-slice-aggregate-scatter
-slice-aggregate-scatter c = search needs
+slice-aggregate-scatter c = sym (c .before .before .before .before .before .before .before .before .before .before .before .before .before .before .before .before .gather-marked .kept .1 .1 .1 .1 .1 .1 .0)
 
 slice-aggregate-scatter-2 : tie.Need-slice-aggregate-scatter-2
-slice-aggregate-scatter-2 c = search needs
+slice-aggregate-scatter-2 c = sym (c .before .before .before .before .before .before .before .before .before .before .solve .kept .1 .1 .1 .1 .1 .1 .0)
 
 scatter-requires : tie.Need-scatter-requires
 scatter-requires c κs = let s = c .before .before .before .before .before .before .before .before .before .before .before .before .before .before .before .before .before .before .before .before .before .before .before .before in
@@ -83,7 +82,7 @@ scatter-requires c κs = let s = c .before .before .before .before .before .befo
     λ t l. bit-bound _ (s .args .marks) _ (pre .2) (gathered .ensures .0 .1 .marked t l))
 
 same-length-3 : tie.Need-same-length-3
-same-length-3 c = search needs
+same-length-3 c = c .before .before .scatter .kept .0
 
 returns-3 : tie.Need-returns-3
 returns-3 c = let a = answers (c .before .before .before .before .before .before .before .before .before .before .before .before .before) .one (c .before .before .before .before .before .before .before .before .if1 .left) (not-false _ (c .before .before .before .before .before .before .if2 .left)) in (a .0, c .before .before .scatter .ensures ∙ a .1)

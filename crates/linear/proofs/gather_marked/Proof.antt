@@ -1,4 +1,5 @@
 -- `gather_marked` meets its contract. Assumes nothing.
+use mathlib.Core.Path.{refl, sym}
 use native.Mathlib.Omega.{arith}
 use borrow.Author.Needs.{needs}
 use lib.ListN.{length}
@@ -12,13 +13,13 @@ list-places-requires : tie.Need-list-places-requires
 list-places-requires c κs = search needs
 
 slice-aggregate-hide : tie.Need-slice-aggregate-hide
-slice-aggregate-hide c = search needs
+slice-aggregate-hide c = refl
 
 hide-requires : tie.Need-hide-requires
 hide-requires c κs = search needs
 
 slice-aggregate-gather : tie.Need-slice-aggregate-gather
-slice-aggregate-gather c = search needs
+slice-aggregate-gather c = sym (c .before .before .hide .kept .1 .1 .0)
 
 gather-requires : tie.Need-gather-requires
 gather-requires c κs = let s = c .before .before .before .before .before .before .before .before .before .before .before .before .before .before .before in
@@ -32,10 +33,10 @@ gather-requires c κs = let s = c .before .before .before .before .before .befor
     pre .1 .1 .1)))
 
 same-length : tie.Need-same-length
-same-length c = search needs
+same-length c = c .before .before .before .before .before .before .before .before .before .before .before .list-places .kept .1 .1 .0
 
 same-length-2 : tie.Need-same-length-2
-same-length-2 c = search needs
+same-length-2 c = c .before .before .gather .kept .1 .1 .1 .1 .1 .1 .1 .1 .0
 
 returns : tie.Need-returns
 returns c = let listed = c .before .before .before .before .before .before .before .before .before .before .before .list-places .ensures in
