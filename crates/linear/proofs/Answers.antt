@@ -189,11 +189,11 @@ outcomes q checks target v marks k places M dependent consistent x z P fit G S =
       let e = answer-tied _ (our-field q) _ _ checks target v marks k _ _ M P fit G hole seen refl refl z (rw d at (S .dependence)) in (rw e, rw e);
   none = λ d c.
       let e = answer-none _ (our-field q) _ _ checks target v marks k _ _ M P fit G hole seen refl refl x z
-          (rw d at (S .dependence)) (rw c at (S .consistency)) in
+      (rw d at (S .dependence)) (rw c at (S .consistency)) in
       (rw e, rw e);
   one = λ d c.
       let e = answer-one _ (our-field q) _ _ checks target v marks k _ _ M P fit G hole seen refl refl x z
-          (rw d at (S .dependence)) (rw c at (S .consistency)) in
+      (rw d at (S .dependence)) (rw c at (S .consistency)) in
       (rw e, rw e);
 }
   where
@@ -233,8 +233,8 @@ module _ (q : ℕ) (checks target v : List ℕ) (marks : ℕ) (free : marks ≡ 
   unfolding fillOf answerOf vectorOf rows-of bits-of
   unmarked-none e =
       let f = fill-none (fieldOf q) rows-of target bits-of v no-columns (λ w g.
-          absurd (subst T (sym e) (subst (λ l. T (same (sumsOf (fieldOf q) rows-of l) target)) (only-self w (g .agrees))
-          (subst (λ l. T (same (sumsOf (fieldOf q) rows-of w) l)) (g .meets) (same-refl _))))) in
+      absurd (subst T (sym e) (subst (λ l. T (same (sumsOf (fieldOf q) rows-of l) target)) (only-self w (g .agrees))
+      (subst (λ l. T (same (sumsOf (fieldOf q) rows-of w) l)) (g .meets) (same-refl _))))) in
       (rw f, rw f)
     where
       only-self : (w : List ℕ) → Agrees (fieldOf q) bits-of v w → w ≡ v

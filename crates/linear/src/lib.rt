@@ -13,7 +13,9 @@ ghost use Rattle.linear.specs.Marks.{mostChecks, mostColumns, room, rows
 
 // How many checks and columns `fill` takes at most, and the room that its system takes.
 pub const CHECKS: usize = 16;
+
 pub const COLUMNS: usize = 32;
+
 const ROOM: usize = 528;
 
 // The marked columns are dependent; they are not, and nothing fills; or the one vector that does is in place.
@@ -182,7 +184,14 @@ fn gather_marked(
 }
 
 // Fills the marked places by the system of the marked columns.
-fn fill_marked(q: usize, table: &[u8; 256], checks: &[u8], target: &[u8], v: &mut [u8], marks: u32) -> Outcome
+fn fill_marked(
+    q: usize,
+    table: &[u8; 256],
+    checks: &[u8],
+    target: &[u8],
+    v: &mut [u8],
+    marks: u32,
+) -> Outcome
     requires { ⌜ now table ≡ products ⌝ }
     requires { ⌜ (length (now target) ≤ mostChecks) × (length (now v) ≤ mostColumns) × (marks < 2 ^ length (now v)) ⌝ }
     requires { ⌜ length (now checks) ≡ length (now target) * length (now v) ⌝ }
@@ -192,11 +201,29 @@ fn fill_marked(q: usize, table: &[u8; 256], checks: &[u8], target: &[u8], v: &mu
 {
     let mut places: [usize; COLUMNS] = [0; COLUMNS];
     let mut a: [u8; ROOM] = [0; ROOM];
-    let k = gather_marked(q, table, checks, target, &v[..], marks, &mut places[..], &mut a[..]);
+    let k = gather_marked(
+        q,
+        table,
+        checks,
+        target,
+        &v[..],
+        marks,
+        &mut places[..],
+        &mut a[..],
+    );
     let mut pivots: [usize; COLUMNS] = [0; COLUMNS];
     let mut solution: [u8; COLUMNS] = [0; COLUMNS];
     let mut dependency: [u8; COLUMNS] = [0; COLUMNS];
-    let s = system::solve(q, table, &mut a[..], target.len(), k, &mut pivots[..], &mut solution[..], &mut dependency[..]);
+    let s = system::solve(
+        q,
+        table,
+        &mut a[..],
+        target.len(),
+        k,
+        &mut pivots[..],
+        &mut solution[..],
+        &mut dependency[..],
+    );
     if s.dependent {
         return Outcome::Tied;
     }
@@ -210,7 +237,14 @@ fn fill_marked(q: usize, table: &[u8; 256], checks: &[u8], target: &[u8], v: &mu
 // Fills the marked places of v, in field `q`, so that its sums are the target: `checks` has a row of as many coefficients as v
 // has symbols for each sum, and bit c of `marks` marks column c. Writes v only where the answer is `One`, and never reads what
 // stands under a mark. Where nothing is marked, the sums are compared.
-pub fn fill(q: usize, table: &[u8; 256], checks: &[u8], target: &[u8], v: &mut [u8], marks: u32) -> Outcome
+pub fn fill(
+    q: usize,
+    table: &[u8; 256],
+    checks: &[u8],
+    target: &[u8],
+    v: &mut [u8],
+    marks: u32,
+) -> Outcome
     requires { ⌜ now table ≡ products ⌝ }
     requires { ⌜ (length (now target) ≤ mostChecks) × (length (now v) ≤ mostColumns) × (marks < 2 ^ length (now v)) ⌝ }
     requires { ⌜ length (now checks) ≡ length (now target) * length (now v) ⌝ }

@@ -51,9 +51,18 @@ solve-requires c κs = let s = c .before .before .before .before .before .before
     let pre = s .pre .1 .0 in
     let gathered = c .before .before .before .before .before .before .gather-marked in
     let few = gathered .ensures .0 .0 in
-    let fits = system-fits (length (s .args .target .now)) (gathered .result) (pre .0) (omega (arith, few, pre .1)) in
-    (s .pre .0, ((omega (arith, gathered .kept .1 .1 .1 .1 .1 .1 .1 .0, fits), omega (arith, few, pre .1), omega (arith, few, pre .1),
-    omega (arith, few, pre .1)), gathered .ensures .1 .1))
+    let fits = system-fits (length (s .args .target .now)) (gathered .result) (pre .0) (omega (arith, few, pre .1)) in (
+      s .pre .0,
+      (
+        (
+          omega (arith, gathered .kept .1 .1 .1 .1 .1 .1 .1 .0, fits),
+          omega (arith, few, pre .1),
+          omega (arith, few, pre .1),
+          omega (arith, few, pre .1),
+        ),
+        gathered .ensures .1 .1,
+      ),
+    )
 
 same-length : tie.Need-same-length
 same-length c = refl
@@ -77,9 +86,11 @@ scatter-requires : tie.Need-scatter-requires
 scatter-requires c κs = let s = c .before .before .before .before .before .before .before .before .before .before .before .before .before .before .before .before .before .before .before .before .before .before .before .before in
     let pre = s .pre .1 .0 in
     let gathered = c .before .before .before .before .before .before .before .before .before .before .before .before .before .before .before .before .before .gather-marked in
-    let few = gathered .ensures .0 .0 in
-    (omega (arith, gathered .kept .1 .1 .1 .1 .1 .1 .0, few, pre .1), omega (arith, c .before .before .before .before .before .before .before .before .before .before .solve .kept .1 .1 .1 .1 .1 .1 .0, few, pre .1),
-    λ t l. bit-bound _ (s .args .marks) _ (pre .2) (gathered .ensures .0 .1 .marked t l))
+    let few = gathered .ensures .0 .0 in (
+      omega (arith, gathered .kept .1 .1 .1 .1 .1 .1 .0, few, pre .1),
+      omega (arith, c .before .before .before .before .before .before .before .before .before .before .solve .kept .1 .1 .1 .1 .1 .1 .0, few, pre .1),
+      λ t l. bit-bound _ (s .args .marks) _ (pre .2) (gathered .ensures .0 .1 .marked t l),
+    )
 
 same-length-3 : tie.Need-same-length-3
 same-length-3 c = c .before .before .scatter .kept .0

@@ -26,11 +26,20 @@ gather-requires c κs = let s = c .before .before .before .before .before .befor
     let pre = s .pre .1 in
     let listed = c .before .before .before .before .before .before .before .before .list-places in
     let few = listed .ensures .0 in
-    let fits = system-fits (length (s .args .target .now)) (listed .result) (pre .0 .0) (omega (arith, few, pre .0 .1)) in
-    (s .pre .0, ((omega (arith, pre .1 .0), omega (arith, fits, pre .1 .1 .0 .1)),
-    ((omega (arith, c .before .before .before .before .hide .kept .1 .1 .0, pre .0 .1), omega (arith, few, pre .0 .1, pre .1 .1 .0 .0, listed .kept .1 .1 .0),
-    λ t l. bit-bound _ (s .args .marks) _ (pre .0 .2) (listed .ensures .1 .marked t l)),
-    pre .1 .1 .1)))
+    let fits = system-fits (length (s .args .target .now)) (listed .result) (pre .0 .0) (omega (arith, few, pre .0 .1)) in (
+      s .pre .0,
+      (
+        (omega (arith, pre .1 .0), omega (arith, fits, pre .1 .1 .0 .1)),
+        (
+          (
+            omega (arith, c .before .before .before .before .hide .kept .1 .1 .0, pre .0 .1),
+            omega (arith, few, pre .0 .1, pre .1 .1 .0 .0, listed .kept .1 .1 .0),
+            λ t l. bit-bound _ (s .args .marks) _ (pre .0 .2) (listed .ensures .1 .marked t l),
+          ),
+          pre .1 .1 .1,
+        ),
+      ),
+    )
 
 same-length : tie.Need-same-length
 same-length c = c .before .before .before .before .before .before .before .before .before .before .before .list-places .kept .1 .1 .0

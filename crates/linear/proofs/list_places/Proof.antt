@@ -59,10 +59,10 @@ loop-less c = search needs
 
 loop-again : tie.Need-loop-again Inv-loop μ-loop
 loop-again c = let inv = c .before .loop .inv in (
-      simp length-set (inv .0),
-      placing-turn _ _ _ _ _ _ _ (inv .1) _ _ (c .before .before .pre .0) (omega arith) (next c)
-          (λ s l. getD-set-other (c .before .loop .places) _ s _ 0 (omega arith)) (getD-set-same (c .before .loop .places) _ _ 0 (room c)),
-    )
+  simp length-set (inv .0),
+  placing-turn _ _ _ _ _ _ _ (inv .1) _ _ (c .before .before .pre .0) (omega arith) (next c)
+      (λ s l. getD-set-other (c .before .loop .places) _ s _ 0 (omega arith)) (getD-set-same (c .before .loop .places) _ _ 0 (room c)),
+)
 
 same-length : tie.Need-same-length Inv-loop μ-loop
 same-length c = search needs

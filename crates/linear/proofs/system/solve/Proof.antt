@@ -11,16 +11,18 @@ reduce-requires c κs = let pre = c .before .before .before .before .before .bef
 find-solution-requires : tie.Need-find-solution-requires
 find-solution-requires c κs = let pre = c .before .before .before .before .before .before .before .before .before .before .before .before .before .before .pre .1 .0 in
     let reduced = c .before .before .before .before .before .before .before .reduce in
-    let form = reduced .ensures .0 in
-    ((omega (arith, reduced .kept .1 .1 .0, pre .0), omega (arith, reduced .kept .1 .1 .1 .1 .1 .0, form .cols, pre .1), pre .2),
-    (reduced .ensures .1 .1 .1, form))
+    let form = reduced .ensures .0 in (
+      (omega (arith, reduced .kept .1 .1 .0, pre .0), omega (arith, reduced .kept .1 .1 .1 .1 .1 .0, form .cols, pre .1), pre .2),
+      (reduced .ensures .1 .1 .1, form),
+    )
 
 find-dependency-requires : tie.Need-find-dependency-requires
 find-dependency-requires c κs = let pre = c .before .before .before .before .before .before .before .before .before .before .before .before .before .before .before .before .before .before .before .before .pre .1 .0 in
     let reduced = c .before .before .before .before .before .before .before .before .before .before .before .before .before .reduce in
-    let form = reduced .ensures .0 in
-    ((omega (arith, reduced .kept .1 .1 .0, pre .0), omega (arith, reduced .kept .1 .1 .1 .1 .1 .0, form .cols, pre .1), pre .3),
-    (reduced .ensures .1 .1 .1, (form, reduced .ensures .1 .0)))
+    let form = reduced .ensures .0 in (
+      (omega (arith, reduced .kept .1 .1 .0, pre .0), omega (arith, reduced .kept .1 .1 .1 .1 .1 .0, form .cols, pre .1), pre .3),
+      (reduced .ensures .1 .1 .1, (form, reduced .ensures .1 .0)),
+    )
 
 same-length : tie.Need-same-length
 same-length c = c .before .before .before .before .before .before .before .before .before .before .before .before .before .before .before .before .reduce .kept .1 .1 .0

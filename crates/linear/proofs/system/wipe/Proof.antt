@@ -31,10 +31,10 @@ loop-less c = simp length-set (omega arith)
 
 loop-again : tie.Need-loop-again Inv-loop μ-loop
 loop-again c = let inv = c .before .loop .inv in (
-      simp length-set (omega arith),
-      simp length-set (inv .1),
-      below-more _ _ (λ x l. getD-set-other (c .before .loop .z) _ _ 0 0 (omega arith) ∙ inv .2 x l) (getD-set-same (c .before .loop .z) _ 0 0 (omega arith)),
-    )
+  simp length-set (omega arith),
+  simp length-set (inv .1),
+  below-more _ _ (λ x l. getD-set-other (c .before .loop .z) _ _ 0 0 (omega arith) ∙ inv .2 x l) (getD-set-same (c .before .loop .z) _ 0 0 (omega arith)),
+)
 
 same-length : tie.Need-same-length Inv-loop μ-loop
 same-length c = search needs
