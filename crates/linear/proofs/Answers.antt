@@ -28,7 +28,8 @@ use Rattle.linear.proofs.Inner.{inner-same, inner-zero, inner-split}
 use Rattle.linear.proofs.Flat.{length-sums, sums-at, sums-are}
 use Rattle.linear.proofs.Words.{bit-bound, bit-of-none}
 use Rattle.linear.proofs.Columns.{hidden-marked, hidden-unmarked, length-scattered, scattered-at, scattered-off}
-use Rattle.linear.proofs.Marked.{zeros-at, length-zeros, vanish-at, vanish-of, length-bits, agrees-size, agrees-marked, agrees-unmarked, agrees-bits}
+use Rattle.linear.proofs.Marked.{zeros-at, length-zeros, vanish-at, vanish-of, length-bits}
+use Rattle.linear.proofs.Marked.{agrees-size, agrees-marked, agrees-unmarked, agrees-bits}
 
 module _ (F : Field) (K : IsField F) (m n : ℕ) (checks target v : List ℕ) (marks k : ℕ) (at b : ℕ → ℕ) (M : Matrix)
     (P : Places marks k at) (fit : marks < 2 ^ n) (G : Gathered F checks target b n k at M m)
@@ -67,7 +68,8 @@ module _ (F : Field) (K : IsField F) (m n : ℕ) (checks target v : List ℕ) (m
   split-zeros w a i l =
       inner-split F K at k n (ent checks n i) (vec w) (λ _. 0) within (P .apart) (λ t _. refl)
       (λ c lc free. agrees-unmarked F n marks (zeros ms) w a c lc (unplaced c free) ∙ zeros-at ms c)
-      ∙ ap₂ _⊕_ (inner-zero F _ _ n (λ c _. mul-zero F K _)) (inner-same F _ _ _ _ k (λ t lt. ap (λ x. mul F x (vec w (at t))) (sym (G .coefficient i l t lt))))
+      ∙ ap₂ _⊕_ (inner-zero F _ _ n (λ c _. mul-zero F K _))
+      (inner-same F _ _ _ _ k (λ t lt. ap (λ x. mul F x (vec w (at t))) (sym (G .coefficient i l t lt))))
       ∙ zero-⊕ _
 
   -- ---- fillings and solutions
@@ -139,13 +141,16 @@ module _ (F : Field) (K : IsField F) (m n : ℕ) (checks target v : List ℕ) (m
 
   independent : (z : ℕ → ℕ) → Dependence F M m k false z → Independent F rows ms
   unfolding ms rows
-  independent z D = independent-of F rows ms (λ w d. T-not (vanish w) (d .nonzero) (vanish-of w (λ c l. none-left w d c (rw (agrees-size F n marks (zeros ms) w (d .agrees)) at l))))
+  independent z D =
+      independent-of F rows ms (λ w d. T-not (vanish w) (d .nonzero)
+      (vanish-of w (λ c l. none-left w d c (rw (agrees-size F n marks (zeros ms) w (d .agrees)) at l))))
     where
       none-left : (w : List ℕ) → Dependency F rows ms w → (c : ℕ) → c < n → vec w c ≡ 0
       none-left w d c l = elim (ℕ-discrete (bitAt marks c) 1) [
         | yes e ↦
             let r = P .every c e in
-            rw (← r .2) (D .none refl (λ t. vec w (at t)) (λ t lt. agrees-marked F n marks (zeros ms) w (d .agrees) (at t) (within t lt) (P .marked t lt))
+            rw (← r .2)
+            (D .none refl (λ t. vec w (at t)) (λ t lt. agrees-marked F n marks (zeros ms) w (d .agrees) (at t) (within t lt) (P .marked t lt))
             (dependency-ker w d) (r .0) (r .1))
         | no ne ↦ agrees-unmarked F n marks (zeros ms) w (d .agrees) c l ne ∙ zeros-at ms c
       ]

@@ -9,7 +9,8 @@ ghost use Rattle.field.specs.Ours.{fieldOf, products};
 ghost use Rattle.linear.specs.Lists.{same};
 ghost use Rattle.linear.specs.Fill.{sumsOf};
 ghost use Rattle.linear.specs.System.{vec, ent, inner, Elements};
-ghost use Rattle.linear.specs.Marks.{mostChecks, mostColumns, room, rowsOf, fillOf, answerOf, vectorOf, Places, hidden, Copied, Gathered, scattered};
+ghost use Rattle.linear.specs.Marks.{mostChecks, mostColumns, rowsOf, fillOf, answerOf, vectorOf};
+ghost use Rattle.linear.specs.Marks.{room, Places, hidden, Copied, Gathered, scattered};
 
 // How many checks and columns `fill` takes at most, and the room that its system takes.
 pub const CHECKS: usize = 16;
@@ -113,7 +114,8 @@ fn gather(
     requires { ⌜ (length (now target) * n ≤ length (now checks)) × (length (now target) * (k + 1) ≤ length (now a)) ⌝ }
     requires { ⌜ (n ≤ length (now shown)) × (k ≤ length (now places)) × ((t : ℕ) → t < k → vec (now places) t < n) ⌝ }
     requires { ⌜ Elements (fieldOf q) (vec (now checks)) × Elements (fieldOf q) (vec (now target)) × Elements (fieldOf q) (vec (now a)) ⌝ }
-    ensures { λ _. ⌜ Gathered (fieldOf q) (now (checks .entry)) (now (target .entry)) (vec (now (shown .entry))) n k (vec (now (places .entry))) (ent (now (a .exit)) (k + 1)) (length (now (target .entry))) ⌝ }
+    ensures { λ _. ⌜ Gathered (fieldOf q) (now (checks .entry)) (now (target .entry)) (vec (now (shown .entry))) n k (vec (now (places .entry)))
+        (ent (now (a .exit)) (k + 1)) (length (now (target .entry))) ⌝ }
     ensures { λ _. ⌜ Elements (fieldOf q) (vec (now (a .exit))) ⌝ }
 {
     let mut i = 0;
@@ -129,7 +131,8 @@ fn gather(
 fn has_sums(q: usize, table: &[u8; 256], checks: &[u8], target: &[u8], v: &[u8]) -> bool
     requires { ⌜ now table ≡ products ⌝ }
     requires { ⌜ length (now checks) ≡ length (now target) * length (now v) ⌝ }
-    ensures { λ r. ⌜ r ≡ same (sumsOf (fieldOf q) (rowsOf (length (now (target .entry))) (length (now (v .entry))) (now (checks .entry))) (now (v .entry))) (now (target .entry)) ⌝ }
+    ensures { λ r. ⌜ r ≡ same (sumsOf (fieldOf q) (rowsOf (length (now (target .entry))) (length (now (v .entry))) (now (checks .entry))) (now (v .entry)))
+        (now (target .entry)) ⌝ }
 {
     let n = v.len();
     let mut i = 0;
@@ -172,7 +175,8 @@ fn gather_marked(
     requires { ⌜ (length (now places) ≡ mostColumns) × (length (now a) ≡ room) ⌝ }
     requires { ⌜ Elements (fieldOf q) (vec (now checks)) × Elements (fieldOf q) (vec (now target)) × Elements (fieldOf q) (vec (now a)) ⌝ }
     ensures { λ k. ⌜ (k ≤ length (now (v .entry))) × Places marks k (vec (now (places .exit))) ⌝ }
-    ensures { λ k. ⌜ Gathered (fieldOf q) (now (checks .entry)) (now (target .entry)) (hidden marks (now (v .entry))) (length (now (v .entry))) k (vec (now (places .exit))) (ent (now (a .exit)) (k + 1)) (length (now (target .entry))) ⌝ }
+    ensures { λ k. ⌜ Gathered (fieldOf q) (now (checks .entry)) (now (target .entry)) (hidden marks (now (v .entry))) (length (now (v .entry))) k
+        (vec (now (places .exit))) (ent (now (a .exit)) (k + 1)) (length (now (target .entry))) ⌝ }
     ensures { λ _. ⌜ Elements (fieldOf q) (vec (now (a .exit))) ⌝ }
 {
     let n = v.len();

@@ -17,7 +17,9 @@ use Rattle.linear.proofs.gather.Statement.{statement}
 use Rattle.linear.proofs.gather.Tie as tie
 
 abbrev Inv-loop : tie.InvT-loop
-Inv-loop q table checks target shown n places k a₀ i₀ a i = (i ≤ length target) × (length a ≡ length a₀) × Elements (fieldOf q) (vec a) × Gathered (fieldOf q) checks target (vec shown) n k (vec places) (ent a (k + 1)) i
+Inv-loop q table checks target shown n places k a₀ i₀ a i =
+    (i ≤ length target) × (length a ≡ length a₀) × Elements (fieldOf q) (vec a)
+    × Gathered (fieldOf q) checks target (vec shown) n k (vec places) (ent a (k + 1)) i
 
 abbrev μ-loop : tie.MeasureT-loop
 μ-loop q table checks target shown n places k a₀ i₀ a i = length target - i
@@ -46,7 +48,8 @@ gather-row-requires c κs = let s = c .before .before .before .before .before .b
     ((row-of-checks (c .before), row-of-system (c .before), pre .0 .1), (pre .0 .2, (pre .1 .0, inv .2)))
 
 row-sum-requires : tie.Need-row-sum-requires Inv-loop μ-loop
-row-sum-requires c κs = let s = c .before .before .before .before .before .before .before .before .before .before .before in (s .pre .0, (row-of-checks (c .before .before .before .before), s .pre .1 .1 .0 .0))
+row-sum-requires c κs = let s = c .before .before .before .before .before .before .before .before .before .before .before in
+    (s .pre .0, (row-of-checks (c .before .before .before .before), s .pre .1 .1 .0 .0))
 
 shared-slice-read-a : tie.Need-shared-slice-read-a Inv-loop μ-loop
 shared-slice-read-a c = omega arith
@@ -61,7 +64,7 @@ add-a-2 : tie.Need-add-a-2 Inv-loop μ-loop
 add-a-2 c = omega (arith, row-of-system (c .before .before .before .before .before .before))
 
 slice-write-a : tie.Need-slice-write-a Inv-loop μ-loop
-slice-write-a c = omega (arith, row-of-system (c .before .before .before .before .before .before), c .before .before .before .before .gather-row .kept .1 .1 .1 .1 .1 .1 .0)
+slice-write-a c = let kept = c .before .before .before .before .gather-row .kept .1 .1 .1 .1 .1 .1 .0 in omega (arith, row-of-system (c .before .before .before .before .before .before), kept)
 
 add-i : tie.Need-add-i Inv-loop μ-loop
 add-i c = search needs

@@ -49,8 +49,9 @@ same-length-2 c = c .before .before .gather .kept .1 .1 .1 .1 .1 .1 .1 .1 .0
 
 returns : tie.Need-returns
 returns c = let listed = c .before .before .before .before .before .before .before .before .before .before .before .list-places .ensures in
+    let shown = c .before .before .before .before .before .before .before .hide .ensures in
     let gathered = c .before .before .gather .ensures in
-    ((listed .0, listed .1), (gathered-same _ _ _ _ _ _ _ _ _ _ (c .before .before .before .before .before .before .before .hide .ensures) (gathered .0), gathered .1))
+    ((listed .0, listed .1), (gathered-same _ _ _ _ _ _ _ _ _ _ shown (gathered .0), gathered .1))
 
 pub gather-marked-spec : {M : Type 1} → statement M
 gather-marked-spec =

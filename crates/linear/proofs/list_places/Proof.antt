@@ -68,7 +68,8 @@ same-length : tie.Need-same-length Inv-loop μ-loop
 same-length c = search needs
 
 returns : tie.Need-returns Inv-loop μ-loop
-returns c = (ones-le _ _ (c .before .before .pre .0), placing-end _ _ _ _ _ _ _ (c .before .loop .inv .1) (c .before .before .fits .marks .fits) (search needs))
+returns c = let s = c .before .before in
+    (ones-le _ _ (s .pre .0), placing-end _ _ _ _ _ _ _ (c .before .loop .inv .1) (s .fits .marks .fits) (search needs))
 
 pub list-places-spec : {M : Type 1} → statement M
 list-places-spec =

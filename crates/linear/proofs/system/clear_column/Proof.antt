@@ -21,12 +21,12 @@ loop-holds : tie.Need-loop-holds Inv-loop μ-loop
 loop-holds c = clearing-start _ _ _ _ _ (c .before .pre .1 .1 .0)
 
 -- rows i and p lie in the buffer
-row-i : (c : tie.In-loop Inv-loop μ-loop) → let s = c .before .before .before in c .before .loop .i * s .args .w + s .args .w ≤ length (c .before .loop .a)
+row-i : (c : tie.In-loop Inv-loop μ-loop) → let s = c .before .before .before .args in c .before .loop .i * s .w + s .w ≤ length (c .before .loop .a)
 row-i c =
-    let s = c .before .before .before in omega (arith, c .before .loop .inv .size, row-fits (s .args .m) (s .args .w) (c .before .loop .i) (omega arith))
+    let s = c .before .before .before .args in omega (arith, c .before .loop .inv .size, row-fits (s .m) (s .w) (c .before .loop .i) (omega arith))
 
-row-p : (c : tie.In-loop Inv-loop μ-loop) → let s = c .before .before .before in s .args .p * s .args .w + s .args .w ≤ length (c .before .loop .a)
-row-p c = let s = c .before .before .before in omega (arith, c .before .loop .inv .size, row-fits (s .args .m) (s .args .w) (s .args .p) (omega arith))
+row-p : (c : tie.In-loop Inv-loop μ-loop) → let s = c .before .before .before .args in s .p * s .w + s .w ≤ length (c .before .loop .a)
+row-p c = let s = c .before .before .before .args in omega (arith, c .before .loop .inv .size, row-fits (s .m) (s .w) (s .p) (omega arith))
 
 mul-f : tie.Need-mul-f Inv-loop μ-loop
 mul-f c = omega (arith, row-i (c .before))

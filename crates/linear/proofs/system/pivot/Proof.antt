@@ -69,7 +69,8 @@ returns : tie.Need-returns
 unfolding _⊕_
 returns c = let s = c .before .before .before .before .before .before .before .before .before .before .before .before .before in
     let pre = s .pre .1 in
-    let factor = c .before .before .before .before .before .before .before .before .product .ensures ∙ ap (mul _ _) (c .before .before .before .before .before .before .before .before .before .inverse .ensures) in
+    let inverse = c .before .before .before .before .before .before .before .before .before .inverse .ensures in
+    let factor = c .before .before .before .before .before .before .before .before .product .ensures ∙ ap (mul _ _) inverse in
     let added = c .before .before .before .before .before .before .add-row .ensures in
     let cleared = c .before .before .clear-column .ensures in (
       pivoted _ (our-field (s .args .q)) _ _ _ _ _ _ _ _ _ (omega arith) (omega arith) (omega arith) (omega arith) (λ x l. pre .1 .0 _)

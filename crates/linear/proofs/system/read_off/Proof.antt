@@ -26,15 +26,20 @@ wipe-requires : tie.Need-wipe-requires Inv-loop μ-loop
 wipe-requires c κs = search needs
 
 loop-holds : tie.Need-loop-holds Inv-loop μ-loop
-loop-holds c = (omega arith, refl, read-start _ (our-field (c .before .before .before .before .before .before .before .args .q)) _ _ _ _ _ _ (c .before .before .wipe .ensures))
+loop-holds c = let s = c .before .before .before .before .before .before .before in
+    (omega arith, refl, read-start _ (our-field (s .args .q)) _ _ _ _ _ _ (c .before .before .wipe .ensures))
+
+abbrev start : tie.In-loop Inv-loop μ-loop → tie.Start Inv-loop μ-loop
+start c = c .before .before .before .before .before .before .before .before .before
 
 -- row t lies in the buffer, and its pivot's column in z
-row : (c : tie.In-loop Inv-loop μ-loop) → let s = c .before .before .before .before .before .before .before .before .before in c .before .loop .t * (s .args .k + 1) + (s .args .k + 1) ≤ length (s .args .a .now)
-row c = let s = c .before .before .before .before .before .before .before .before .before in omega (arith, row-fits (s .args .m) (s .args .k + 1) (c .before .loop .t) (omega (arith, s .pre .1 .1 .rows)))
+row : (c : tie.In-loop Inv-loop μ-loop) → let s = start c .args in c .before .loop .t * (s .k + 1) + (s .k + 1) ≤ length (s .a .now)
+row c =
+    let s = start c in omega (arith, row-fits (s .args .m) (s .args .k + 1) (c .before .loop .t) (omega (arith, s .pre .1 .1 .rows)))
 
-column : (c : tie.In-loop Inv-loop μ-loop) → vec (c .before .before .before .before .before .before .before .before .before .args .pivots .now) (c .before .loop .t) < length (c .before .loop .z)
+column : (c : tie.In-loop Inv-loop μ-loop) → vec (start c .args .pivots .now) (c .before .loop .t) < length (c .before .loop .z)
 column c =
-    let form = c .before .before .before .before .before .before .before .before .before .pre .1 .1 in
+    let form = start c .pre .1 .1 in
     omega (arith, form .col (c .before .loop .t) (omega arith), c .before .loop .inv .1, c .before .before .before .before .wipe .kept .0)
 
 mul-p : tie.Need-mul-p Inv-loop μ-loop
