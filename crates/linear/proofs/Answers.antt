@@ -28,8 +28,7 @@ use Rattle.linear.proofs.Inner.{inner-same, inner-zero, inner-split}
 use Rattle.linear.proofs.Flat.{length-sums, sums-at, sums-are}
 use Rattle.linear.proofs.Words.{bit-bound, bit-of-none}
 use Rattle.linear.proofs.Columns.{hidden-marked, hidden-unmarked, length-scattered, scattered-at, scattered-off}
-use Rattle.linear.proofs.Marked.{zeros-at, length-zeros, vanish-at, vanish-of, length-bits}
-use Rattle.linear.proofs.Marked.{agrees-size, agrees-marked, agrees-unmarked, agrees-bits}
+use Rattle.linear.proofs.Marked.{zeros-at, length-zeros, vanish-at, vanish-of, length-bits, agrees-size, agrees-marked, agrees-unmarked, agrees-bits}
 
 module _ (F : Field) (K : IsField F) (m n : ℕ) (checks target v : List ℕ) (marks k : ℕ) (at b : ℕ → ℕ) (M : Matrix)
     (P : Places marks k at) (fit : marks < 2 ^ n) (G : Gathered F checks target b n k at M m)

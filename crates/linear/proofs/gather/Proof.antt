@@ -64,7 +64,9 @@ add-a-2 : tie.Need-add-a-2 Inv-loop μ-loop
 add-a-2 c = omega (arith, row-of-system (c .before .before .before .before .before .before))
 
 slice-write-a : tie.Need-slice-write-a Inv-loop μ-loop
-slice-write-a c = let kept = c .before .before .before .before .gather-row .kept .1 .1 .1 .1 .1 .1 .0 in omega (arith, row-of-system (c .before .before .before .before .before .before), kept)
+slice-write-a c =
+    let kept = c .before .before .before .before .gather-row .kept .1 .1 .1 .1 .1 .1 .0 in
+    omega (arith, row-of-system (c .before .before .before .before .before .before), kept)
 
 add-i : tie.Need-add-i Inv-loop μ-loop
 add-i c = search needs

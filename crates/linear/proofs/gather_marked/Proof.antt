@@ -23,20 +23,21 @@ slice-aggregate-gather c = sym (c .before .before .hide .kept .1 .1 .0)
 
 gather-requires : tie.Need-gather-requires
 gather-requires c κs = let s = c .before .before .before .before .before .before .before .before .before .before .before .before .before .before .before in
-    let pre = s .pre .1 in
+    let fit = s .pre .1 .0 in
+    let room = s .pre .1 .1 in
     let listed = c .before .before .before .before .before .before .before .before .list-places in
     let few = listed .ensures .0 in
-    let fits = system-fits (length (s .args .target .now)) (listed .result) (pre .0 .0) (omega (arith, few, pre .0 .1)) in (
+    let fits = system-fits (length (s .args .target .now)) (listed .result) (fit .few) (omega (arith, few, fit .narrow)) in (
       s .pre .0,
       (
-        (omega (arith, pre .1 .0), omega (arith, fits, pre .1 .1 .0 .1)),
+        (omega (arith, fit .shape), omega (arith, fits, room .1)),
         (
           (
-            omega (arith, c .before .before .before .before .hide .kept .1 .1 .0, pre .0 .1),
-            omega (arith, few, pre .0 .1, pre .1 .1 .0 .0, listed .kept .1 .1 .0),
-            λ t l. bit-bound _ (s .args .marks) _ (pre .0 .2) (listed .ensures .1 .marked t l),
+            omega (arith, c .before .before .before .before .hide .kept .1 .1 .0, fit .narrow),
+            omega (arith, few, fit .narrow, room .0, listed .kept .1 .1 .0),
+            λ t l. bit-bound _ (s .args .marks) _ (fit .within) (listed .ensures .1 .marked t l),
           ),
-          pre .1 .1 .1,
+          (fit .coefficients, fit .sums, room .2),
         ),
       ),
     )
