@@ -1,8 +1,9 @@
 // Row steps: a row filled, the rows of a round, and the step on a bench.
+use crate::Bench;
+use crate::Step;
+use crate::Stepped;
 use crate::plan;
 use crate::sums;
-use crate::{Bench, Step, Stepped};
-
 ghost use mathlib.Core.Path.{_≡_};
 ghost use Prim.Native.Nat.{ℕ, _+_, _*_, _^_, _<_, _≤_};
 ghost use lib.Dec.{T};
@@ -70,7 +71,14 @@ fn fill_row(
     let end = start + n;
     let first = row * 16;
     let last = first + m;
-    linear::fill(q, table, &checks[..size], &sums[first..last], &mut symbols[start..end], word)
+    linear::fill(
+        q,
+        table,
+        &checks[..size],
+        &sums[first..last],
+        &mut symbols[start..end],
+        word,
+    )
 }
 
 // Where the walk over a round's rows came to: the first row whose checks fail, or R; and how many rows it filled.
@@ -107,7 +115,9 @@ pub fn walk_rows(
         if word == 0 {
             let mut j = 0;
             while j < count {
-                if check_sum(plan, level, table, checks, &symbols[..], row, j) != sums[row * 16 + j] {
+                if check_sum(plan, level, table, checks, &symbols[..], row, j)
+                    != sums[row * 16 + j]
+                {
                     break 'rows row;
                 }
                 j += 1;
@@ -142,16 +152,43 @@ pub fn step_row(bench: Bench, row: usize) -> Stepped
     let word = marks[row];
     let table = field::products();
     let checks = plan::row_checks(plan);
-    match fill_row(plan, level, &table, &checks[..], &mut symbols[..], word, &sums[..], row) {
-        linear::Outcome::Tied => Stepped { bench: bench, answer: Step::Tied },
-        linear::Outcome::None => Stepped { bench: bench, answer: Step::Clash },
+    match fill_row(
+        plan,
+        level,
+        &table,
+        &checks[..],
+        &mut symbols[..],
+        word,
+        &sums[..],
+        row,
+    ) {
+        linear::Outcome::Tied => Stepped {
+            bench: bench,
+            answer: Step::Tied,
+        },
+        linear::Outcome::None => Stepped {
+            bench: bench,
+            answer: Step::Clash,
+        },
         linear::Outcome::One => {
             marks[row] = 0;
-            let filled = Bench { plan: plan, level: level, symbols: symbols, marks: marks, sums: sums };
+            let filled = Bench {
+                plan: plan,
+                level: level,
+                symbols: symbols,
+                marks: marks,
+                sums: sums,
+            };
             if word == 0 {
-                return Stepped { bench: filled, answer: Step::Whole };
+                return Stepped {
+                    bench: filled,
+                    answer: Step::Whole,
+                };
             }
-            Stepped { bench: filled, answer: Step::Filled }
+            Stepped {
+                bench: filled,
+                answer: Step::Filled,
+            }
         }
     }
 }
