@@ -8,6 +8,7 @@ const ROWS: usize = 8;
 const COLUMNS: usize = 32;
 const SYMBOLS: usize = 256;
 const SUMS: usize = 16;
+const TOTALS: usize = 2;
 const BENCH: usize = 418;
 
 const RESTORED: usize = 0;
@@ -82,7 +83,7 @@ struct Plan {
     sums_to: [usize; 4],
     /// The number of totals of each level, and their weights.
     totals: [usize; 4],
-    weights: [[[u8; ROWS]; 2]; 4],
+    weights: [[[u8; ROWS]; TOTALS]; 4],
     /// What a symbol in a column adds to its row's packed sums.
     shares: [[u32; 16]; COLUMNS],
     check_places: [u32; ROWS],
@@ -157,7 +158,11 @@ const fn binary_shares(plan: usize) -> [[u32; 16]; COLUMNS] {
     let mut column = 0;
     while column < COLUMNS {
         shares[column][1] = if plan == 1 {
-            if column < 7 { 1 | (column as u32 + 1) << 1 } else { 0 }
+            if column < 7 {
+                1 | (column as u32 + 1) << 1
+            } else {
+                0
+            }
         } else {
             let at = if column == 31 { 0 } else { location };
             let square = times32(at, at);
@@ -220,10 +225,20 @@ impl Plan {
 
     /// The packed sums of the unmarked symbols of a row.
     fn row_sums(&self, row: &[u8], word: u32) -> u32 {
-        let shares = self.shares[..self.columns].iter().zip(row).enumerate();
-        shares.fold(0, |sum, (column, (share, &symbol))| {
-            if word >> column & 1 == 1 { sum } else { sum ^ share[symbol as usize & 15] }
-        })
+        let shares = self.shares[..self.columns].iter().zip(row);
+        if word == 0 {
+            return shares.fold(0, |sum, (share, &symbol)| sum ^ share[symbol as usize & 15]);
+        }
+        shares.enumerate().fold(
+            0,
+            |sum, (column, (share, &symbol))| {
+                if word >> column & 1 == 1 {
+                    sum
+                } else {
+                    sum ^ share[symbol as usize & 15]
+                }
+            },
+        )
     }
 
     fn all_below_q(&self, symbols: &[u8]) -> bool {
@@ -259,8 +274,6 @@ fn lent(plan: usize, stripe: &[u8], marks: &[u32], rest_fits: impl Fn(&Plan) -> 
 
 // ---- solving
 
-type System = [[u8; SUMS + 1]; SUMS];
-
 enum Solved {
     Dependent,
     None,
@@ -268,12 +281,12 @@ enum Solved {
 }
 
 /// Reduces equations in some unknowns, the right-hand side after them. The solution stands there afterwards.
-fn solve(system: &mut System, equations: usize, unknowns: usize) -> Solved {
-    if unknowns > equations {
+fn solve<const CELLS: usize>(system: &mut [[u8; CELLS]], unknowns: usize) -> Solved {
+    if unknowns > system.len() {
         return Solved::Dependent;
     }
     for at in 0..unknowns {
-        let Some(pivot) = (at..equations).find(|&row| system[row][at] != 0) else {
+        let Some(pivot) = (at..system.len()).find(|&row| system[row][at] != 0) else {
             return Solved::Dependent;
         };
         system.swap(at, pivot);
@@ -282,7 +295,7 @@ fn solve(system: &mut System, equations: usize, unknowns: usize) -> Solved {
             *cell = times(inverse, *cell);
         }
         let own = system[at];
-        for (_, row) in system[..equations].iter_mut().enumerate().filter(|&(row, _)| row != at) {
+        for (_, row) in system.iter_mut().enumerate().filter(|&(row, _)| row != at) {
             let factor = row[at];
             if factor != 0 {
                 for (cell, more) in row[at..=unknowns].iter_mut().zip(&own[at..=unknowns]) {
@@ -291,7 +304,7 @@ fn solve(system: &mut System, equations: usize, unknowns: usize) -> Solved {
             }
         }
     }
-    match system[unknowns..equations].iter().all(|row| row[unknowns] == 0) {
+    match system[unknowns..].iter().all(|row| row[unknowns] == 0) {
         true => Solved::One,
         false => Solved::None,
     }
@@ -345,7 +358,7 @@ impl Bench {
             }
             equation[count] = plan.sum(missing, sum);
         }
-        match solve(&mut system, sums, count) {
+        match solve(&mut system[..sums], count) {
             Solved::Dependent => TIED,
             Solved::None => CLASH,
             Solved::One => {
@@ -377,26 +390,26 @@ impl Bench {
             learned[row] = learned[row] & !own | self.known[row] & own;
         }
         for sum in plan.sums_to[self.level]..plan.sums_to[next] {
-            let mut system = [[0; SUMS + 1]; SUMS];
+            let mut system = [[0; TOTALS + 1]; TOTALS];
             for (equation, weights) in system.iter_mut().zip(&plan.weights[next][..totals]) {
                 let mut unknown = 0;
-                for row in 0..plan.rows {
+                for (row, &weight) in weights[..plan.rows].iter().enumerate() {
                     if self.marks[row] == 0 {
-                        equation[marked] ^= times(weights[row], plan.sum(self.known[row], sum));
+                        equation[marked] ^= times(weight, plan.sum(self.known[row], sum));
                     } else {
-                        equation[unknown] = weights[row];
+                        equation[unknown] = weight;
                         unknown += 1;
                     }
                 }
             }
-            match solve(&mut system, totals, marked) {
+            match solve(&mut system[..totals], marked) {
                 Solved::Dependent => return BLOCKED,
                 Solved::None => return CLASH,
                 Solved::One => (),
             }
+            let field = ((plan.q() - 1) as u32) << (plan.width * sum);
             let rows = (0..plan.rows).filter(|&row| self.marks[row] != 0);
             for (equation, row) in system.iter().zip(rows) {
-                let field = ((plan.q() - 1) as u32) << (plan.width * sum);
                 learned[row] = learned[row] & !field | (equation[marked] as u32) << (plan.width * sum);
             }
         }

@@ -285,9 +285,7 @@ impl Call {
             (Function::WriteFile, [stripe, marks, file]) => {
                 (side.write_file)(n, stripe.lent_bytes(), marks.lent_words(), file.lent_bytes())
             }
-            (Function::Text, [file, text, length]) => {
-                (side.text)(file.lent_bytes(), text.lent_bytes(), length.lent_bytes())
-            }
+            (Function::Text, [file, text, length]) => (side.text)(file.lent_bytes(), text.lent_bytes(), length.lent_bytes()),
             (function, _) => panic!("{} has other buffers", function.name()),
         }
     }

@@ -18,6 +18,10 @@ pub fn calls(ledger: &mut Ledger) {
             round_trip(ledger, plan, &data, &mut chance);
         }
         single_symbols(ledger, plan, &mut chance);
+        for word in damage::words_failing_one_check(plan) {
+            let is_codeword = one_stripe(ledger, plan, word, &mut chance);
+            ledger.demand(!is_codeword, "a check is not looked at", &Call::is_codeword(plan.number, word));
+        }
         for content in CONTENTS {
             for _ in 0..STRIPES_OF_A_KIND {
                 let stripe = damage::stripe(plan, content, &mut chance);
@@ -51,7 +55,8 @@ fn round_trip(ledger: &mut Ledger, plan: &Plan, data: &[u8], chance: &mut Chance
 }
 
 /// The codeword test and extraction agree with each other, and encoding what was extracted gives the stripe again.
-fn one_stripe(ledger: &mut Ledger, plan: &Plan, stripe: &[u8], chance: &mut Chance) {
+/// Says whether the stripe is a codeword.
+fn one_stripe(ledger: &mut Ledger, plan: &Plan, stripe: &[u8], chance: &mut Chance) -> bool {
     let test = Call::is_codeword(plan.number, stripe);
     let is_codeword = ledger.hold(&test).number == YES;
     let extraction = Call::extract(plan.number, stripe, &chance.bytes(plan.carried()));
@@ -62,4 +67,5 @@ fn one_stripe(ledger: &mut Ledger, plan: &Plan, stripe: &[u8], chance: &mut Chan
         let again = ledger.hold(&encoding);
         ledger.demand(again.buffers[1].bytes() == stripe, "the data's codeword is another", &encoding);
     }
+    is_codeword
 }

@@ -2,7 +2,9 @@
 
 use crate::chance::Chance;
 use crate::oracle::plan::{marked, share};
+use crate::oracle::stripe::failing_one_check;
 use crate::oracle::{bench, encode, Plan};
+use std::sync::OnceLock;
 
 /// A codeword with data by chance.
 pub fn codeword(plan: &Plan, chance: &mut Chance) -> Vec<u8> {
@@ -23,11 +25,13 @@ pub enum Content {
     SomeErrors,
     /// A codeword with a row added that has zero sums up to a level: its first failing totals are above that level.
     FailsAbove(usize),
+    /// A codeword with a word added that fails one check and no other.
+    FailsOneCheck,
     /// Symbols by chance.
     Random,
 }
 
-pub const CONTENTS: [Content; 8] = [
+pub const CONTENTS: [Content; 9] = [
     Content::Zero,
     Content::Codeword,
     Content::Codeword,
@@ -35,6 +39,7 @@ pub const CONTENTS: [Content; 8] = [
     Content::SomeErrors,
     Content::FailsAbove(1),
     Content::FailsAbove(2),
+    Content::FailsOneCheck,
     Content::Random,
 ];
 
@@ -48,8 +53,23 @@ pub fn stripe(plan: &Plan, content: Content, chance: &mut Chance) -> Vec<u8> {
             with_errors(plan, errors, chance)
         }
         Content::FailsAbove(level) => failing_above(plan, level.min(plan.last()), chance),
+        Content::FailsOneCheck => {
+            let words = words_failing_one_check(plan);
+            let check = chance.below(words.len());
+            sum_of(&codeword(plan, chance), &words[check])
+        }
         Content::Random => chance.bytes_below(plan.q(), plan.symbols()),
     }
+}
+
+fn sum_of(stripe: &[u8], other: &[u8]) -> Vec<u8> {
+    stripe.iter().zip(other).map(|(symbol, more)| symbol ^ more).collect()
+}
+
+/// For each check of the stripe a word that fails it and no other.
+pub fn words_failing_one_check(plan: &Plan) -> &'static [Vec<u8>] {
+    static WORDS: OnceLock<Vec<Vec<Vec<u8>>>> = OnceLock::new();
+    &WORDS.get_or_init(|| Plan::all().map(failing_one_check).collect())[plan.number - 1]
 }
 
 fn with_errors(plan: &Plan, errors: usize, chance: &mut Chance) -> Vec<u8> {
@@ -64,7 +84,8 @@ fn failing_above(plan: &Plan, level: usize, chance: &mut Chance) -> Vec<u8> {
     let mut stripe = codeword(plan, chance);
     let row = chance.below(plan.rows);
     let silent = silent_row(plan, level, chance);
-    stripe[row * plan.columns..][..plan.columns].iter_mut().zip(silent).for_each(|(symbol, more)| *symbol ^= more);
+    let symbols = &mut stripe[row * plan.columns..][..plan.columns];
+    symbols.iter_mut().zip(silent).for_each(|(symbol, more)| *symbol ^= more);
     stripe
 }
 

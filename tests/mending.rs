@@ -20,6 +20,10 @@ pub fn calls(ledger: &mut Ledger) {
     let mut chance = Chance::seeded(41);
     for plan in Plan::all() {
         let mut ends = Ends::new();
+        for word in damage::words_failing_one_check(plan) {
+            let end = one_call(ledger, plan, Content::FailsOneCheck, word, &vec![0; plan.rows], &mut chance);
+            ledger.demand(end.0 == CLASH, "a check is not looked at", &Call::is_codeword(plan.number, word));
+        }
         for kind in MARKS {
             for content in CONTENTS {
                 for _ in 0..CALLS_OF_A_KIND {
@@ -52,7 +56,14 @@ fn every_end(plan: &Plan) -> Ends {
 }
 
 /// One call of mending, and the end that it came to.
-fn one_call(ledger: &mut Ledger, plan: &Plan, content: Content, stripe: &[u8], marks: &[u32], chance: &mut Chance) -> (usize, u8, u8) {
+fn one_call(
+    ledger: &mut Ledger,
+    plan: &Plan,
+    content: Content,
+    stripe: &[u8],
+    marks: &[u32],
+    chance: &mut Chance,
+) -> (usize, u8, u8) {
     let lent = damage::any_under_marks(plan, stripe, marks, chance);
     let call = Call::mend(plan.number, &lent, marks, &chance.bytes(REPORT_LENGTH));
     let outcome = ledger.hold(&call);

@@ -220,7 +220,11 @@ fn unmarked_place(call: &Call, plan: &Plan, chance: &mut Chance) -> usize {
 }
 
 fn not_below_q(plan: &Plan, chance: &mut Chance) -> u8 {
-    if chance.one_in(2) { plan.q() as u8 } else { (plan.q() + chance.below(256 - plan.q())) as u8 }
+    if chance.one_in(2) {
+        plan.q() as u8
+    } else {
+        (plan.q() + chance.below(256 - plan.q())) as u8
+    }
 }
 
 fn spoil(call: &mut Call, plan: &Plan, flaw: Flaw, chance: &mut Chance) {

@@ -85,6 +85,8 @@ fn parameters(tally: &mut Tally) {
         let distances = (plan.row_distance, plan.distance);
         tally.check(distances == (row_distance, distance), || format!("plan {number}: distances {distances:?}"));
         tally.check(plan.symbols() - rank(plan) == carried, || format!("plan {number}: rank of the checks"));
+        let failing = damage::words_failing_one_check(plan);
+        tally.check(failing.iter().all(|word| !holds(plan, word)), || format!("plan {number}: words that fail one check"));
     }
     least_row_distances(tally);
 }
@@ -157,7 +159,9 @@ fn listed_row_steps(tally: &mut Tally) {
                 }
             };
             let answer = oracle::row_step(&mut bench, 1);
-            tally.check((answer, &bench) == (number, &expected), || format!("row {row:b}, marks {marks:b}, level {level}: {answer}"));
+            tally.check((answer, &bench) == (number, &expected), || {
+                format!("row {row:b}, marks {marks:b}, level {level}: {answer}")
+            });
         }
     }
 }
@@ -251,7 +255,9 @@ fn listed_codewords(tally: &mut Tally) {
             Agreeing::None => tally.check(listed.is_empty(), || format!("{rows:?} {marks:?}: some codeword agrees")),
             Agreeing::Some { one, settled } => {
                 let same: Vec<bool> = (0..21).map(|at| listed.iter().all(|word| word[at] == listed[0][at])).collect();
-                tally.check(listed.contains(&one) && same == settled, || format!("{rows:?} {marks:?}: which codewords agree"));
+                tally.check(listed.contains(&one) && same == settled, || {
+                    format!("{rows:?} {marks:?}: which codewords agree")
+                });
             }
         }
     }
@@ -272,7 +278,9 @@ fn round_trips(tally: &mut Tally) {
             let place = chance.below(plan.symbols());
             stripe[place] ^= 1 + chance.below(plan.q() - 1) as u8;
             let answers = (oracle::is_codeword(plan.number, &stripe), oracle::extract(plan.number, &stripe, &mut back));
-            tally.check(answers == (NO, NO_CODEWORD) && back == data, || format!("plan {}: one error at {place}", plan.number));
+            tally.check(answers == (NO, NO_CODEWORD) && back == data, || {
+                format!("plan {}: one error at {place}", plan.number)
+            });
         }
     }
 }
@@ -315,7 +323,9 @@ fn rounds(tally: &mut Tally) {
             let end = mended(plan, &stripe, &marks);
             let steps = by_steps(plan, &stripe, &marks);
             let same = steps == (end.answer, end.report, end.stripe, end.marks);
-            tally.check(same, || format!("plan {}, {stripe:?}, {marks:?}: {}, by steps {}", plan.number, end.answer, steps.0));
+            tally.check(same, || {
+                format!("plan {}, {stripe:?}, {marks:?}: {}, by steps {}", plan.number, end.answer, steps.0)
+            });
         }
     }
 }

@@ -31,7 +31,9 @@ fn hold_case(ledger: &mut Ledger, case: &Case, marks: &[u32]) {
 
 /// Whether the marks of a case are only counted on the sheet: they are the first columns of their rows.
 fn names_no_columns(case: &Case) -> bool {
-    case.ones.is_empty() && case.mark_words().iter().any(|&word| word != 0) && case.mark_words().iter().all(|word| word & (word + 1) == 0)
+    case.ones.is_empty()
+        && case.mark_words().iter().any(|&word| word != 0)
+        && case.mark_words().iter().all(|word| word & (word + 1) == 0)
 }
 
 /// The same numbers of marks in the same rows, in columns by chance.

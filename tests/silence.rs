@@ -47,7 +47,11 @@ fn mending(ledger: &mut Ledger, plan: &Plan, marks: &[u32], lent: [&[u8]; 2]) {
 fn writing(ledger: &mut Ledger, plan: &Plan, marks: &[u32], lent: [&[u8]; 2]) {
     let calls = lent.map(|stripe| Call::write_file(plan.number, stripe, marks, &vec![0; plan.file_length()]));
     let [one, other] = [ledger.hold(&calls[0]), ledger.hold(&calls[1])];
-    ledger.demand(one.number == other.number && one.buffers[2] == other.buffers[2], "a file shows what is under marks", &calls[1]);
+    ledger.demand(
+        one.number == other.number && one.buffers[2] == other.buffers[2],
+        "a file shows what is under marks",
+        &calls[1],
+    );
 }
 
 /// Ten steps in one order on both benches.

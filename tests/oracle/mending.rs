@@ -116,7 +116,8 @@ impl Work<'_> {
         }
         let known = self.known_sums();
         let mut total = Bits::default();
-        for &(row, sum, bit) in bits.iter().filter(|&&(row, sum, bit)| self.marks[row] == 0 && known.has(at(row, sum) + bit)) {
+        let own = bits.iter().filter(|&&(row, sum, bit)| self.marks[row] == 0 && known.has(at(row, sum) + bit));
+        for &(row, sum, bit) in own {
             total = total.plus(plan.total_share(next, row, sum, bit));
             self.sums = self.sums.plus(Bits::single(at(row, sum) + bit));
         }

@@ -227,7 +227,11 @@ impl Plan {
 
     /// The product in the plan's field.
     pub fn times(&self, x: u8, y: u8) -> u8 {
-        if self.width == 1 { x & y } else { times16(x, y) }
+        if self.width == 1 {
+            x & y
+        } else {
+            times16(x, y)
+        }
     }
 
     /// Where the bits of a row's sum stand among those of all rows.
@@ -270,9 +274,8 @@ impl Plan {
         symbols: &'a [u8],
         test: impl Fn(usize, usize) -> bool + 'a,
     ) -> impl Iterator<Item = (usize, usize, usize)> + 'a {
-        self.places().filter(move |&(row, column, bit)| {
-            test(row, column) && symbols[row * self.columns + column] >> bit & 1 == 1
-        })
+        self.places()
+            .filter(move |&(row, column, bit)| test(row, column) && symbols[row * self.columns + column] >> bit & 1 == 1)
     }
 
     /// The bits of the places for which the test holds.

@@ -15,7 +15,10 @@ fn totals(plan: &Plan, stripe: &[u8], test: impl Fn(usize, usize) -> bool) -> Bi
 pub enum Agreeing {
     None,
     /// One of them, and whether every one of them has its symbol, place by place.
-    Some { one: Vec<u8>, settled: Vec<bool> },
+    Some {
+        one: Vec<u8>,
+        settled: Vec<bool>,
+    },
 }
 
 /// The codewords that have the stripe's symbols at every place that is not open.
@@ -40,6 +43,21 @@ pub fn agreeing(plan: &Plan, stripe: &[u8], marks: &[u32]) -> Agreeing {
     holding(plan, stripe, |row, column| marked(marks[row], column))
 }
 
+/// For each bit of the totals of all levels a stripe of which that bit alone is not zero.
+pub fn failing_one_check(plan: &Plan) -> Vec<Vec<u8>> {
+    let places = plan.bits_of(|_, _| true);
+    let span = Span::of(places.iter().map(|&(row, column, bit)| plan.stripe_share(row, column, bit)));
+    let stripe = |check: usize| {
+        let ones = span.reach(Bits::single(check)).expect("the checks are independent of each other");
+        let mut stripe = vec![0; plan.symbols()];
+        for (_, &(row, column, bit)) in places.iter().enumerate().filter(|&(n, _)| ones.has(n)) {
+            stripe[row * plan.columns + column] |= 1 << bit;
+        }
+        stripe
+    };
+    (0..span.rank()).map(stripe).collect()
+}
+
 /// The number of checks of the stripe that are independent of each other.
 pub fn rank(plan: &Plan) -> usize {
     let bits = plan.bits_of(|_, _| true);
@@ -62,7 +80,11 @@ pub fn is_codeword(plan: usize, stripe: &[u8]) -> usize {
     if !all_below_q(plan, stripe) {
         return NOT_BELOW_Q;
     }
-    if holds(plan, stripe) { YES } else { NO }
+    if holds(plan, stripe) {
+        YES
+    } else {
+        NO
+    }
 }
 
 /// The places that carry data, row by row in ascending column.
