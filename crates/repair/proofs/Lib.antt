@@ -37,3 +37,6 @@ pub mod Rounding
 pub mod Keeping
 pub mod Joining
 pub mod Learning
+-- encoding and extraction
+pub mod Data
+pub mod Placing

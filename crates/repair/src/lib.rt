@@ -1,6 +1,7 @@
 // The repair library: what a bench is, and what each call answers.
 mod codeword;
 mod copies;
+mod encoding;
 mod level;
 mod mend;
 pub mod plan;
@@ -152,13 +153,8 @@ pub fn is_codeword(plan: usize, stripe: &[u8]) -> Verdict
     if number != 0 {
         return Verdict::Refused(number);
     }
-    let table = field::products();
-    let checks = plan::row_checks(plan);
-    if !codeword::rows_hold(plan, &table, &checks, stripe) {
-        return Verdict::No;
+    if codeword::holds(plan, stripe) {
+        return Verdict::Yes;
     }
-    if !codeword::levels_hold(plan, &table, &checks, stripe) {
-        return Verdict::No;
-    }
-    Verdict::Yes
+    Verdict::No
 }
