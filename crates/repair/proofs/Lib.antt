@@ -42,3 +42,4 @@ pub mod Learning
 -- encoding and extraction
 pub mod Data
 pub mod Placing
+pub mod Carrying
