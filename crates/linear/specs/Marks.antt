@@ -37,6 +37,16 @@ bitAt w c = w / 2 ^ c % 2
 unfoldable pub bitsOf : ℕ → ℕ → List Bool
 bitsOf n w = map (λ c. eqb (bitAt w c) 1) (upFrom 0 n)
 
+-- what the code takes: a row of coefficients for each target sum, as many as there are columns; marks of columns alone;
+-- coefficients and target sums that are elements of the field. The vector's symbols may be any numbers
+pub record Fit (q : ℕ) (checks target v : List ℕ) (marks : ℕ) : Type 0 where
+  pub few : length target ≤ mostChecks
+  pub narrow : length v ≤ mostColumns
+  pub shape : length checks ≡ length target * length v
+  pub within : marks < 2 ^ length v
+  pub coefficients : Elements (fieldOf q) (vec checks)
+  pub sums : Elements (fieldOf q) (vec target)
+
 -- `fill` in field q, with a check for each target sum
 unfoldable pub fillOf : ℕ → List ℕ → List ℕ → List ℕ → ℕ → Fill
 fillOf q checks target v marks = fill (fieldOf q) (rowsOf (length target) (length v) checks) target (bitsOf (length v) marks) v
@@ -53,6 +63,10 @@ vectorOf none v = v
 vectorOf (one w) v = w
 
 -- ---- the steps
+
+-- the room for a system of the most checks in the most columns
+abbrev pub room : ℕ
+room = mostChecks * (mostColumns + 1)
 
 -- `at` lists the k marked columns, each once
 pub record Places (marks k : ℕ) (at : ℕ → ℕ) : Type 0 where

@@ -7,7 +7,8 @@ ghost use mathlib.Core.Logic.{_≢_};
 ghost use Prim.Native.Nat.{ℕ, _+_, _*_, _<_, _≤_};
 ghost use lib.ListN.{length};
 ghost use Rattle.field.specs.Ours.{fieldOf, products};
-ghost use Rattle.linear.specs.System.{vec, ent, Elements, Consistency, Dependence, Solved, Same, Found, Added, Cleared, Pivoted, Form, Free, ReadOff};
+ghost use Rattle.linear.specs.System.{vec, ent, Elements, Consistency, Dependence, Solved};
+ghost use Rattle.linear.specs.System.{Same, Found, Added, Cleared, Pivoted, Form, Free, ReadOff};
 
 // Adds f times row p to row i, from column c on: before it row p is 0. i may be p.
 fn add_row(q: usize, table: &[u8; 256], a: &mut [u8], w: usize, i: usize, p: usize, c: usize, f: u8)
@@ -243,7 +244,8 @@ pub fn solve(
     requires { ⌜ now table ≡ products ⌝ }
     requires { ⌜ (m * (k + 1) ≤ length (now a)) × (k ≤ length (now pivots)) × (k ≤ length (now solution)) × (k ≤ length (now dependency)) ⌝ }
     requires { ⌜ Elements (fieldOf q) (vec (now a)) ⌝ }
-    ensures { λ s. ⌜ Solved (fieldOf q) (ent (now (a .entry)) (k + 1)) m k (s .dependent) (s .consistent) (vec (now (solution .exit))) (vec (now (dependency .exit))) ⌝ }
+    ensures { λ s. ⌜ Solved (fieldOf q) (ent (now (a .entry)) (k + 1)) m k (s .dependent) (s .consistent)
+        (vec (now (solution .exit))) (vec (now (dependency .exit))) ⌝ }
 {
     let s = reduce(q, table, a, m, k, pivots);
     let rank = s.rank;

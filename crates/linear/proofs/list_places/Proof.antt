@@ -1,21 +1,15 @@
-use Rattle.linear.proofs.Words.{Lowest}
-use lib.Seq.{getD-set-same, getD-set-other}
-use lib.ListN.{length-set}
-use lib.Count.{ones, ones-le, trailingZeros, trailing-le}
-use mathlib.Core.Path.{refl}
-use Prim.Native.Nat.{_+_, _≤_, _<_}
-use Rattle.linear.proofs.Words.{Placing, placing-start, placing-next, placing-shift, placing-fits, placing-turn, placing-end}
-use Rattle.linear.specs.System.{vec}
-use lib.ListN.{length}
-use mathlib.Core.Path.{_≡_}
-use Prim.Native.Nat.{_-_}
 -- `list_places` meets its contract. Assumes nothing.
+use mathlib.Core.Path.{refl, _≡_}
+use Prim.Native.Nat.{_+_, _<_, _-_}
 use native.Mathlib.Omega.{arith}
 use borrow.Author.Needs.{needs}
+use lib.Seq.{getD-set-same, getD-set-other}
+use lib.ListN.{length-set, length}
+use lib.Count.{ones-le, trailingZeros, trailing-le}
+use Rattle.linear.specs.System.{vec}
+use Rattle.linear.proofs.Words.{Lowest, Placing, placing-start, placing-next, placing-shift, placing-fits, placing-turn, placing-end}
 use Rattle.linear.proofs.list_places.Statement.{statement}
 use Rattle.linear.proofs.list_places.Tie as tie
-use Rattle.linear.proofs.list_places.Reads as reads
-use Rattle.linear.proofs.list_places.Lts as lts
 
 abbrev Inv-loop : tie.InvT-loop
 Inv-loop marks n places₀ k rest₀ c₀ t₀ places rest c t = (length places ≡ length places₀) × Placing marks rest n k c t (vec places)
@@ -74,7 +68,8 @@ same-length : tie.Need-same-length Inv-loop μ-loop
 same-length c = search needs
 
 returns : tie.Need-returns Inv-loop μ-loop
-returns c = (ones-le _ _ (c .before .before .pre .0), placing-end _ _ _ _ _ _ _ (c .before .loop .inv .1) (c .before .before .fits .marks .fits) (search needs))
+returns c = let s = c .before .before in
+    (ones-le _ _ (s .pre .0), placing-end _ _ _ _ _ _ _ (c .before .loop .inv .1) (s .fits .marks .fits) (search needs))
 
 pub list-places-spec : {M : Type 1} → statement M
 list-places-spec =

@@ -1,16 +1,12 @@
-use Rattle.linear.proofs.Turns.{Adding, adding-start, adding-turn, adding-end, added-none}
-use Rattle.field.proofs.Fields.{our-field}
+-- `system::add_row` meets its contract. Assumes nothing.
+use Prim.Native.Nat.{_-_}
+use borrow.Author.Needs.{needs}
 use Rattle.field.specs.Ours.{fieldOf}
 use Rattle.field.specs.Field.{_⊕_}
-use Prim.Native.Nat.{_-_}
--- `system::add_row` meets its contract. Assumes nothing.
-use native.Mathlib.Omega.{arith}
-use borrow.Author.Needs.{needs}
+use Rattle.field.proofs.Fields.{our-field}
+use Rattle.linear.proofs.Turns.{Adding, adding-start, adding-turn, adding-end, added-none}
 use Rattle.linear.proofs.system.add_row.Statement.{statement}
 use Rattle.linear.proofs.system.add_row.Tie as tie
-use Rattle.linear.proofs.system.add_row.Reads as reads
-use Rattle.linear.proofs.system.add_row.Lts as lts
-use Rattle.field.proofs.product.Reads as product-reads
 
 abbrev Inv-loop : tie.InvT-loop
 Inv-loop q table a₀ w i p c f s t j₀ a j = Adding (fieldOf q) a₀ a w i p f j
@@ -67,7 +63,9 @@ same-length : tie.Need-same-length Inv-loop μ-loop
 same-length c = search needs
 
 returns-2 : tie.Need-returns-2 Inv-loop μ-loop
-returns-2 c = (adding-end _ (our-field (c .before .before .before .before .args .q)) _ _ _ _ _ _ _ (c .before .loop .inv) (search needs), c .before .loop .inv .elements)
+returns-2 c = let s = c .before .before .before .before in
+    let inv = c .before .loop .inv in
+    (adding-end _ (our-field (s .args .q)) _ _ _ _ _ _ _ inv (search needs), inv .elements)
 
 pub add-row-spec : {M : Type 1} → statement M
 add-row-spec =

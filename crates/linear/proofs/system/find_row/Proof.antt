@@ -1,15 +1,13 @@
-use Rattle.linear.proofs.Rows.{row-fits}
-use borrow.Author.Count.{below-more}
-use Rattle.linear.specs.System.{ent}
+-- `system::find_row` meets its contract. Assumes nothing.
 use mathlib.Core.Path.{_≡_}
 use Prim.Native.Nat.{ℕ, _≤_, _<_, _-_}
--- `system::find_row` meets its contract. Assumes nothing.
 use native.Mathlib.Omega.{arith}
+use borrow.Author.Count.{below-more}
 use borrow.Author.Needs.{needs}
+use Rattle.linear.specs.System.{ent}
+use Rattle.linear.proofs.Rows.{row-fits}
 use Rattle.linear.proofs.system.find_row.Statement.{statement}
 use Rattle.linear.proofs.system.find_row.Tie as tie
-use Rattle.linear.proofs.system.find_row.Reads as reads
-use Rattle.linear.proofs.system.find_row.Lts as lts
 
 abbrev Inv-loop : tie.InvT-loop
 Inv-loop a m w r c i₀ i = (r ≤ i) × (i ≤ m) × ((x : ℕ) → x < i → r ≤ x → ent a w x c ≡ 0)
@@ -27,7 +25,8 @@ add-if1 : tie.Need-add-if1 Inv-loop μ-loop
 add-if1 c = omega (arith, row-fits (c .before .before .args .m) (c .before .before .args .w) (c .before .loop .i) (omega arith))
 
 shared-slice-read-if1 : tie.Need-shared-slice-read-if1 Inv-loop μ-loop
-shared-slice-read-if1 c = let s = c .before .before .before in omega (arith, row-fits (s .args .m) (s .args .w) (c .before .before .loop .i) (omega arith))
+shared-slice-read-if1 c = let s = c .before .before .before in
+    omega (arith, row-fits (s .args .m) (s .args .w) (c .before .before .loop .i) (omega arith))
 
 returns : tie.Need-returns Inv-loop μ-loop
 returns c = search needs

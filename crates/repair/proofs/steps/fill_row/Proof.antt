@@ -72,7 +72,14 @@ part-fill-end-2 c = omega (arith, row-end (lent (c .before .before)), c .before 
 fill-requires : tie.Need-fill-requires
 fill-requires c κs =
     let l = lent (c .before .before .before) in
-    (c .before .before .before .before .before .before .before .before .pre .0, ((omega (arith, sums-count l, few l), narrow l, word-fits l _ (c .before .before .before .before .before .before .before .before .pre .1 .1 .0 .2)), (checks-count l, (checks-elements l, sums-elements l))))
+    (c .before .before .before .before .before .before .before .before .pre .0, record {
+      few = omega (arith, sums-count l, few l);
+      narrow = narrow l;
+      shape = checks-count l;
+      within = word-fits l _ (c .before .before .before .before .before .before .before .before .pre .1 .1 .0 .2);
+      coefficients = checks-elements l;
+      sums = sums-elements l;
+    })
 
 same-length : tie.Need-same-length
 same-length c = search needs
