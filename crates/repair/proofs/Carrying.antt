@@ -1,10 +1,10 @@
 -- What encoding and extraction know where nothing is refused, and what they leave. Assumes nothing.
 use mathlib.Core.Path.{_≡_, refl, sym, ap, ap₂, _∙_}
 use mathlib.Core.List.{List}
-use Prim.Native.Nat.{ℕ, zero, suc, _*_}
+use Prim.Native.Nat.{ℕ, zero, suc, _*_, _≤_}
 use native.Mathlib.Omega.{arith}
 use borrow.Author.Tests.{eqb-true, eq-eqb, ne-eqb}
-use lib.Dec.{eqb}
+use lib.Dec.{eqb, lit≤}
 use lib.ListN.{length, take}
 use Rattle.field.specs.Lists.{if_then_else_, upFrom}
 use Rattle.repair.specs.Plan.{Plan, wordOf, plan1, plan2, plan3, noPlan, planOf, marksOf}
@@ -32,8 +32,15 @@ module _ (p : ℕ) where
   unfolding wordOf plan1 plan2 plan3 noPlan
   words-count = of-plans (λ P. length (P .checkPlaces) ≡ P .rows) refl refl refl refl p
 
+  places-room : P .rows ≤ length (placeTable P)
+  unfolding upFrom wordOf plan1 plan2 plan3 noPlan padded placeTable
+  places-room = of-plans (λ P. P .rows ≤ length (placeTable P)) (lit≤ tt) (lit≤ tt) (lit≤ tt) (lit≤ tt) p
+
   -- as they are lent
   module _ {rows : ℕ} {words : List ℕ} (high : rows ≡ P .rows) (table : words ≡ placeTable P) where
+    pub lent-room : rows ≤ length words
+    lent-room = rw (high, table) places-room
+
     pub lent-places : take rows words ≡ P .checkPlaces
     lent-places = ap₂ take high table ∙ places-are
 
@@ -60,13 +67,14 @@ module _ {n k : ℕ} (e : n ≡ k) where
       go (suc n) ne = refl
 
   -- what a buffer holds afterwards: `new` where nothing is refused, `old` where something is
-  left-new : {new old : List ℕ} → n ≡ 0 → new ≡ (if eqb k 0 then new else old)
-  unfolding if_then_else_
-  left-new {new} {old} z = ap (λ b. if b then new else old) (sym (eq-eqb k 0 (sym e ∙ z)))
+  module _ (new old : List ℕ) where
+    left-new : n ≡ 0 → new ≡ (if eqb k 0 then new else old)
+    unfolding if_then_else_
+    left-new z = ap (λ b. if b then new else old) (sym (eq-eqb k 0 (sym e ∙ z)))
 
-  left-old : {new old : List ℕ} → (n ≡ 0 → ⊥) → old ≡ (if eqb k 0 then new else old)
-  unfolding if_then_else_
-  left-old {new} {old} ne = ap (λ b. if b then new else old) (sym (ne-eqb k 0 (λ z. ne (e ∙ z))))
+    left-old : (n ≡ 0 → ⊥) → old ≡ (if eqb k 0 then new else old)
+    unfolding if_then_else_
+    left-old ne = ap (λ b. if b then new else old) (sym (ne-eqb k 0 (λ z. ne (e ∙ z))))
 
 -- ---- encoding
 
@@ -79,13 +87,13 @@ module _ (p : ℕ) (ds stripe : List ℕ) {n : ℕ} (e : n ≡ encodeRefusal p d
 
   pub encode-refused : (n ≡ 0 → ⊥) → (Refused n ≡ outcomeOf (encodeRefusal p ds stripe)) × (stripe ≡ encodeStripe p ds stripe)
   unfolding encodeStripe
-  encode-refused ne = (outcome-refused e ne, left-old e ne)
+  encode-refused ne = (outcome-refused e ne, left-old e _ _ ne)
 
   pub encode-done : {words D X : List ℕ} → n ≡ 0 → words ≡ planOf p .checkPlaces → D ≡ placed (marksOf (planOf p) words) ds → X ≡ mendStripe p D words
       → (Done ≡ outcomeOf (encodeRefusal p ds stripe)) × (X ≡ encodeStripe p ds stripe)
   unfolding checkPlacesOf encoded encodeStripe
   encode-done {words} z ew ed ex =
-      (outcome-done e z, ex ∙ ap (λ D. mendStripe p D words) ed ∙ ap (λ w. mendStripe p (placed (marksOf (planOf p) w) ds) w) ew ∙ left-new e z)
+      (outcome-done e z, ex ∙ ap (λ D. mendStripe p D words) ed ∙ ap (λ w. mendStripe p (placed (marksOf (planOf p) w) ds) w) ew ∙ left-new e _ _ z)
 
 -- ---- extraction
 
@@ -98,9 +106,9 @@ module _ (p : ℕ) (stripe ds : List ℕ) {n : ℕ} (e : n ≡ extractRefusal p 
 
   pub extract-refused : (n ≡ 0 → ⊥) → (Refused n ≡ outcomeOf (extractRefusal p stripe ds)) × (ds ≡ extractData p stripe ds)
   unfolding extractData
-  extract-refused ne = (outcome-refused e ne, left-old e ne)
+  extract-refused ne = (outcome-refused e ne, left-old e _ _ ne)
 
   pub extract-done : {words out : List ℕ} → n ≡ 0 → words ≡ planOf p .checkPlaces → out ≡ taken (marksOf (planOf p) words) stripe
       → (Done ≡ outcomeOf (extractRefusal p stripe ds)) × (out ≡ extractData p stripe ds)
   unfolding checkPlacesOf extracted extractData
-  extract-done z ew eo = (outcome-done e z, eo ∙ ap (λ w. taken (marksOf (planOf p) w) stripe) ew ∙ left-new e z)
+  extract-done z ew eo = (outcome-done e z, eo ∙ ap (λ w. taken (marksOf (planOf p) w) stripe) ew ∙ left-new e _ _ z)
