@@ -9,7 +9,7 @@ use native.Mathlib.Omega.{arith}
 use lib.Arith.{lt-one}
 use lib.Dec.{T, T-not, eqb, ltb}
 use lib.Count.{ones, onesIn}
-use lib.ListN.{length, drop, getD, length-append, List·getD-append}
+use lib.ListN.{length, drop, getD, List·getD-append}
 use lib.Pow.{pow-pos, shr-lt}
 use lib.Seq.{getD-take, getD-drop, getD-append-add}
 use Rattle.field.specs.Lists.{if_then_else_, upFrom}
@@ -22,6 +22,7 @@ use Rattle.linear.proofs.Choices.{Alike, Inside}
 use Rattle.linear.proofs.Filling.{Independent, independent-of}
 use Rattle.repair.specs.Plan.{Plan, planOf, rowAt, marksAt, marksOf}
 use Rattle.repair.specs.Refusal.{allBelow, unmarkedBelow}
+use Rattle.repair.proofs.Flat.{flat-length}
 use Rattle.repair.proofs.Sound.{marks-length}
 use Rattle.demands.specs.Words.{Agree}
 use Rattle.demands.proofs.Marked.{marked, bits-step, marked-bits, agrees-weight, weightless-vanish}
@@ -129,11 +130,6 @@ module _ (N : ℕ) (f : ℕ → List Bool) (wide : (r : ℕ) → length (f r) �
       ∙ getD-append-add (f k) (flatMap f (upFrom (suc k) n)) (j * N + c) true ∙ flat-at (suc k) n j c (omega arith) l
       ∙ ap (λ r. getD (f r) c true) (omega arith)
 
-  flat-length : (k n : ℕ) → length (flatMap f (upFrom k n)) ≡ n * N
-  unfolding flatMap upFrom
-  flat-length k zero = sym (zero-mul N)
-  flat-length k (suc n) = length-append (f k) (flatMap f (upFrom (suc k) n)) ∙ omega (arith, wide k, flat-length (suc k) n, suc-mul n N)
-
 module _ (p : ℕ) (marks X Y : List ℕ) where
   abbrev P : Plan
   P = planOf p
@@ -160,7 +156,7 @@ module _ (p : ℕ) (marks X Y : List ℕ) where
       let r = i / N in
       let c = i % N in
       let l : i < P .rows * N =
-      subst (λ n. i < n) (flat-length N (marksAt P marks) (marks-length P marks) 0 (P .rows)) (unmarked-lt (marksOf P marks) i e) in
+      subst (λ n. i < n) (flat-length (marksAt P marks) N 0 (P .rows) (λ r l. marks-length P marks r)) (unmarked-lt (marksOf P marks) i e) in
       let z : 0 < N = positive N (P .rows) i l in
       let lr : r < P .rows = div-lt-iff-lt-mul z .1 l in
       let lc : c < N = mod-lt i z in

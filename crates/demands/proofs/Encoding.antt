@@ -4,7 +4,7 @@ use mathlib.Core.Logic.{_⊎_, inl, inr}
 use mathlib.Core.Bool.{_&&_}
 use mathlib.Core.List.{List}
 use Prim.Native.Nat.{ℕ, zero, suc, _*_, _^_, _<_}
-use native.Mathlib.Nat.{eq-or-lt-of-le}
+use native.Mathlib.Nat.{le-of-eq, eq-or-lt-of-le}
 use native.Mathlib.Omega.{arith}
 use lib.Dec.{T, T-not, leb, leb→le, nleb→lt, eqb, ltb, eqb→eq, ltb→lt, lt→ltb}
 use lib.ListN.{length, drop, getD}
@@ -20,12 +20,12 @@ use Rattle.repair.specs.Refusal.{unasked, stripeFits, allBelow}
 use Rattle.repair.specs.Codeword.{isCodeword, checkPlacesOf, carried, placed, encoded, encodeRefusal, encodeStripe, extracted, extractRefusal, extractData}
 use Rattle.repair.proofs.Shape.{of-known}
 use Rattle.repair.proofs.Fit.{passed, if-true, all-take, all-drop, fit-lent}
+use Rattle.repair.proofs.Flat.{flat-length}
 use Rattle.repair.proofs.Sound.{unmarked-below, marks-length}
+use Rattle.repair.proofs.Data.{placed-length, placed-all, taken-length, taken-all, taken-placed, alike-taken, taken-alike}
 use Rattle.demands.specs.Words.{Codeword, Agree, Fit}
 use Rattle.demands.specs.Second.{IsEncoded, EncodingMeans, ExtractionMeans, CodewordsAreEncodings}
-use Rattle.demands.proofs.Lists.{flat-length}
 use Rattle.demands.proofs.Alike.{alike-at, at-alike, inside-refl}
-use Rattle.demands.proofs.Data.{placed-length, placed-all, taken-length, taken-all, taken-placed, alike-taken, taken-alike}
 use Rattle.demands.proofs.Held.{rowTied, levelTied, LevelFree}
 use Rattle.demands.proofs.Order.{row-free-more}
 use Rattle.demands.proofs.Second.{restores}
@@ -160,6 +160,6 @@ codewords-are-encodings p X room e =
     let long : length X ≡ P .rows * P .columns =
     eqb→eq (length X) (P .rows * P .columns) (both-left (stripeFits P X) (eqb (length room) (carried P)) (h .lengths)) in
     ap (encoded p) (extracts p X room e)
-    ∙ encodes p (h .plan) (extracted P X) (taken-length (checkPlacesOf P) X (long ∙ sym (places-count P)))
+    ∙ encodes p (h .plan) (extracted P X) (taken-length (checkPlacesOf P) X (le-of-eq (places-count P ∙ sym long)))
     (taken-all (λ x. ltb x (size (P .field))) (checkPlacesOf P) X (h .symbols)) X
     record { long = long; symbols = h .symbols; holds = h .codeword } refl

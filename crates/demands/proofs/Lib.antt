@@ -24,7 +24,6 @@ pub mod Existence
 -- the demands
 pub mod Second
 pub mod Counts
-pub mod Data
 pub mod Encoding
 pub mod Third
 pub mod Samples

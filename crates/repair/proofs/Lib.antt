@@ -39,3 +39,7 @@ pub mod Stepping
 pub mod Keeping
 pub mod Joining
 pub mod Learning
+-- encoding and extraction
+pub mod Data
+pub mod Placing
+pub mod Carrying

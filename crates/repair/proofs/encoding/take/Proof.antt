@@ -1,0 +1,84 @@
+-- `encoding::take` meets its contract: after r turns the symbols of the first r rows are taken. Assumes nothing.
+use mathlib.Core.Path.{_∙_}
+use Prim.Native.Nat.{_-_, _≤_}
+use native.Mathlib.Omega.{arith}
+use borrow.Author.Needs.{needs}
+use denote.Ref.{now}
+use Rattle.repair.specs.Plan.{planOf, marksAt}
+use Rattle.repair.proofs.Plans.{symbols-most}
+use Rattle.repair.proofs.Numbers.{numbers}
+use Rattle.repair.proofs.Placing.{Taking, taking-starts, taking-length, row-ends, row-room, row-lent, row-takes, rows-taken}
+use Rattle.repair.proofs.encoding.take.Statement.{statement}
+use Rattle.repair.proofs.encoding.take.Tie as tie
+
+abbrev Inv-loop : tie.InvT-loop
+Inv-loop plan words stripe data₀ rows columns next₀ r₀ «data» next r = (r ≤ rows) × Taking (marksAt (planOf plan) words) stripe data₀ r next «data»
+
+abbrev μ-loop : tie.MeasureT-loop
+μ-loop plan words stripe data₀ rows columns next₀ r₀ «data» next r = rows - r
+
+facts-of-requires : tie.Need-facts-of-requires Inv-loop μ-loop
+facts-of-requires c κs = search needs
+
+loop-holds : tie.Need-loop-holds Inv-loop μ-loop
+loop-holds c = (omega arith, taking-starts)
+
+mul-start : tie.Need-mul-start Inv-loop μ-loop
+mul-start c = omega (arith, row-ends (numbers _ (c .before .before .facts-of .ensures)) (now (c .before .before .before .before .before .before .args .words)) (now (c .before .before .before .before .before .before .args .stripe)) (c .before .before .before .before .before .before .pre .1 .1) (c .loop-test .taken), (c .before .before .before .before .before .before .pre .1 .1), symbols-most (c .before .before .before .before .before .before .args .plan))
+
+add-end : tie.Need-add-end Inv-loop μ-loop
+add-end c = omega (arith, row-ends (numbers _ (c .before .before .facts-of .ensures)) (now (c .before .before .before .before .before .before .args .words)) (now (c .before .before .before .before .before .before .args .stripe)) (c .before .before .before .before .before .before .pre .1 .1) (c .loop-test .taken), (c .before .before .before .before .before .before .pre .1 .1), symbols-most (c .before .before .before .before .before .before .args .plan))
+
+mul-take-row : tie.Need-mul-take-row Inv-loop μ-loop
+mul-take-row c = omega (arith, c .before .before .before .before .before .before .pre .0, c .before .before .facts-of .ensures .rows, c .before .before .before .before .before .before .good)
+
+shared-slice-read-take-row : tie.Need-shared-slice-read-take-row Inv-loop μ-loop
+shared-slice-read-take-row c = omega (arith, c .before .before .before .before .before .before .before .pre .0, c .before .before .before .facts-of .ensures .rows)
+
+sub-take-row : tie.Need-sub-take-row Inv-loop μ-loop
+sub-take-row c = search needs
+
+part-take-row-start : tie.Need-part-take-row-start Inv-loop μ-loop
+part-take-row-start c = search needs
+
+part-take-row-end : tie.Need-part-take-row-end Inv-loop μ-loop
+part-take-row-end c = row-ends (numbers _ (c .before .before .before .facts-of .ensures)) (now (c .before .before .before .before .before .before .before .args .words)) (now (c .before .before .before .before .before .before .before .args .stripe)) (c .before .before .before .before .before .before .before .pre .1 .1) (c .before .loop-test .taken)
+
+sub-take-row-2 : tie.Need-sub-take-row-2 Inv-loop μ-loop
+sub-take-row-2 c = omega (arith, row-room (numbers _ (c .before .before .before .before .facts-of .ensures)) (now (c .before .before .before .before .before .before .before .before .args .words)) (now (c .before .before .before .before .before .before .before .before .args .stripe)) (c .before .before .before .before .before .before .before .before .pre .1 .1) (c .before .before .loop-test .taken) (c .before .before .before .loop .«data») (taking-length (c .before .before .before .loop .inv .1) ∙ c .before .before .before .before .before .before .before .before .pre .1 .0) (c .before .before .before .loop .inv .1 .count))
+
+part-take-row-start-2 : tie.Need-part-take-row-start-2 Inv-loop μ-loop
+part-take-row-start-2 c = omega (arith, row-room (numbers _ (c .before .before .before .before .facts-of .ensures)) (now (c .before .before .before .before .before .before .before .before .args .words)) (now (c .before .before .before .before .before .before .before .before .args .stripe)) (c .before .before .before .before .before .before .before .before .pre .1 .1) (c .before .before .loop-test .taken) (c .before .before .before .loop .«data») (taking-length (c .before .before .before .loop .inv .1) ∙ c .before .before .before .before .before .before .before .before .pre .1 .0) (c .before .before .before .loop .inv .1 .count))
+
+part-take-row-end-2 : tie.Need-part-take-row-end-2 Inv-loop μ-loop
+part-take-row-end-2 c = search needs
+
+take-row-requires : tie.Need-take-row-requires Inv-loop μ-loop
+take-row-requires c κs = row-lent (numbers _ (c .before .before .before .before .before .facts-of .ensures)) (now (c .before .before .before .before .before .before .before .before .before .args .words)) (now (c .before .before .before .before .before .before .before .before .before .args .stripe)) (c .before .before .before .before .before .before .before .before .before .pre .1 .1) (c .before .before .before .loop-test .taken) (c .before .before .before .before .loop .«data») (taking-length (c .before .before .before .before .loop .inv .1) ∙ c .before .before .before .before .before .before .before .before .before .pre .1 .0) (c .before .before .before .before .loop .inv .1 .count)
+
+add-next : tie.Need-add-next Inv-loop μ-loop
+add-next c = omega (arith, row-room (numbers _ (c .before .before .before .before .before .before .before .before .facts-of .ensures)) (now (c .before .before .before .before .before .before .before .before .before .before .before .before .args .words)) (now (c .before .before .before .before .before .before .before .before .before .before .before .before .args .stripe)) (c .before .before .before .before .before .before .before .before .before .before .before .before .pre .1 .1) (c .before .before .before .before .before .before .loop-test .taken) (c .before .before .before .before .before .before .before .loop .«data») (taking-length (c .before .before .before .before .before .before .before .loop .inv .1) ∙ c .before .before .before .before .before .before .before .before .before .before .before .before .pre .1 .0) (c .before .before .before .before .before .before .before .loop .inv .1 .count), c .before .before .take-row .ensures .0, c .before .before .before .before .before .before .before .before .before .before .before .before .good, taking-length (c .before .before .before .before .before .before .before .loop .inv .1))
+
+add-r : tie.Need-add-r Inv-loop μ-loop
+add-r c = search needs
+
+loop-less : tie.Need-loop-less Inv-loop μ-loop
+loop-less c = search needs
+
+loop-again : tie.Need-loop-again Inv-loop μ-loop
+loop-again c = (
+  omega arith,
+  row-takes (numbers _ (c .before .before .before .before .before .before .before .before .facts-of .ensures)) (now (c .before .before .before .before .before .before .before .before .before .before .before .before .args .words)) (now (c .before .before .before .before .before .before .before .before .before .before .before .before .args .stripe)) (c .before .before .before .before .before .before .before .before .before .before .before .before .pre .1 .1) (c .before .before .before .before .before .before .loop-test .taken) (c .before .before .before .before .before .before .before .loop .inv .1) (c .before .before .take-row .ensures .0) (c .before .before .take-row .ensures .1),
+)
+
+same-length : tie.Need-same-length Inv-loop μ-loop
+same-length c = taking-length (c .before .loop .inv .1)
+
+returns : tie.Need-returns Inv-loop μ-loop
+returns c = rows-taken _ _ (omega (arith, c .before .loop .inv .0, c .loop-test .left, c .before .before .facts-of .ensures .rows)) (c .before .before .before .before .before .before .pre .1 .1) (c .before .before .before .before .before .before .pre .1 .0) (c .before .loop .inv .1)
+
+pub take-spec : {M : Type 1} → statement M
+take-spec =
+    tie.close
+    (tie.spec Inv-loop μ-loop facts-of-requires loop-holds mul-start add-end mul-take-row shared-slice-read-take-row sub-take-row part-take-row-start part-take-row-end
+    sub-take-row-2 part-take-row-start-2 part-take-row-end-2 take-row-requires add-next add-r loop-less loop-again same-length returns)
