@@ -206,7 +206,7 @@ module _ (w c : ℕ) where
 -- ---- a turn for each row
 
 module _ (P : Plan) (words : List ℕ) where
-  rows-length : (r : ℕ) → length (marksTo (marksAt P words) r) ≡ r * P .columns
+  pub rows-length : (r : ℕ) → length (marksTo (marksAt P words) r) ≡ r * P .columns
   rows-length r = flat-length (marksAt P words) (P .columns) 0 r (λ r l. marks-length P words r)
 
   pub rows-placed : {ds old s : List ℕ} {r next : ℕ} → r ≡ P .rows → length old ≡ P .rows * P .columns
