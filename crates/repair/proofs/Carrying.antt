@@ -28,7 +28,7 @@ module _ (p : ℕ) where
   unfolding upFrom wordOf plan1 plan2 plan3 noPlan padded placeTable
   places-are = of-plans (λ P. take (P .rows) (placeTable P) ≡ P .checkPlaces) refl refl refl refl p
 
-  words-count : length (P .checkPlaces) ≡ P .rows
+  pub words-count : length (P .checkPlaces) ≡ P .rows
   unfolding wordOf plan1 plan2 plan3 noPlan
   words-count = of-plans (λ P. length (P .checkPlaces) ≡ P .rows) refl refl refl refl p
 

@@ -20,7 +20,7 @@ use Rattle.repair.specs.Tables.{unmarked}
 use Rattle.repair.proofs.Sound.{marks-length}
 use Rattle.repair.proofs.Flat.{flat-append, flat-length}
 use Rattle.repair.proofs.Rows.{sets-append, sets-whole, sets-behind}
-use Rattle.repair.proofs.Plans.{columns-most}
+use Rattle.repair.proofs.Plans.{columns-most, symbols-most}
 use Rattle.repair.proofs.Parts.{part, part-of, part-length, rest-of, part-back}
 use Rattle.repair.proofs.Numbers.{Numbers, row-within}
 use Rattle.repair.proofs.Data.{placed-length, taken-length, unmarked-append, placed-append, taken-append, taken-front}
@@ -53,8 +53,12 @@ module _ (f : ℕ → List Bool) where
   pub unmarked-within : {k n : ℕ} → k < n → unmarked (marksTo k) + unmarked (f k) ≤ unmarked (marksTo n)
   unmarked-within {k} {n} h =
       let e : k + 1 + (n - (k + 1)) ≡ n = omega arith in
-      omega (arith, unmarked-next k, ap (λ m. unmarked (marksTo m)) (sym e) ∙ ap unmarked (marks-more (k + 1) (n - (k + 1)))
-      ∙ unmarked-append (marksTo (k + 1)) (flatMap f (upFrom (k + 1) (n - (k + 1)))))
+      omega (
+        arith,
+        unmarked-next k,
+        ap (λ m. unmarked (marksTo m)) (sym e) ∙ ap unmarked (marks-more (k + 1) (n - (k + 1)))
+            ∙ unmarked-append (marksTo (k + 1)) (flatMap f (upFrom (k + 1) (n - (k + 1)))),
+      )
 
 -- ---- data are placed
 
@@ -202,7 +206,7 @@ module _ (w c : ℕ) where
 -- ---- a turn for each row
 
 module _ (P : Plan) (words : List ℕ) where
-  rows-length : (r : ℕ) → length (marksTo (marksAt P words) r) ≡ r * P .columns
+  pub rows-length : (r : ℕ) → length (marksTo (marksAt P words) r) ≡ r * P .columns
   rows-length r = flat-length (marksAt P words) (P .columns) 0 r (λ r l. marks-length P words r)
 
   pub rows-placed : {ds old s : List ℕ} {r next : ℕ} → r ≡ P .rows → length old ≡ P .rows * P .columns
@@ -218,7 +222,15 @@ module _ (P : Plan) (words : List ℕ) where
       taking-ends (omega (arith, rows-length r, ap (λ n. n * P .columns) e)) t (room ∙ ap (λ n. unmarked (marksTo (marksAt P words) n)) (sym e))
       ∙ ap (λ n. taken (marksTo (marksAt P words) n) xs) e
 
--- row r of the stripe `xs`, as it is lent
+-- what a turn at row r of the stripe `xs` knows, the next data being from `next` on among `ds`: the row stands in the stripe and its data among
+-- all, and both can be lent
+pub record AtRow (words xs ds : List ℕ) (n r next : ℕ) : Type 0 where
+  pub ends : r * n + n ≤ length xs
+  pub few : length xs ≤ 256
+  pub room : next + unmarked (bitsOf (length (part (r * n) n xs)) (getD words r 0)) ≤ length ds
+  pub lent : let row = part (r * n) n xs in
+      (length row ≤ 32) × (unmarked (bitsOf (length row) (getD words r 0)) ≤ length (take (length ds - next) (drop next ds)))
+
 module _ {p q rows n : ℕ} (is : Numbers p q rows n) (words xs : List ℕ) (long : length xs ≡ planOf p .rows * planOf p .columns) {r : ℕ} (more : r < rows) where
   abbrev P : Plan
   P = planOf p
@@ -226,7 +238,7 @@ module _ {p q rows n : ℕ} (is : Numbers p q rows n) (words xs : List ℕ) (lon
   abbrev row : List ℕ
   row = part (r * n) n xs
 
-  pub row-ends : r * n + n ≤ length xs
+  row-ends : r * n + n ≤ length xs
   row-ends = row-within is (le-of-eq (sym long)) more
 
   row-wide : length row ≡ P .columns
@@ -236,14 +248,18 @@ module _ {p q rows n : ℕ} (is : Numbers p q rows n) (words xs : List ℕ) (lon
   unfolding marksAt
   its-marks = ap (λ k. bitsOf k (getD words r 0)) row-wide
 
-  -- its data stand among all, from `next` on
-  module _ (ds : List ℕ) (all : length ds ≡ unmarked (marksOf P words)) {next : ℕ} (count : next ≡ unmarked (marksTo (marksAt P words) r)) where
-    pub row-room : next + unmarked (bitsOf (length row) (getD words r 0)) ≤ length ds
-    unfolding marksOf
-    row-room = let h : r < P .rows = rw (is .high) at more in omega (arith, unmarked-within (marksAt P words) h, ap unmarked its-marks)
-
-    pub row-lent : (length row ≤ 32) × (unmarked (bitsOf (length row) (getD words r 0)) ≤ length (take (length ds - next) (drop next ds)))
-    row-lent = (omega (arith, row-wide, columns-most p), rw (rest-of next ds, length-drop) (omega (arith, row-room)))
+  pub at-row : (ds : List ℕ) → length ds ≡ unmarked (marksOf P words) → {next : ℕ} → next ≡ unmarked (marksTo (marksAt P words) r) → AtRow words xs ds n r next
+  unfolding marksOf
+  at-row ds all {next} count =
+      let h : r < P .rows = rw (is .high) at more in
+      let room : next + unmarked (bitsOf (length row) (getD words r 0)) ≤ length ds =
+      omega (arith, unmarked-within (marksAt P words) h, ap unmarked its-marks) in
+      record {
+        ends = row-ends;
+        few = omega (arith, symbols-most p);
+        room = room;
+        lent = (omega (arith, row-wide, columns-most p), rw (rest-of next ds, length-drop) (omega arith));
+      }
 
   pub row-turns : {ds old : List ℕ} {next m : ℕ} {v : List ℕ} → Placing (marksAt P words) ds old r next xs
       → m ≡ unmarked (bitsOf (length row) (getD words r 0))

@@ -5,9 +5,8 @@ use native.Mathlib.Omega.{arith}
 use borrow.Author.Needs.{needs}
 use denote.Ref.{now}
 use Rattle.repair.specs.Plan.{planOf, marksAt}
-use Rattle.repair.proofs.Plans.{symbols-most}
 use Rattle.repair.proofs.Numbers.{numbers}
-use Rattle.repair.proofs.Placing.{Placing, placing-starts, placing-length, row-ends, row-room, row-lent, row-turns, rows-placed}
+use Rattle.repair.proofs.Placing.{Placing, placing-starts, placing-length, AtRow, at-row, row-turns, rows-placed}
 use Rattle.repair.proofs.encoding.place.Statement.{statement}
 use Rattle.repair.proofs.encoding.place.Tie as tie
 
@@ -17,6 +16,12 @@ Inv-loop plan words «data» stripe₀ rows columns next₀ r₀ stripe next r =
 abbrev μ-loop : tie.MeasureT-loop
 μ-loop plan words «data» stripe₀ rows columns next₀ r₀ stripe next r = rows - r
 
+here : (c : tie.In-loop Inv-loop μ-loop) → let a = c .before .before .before .before .before .before .args in
+    AtRow (now (a .words)) (c .before .loop .stripe) (now (a .«data»)) (c .before .before .facts-of .result .columns) (c .before .loop .r) (c .before .loop .next)
+here c =
+    at-row (numbers _ (c .before .before .facts-of .ensures)) _ _ (placing-length (c .before .loop .inv .1) ∙ c .before .before .before .before .before .before .pre .1 .1) (c .loop-test .taken) _
+    (c .before .before .before .before .before .before .pre .1 .0) (c .before .loop .inv .1 .count)
+
 facts-of-requires : tie.Need-facts-of-requires Inv-loop μ-loop
 facts-of-requires c κs = search needs
 
@@ -24,10 +29,10 @@ loop-holds : tie.Need-loop-holds Inv-loop μ-loop
 loop-holds c = (omega arith, placing-starts)
 
 mul-start : tie.Need-mul-start Inv-loop μ-loop
-mul-start c = omega (arith, row-ends (numbers _ (c .before .before .facts-of .ensures)) (now (c .before .before .before .before .before .before .args .words)) (c .before .loop .stripe) (placing-length (c .before .loop .inv .1) ∙ c .before .before .before .before .before .before .pre .1 .1) (c .loop-test .taken), (placing-length (c .before .loop .inv .1) ∙ c .before .before .before .before .before .before .pre .1 .1), symbols-most (c .before .before .before .before .before .before .args .plan))
+mul-start c = omega (arith, here c .ends, here c .few)
 
 add-end : tie.Need-add-end Inv-loop μ-loop
-add-end c = omega (arith, row-ends (numbers _ (c .before .before .facts-of .ensures)) (now (c .before .before .before .before .before .before .args .words)) (c .before .loop .stripe) (placing-length (c .before .loop .inv .1) ∙ c .before .before .before .before .before .before .pre .1 .1) (c .loop-test .taken), (placing-length (c .before .loop .inv .1) ∙ c .before .before .before .before .before .before .pre .1 .1), symbols-most (c .before .before .before .before .before .before .args .plan))
+add-end c = omega (arith, here c .ends, here c .few)
 
 mul-place-row : tie.Need-mul-place-row Inv-loop μ-loop
 mul-place-row c = omega (arith, c .before .before .before .before .before .before .pre .0, c .before .before .facts-of .ensures .rows, c .before .before .before .before .before .before .good)
@@ -36,10 +41,10 @@ shared-slice-read-place-row : tie.Need-shared-slice-read-place-row Inv-loop μ-l
 shared-slice-read-place-row c = omega (arith, c .before .before .before .before .before .before .before .pre .0, c .before .before .before .facts-of .ensures .rows)
 
 sub-place-row : tie.Need-sub-place-row Inv-loop μ-loop
-sub-place-row c = omega (arith, row-room (numbers _ (c .before .before .before .facts-of .ensures)) (now (c .before .before .before .before .before .before .before .args .words)) (c .before .before .loop .stripe) (placing-length (c .before .before .loop .inv .1) ∙ c .before .before .before .before .before .before .before .pre .1 .1) (c .before .loop-test .taken) (now (c .before .before .before .before .before .before .before .args .«data»)) (c .before .before .before .before .before .before .before .pre .1 .0) (c .before .before .loop .inv .1 .count))
+sub-place-row c = omega (arith, here (c .before) .room)
 
 part-place-row-start : tie.Need-part-place-row-start Inv-loop μ-loop
-part-place-row-start c = omega (arith, row-room (numbers _ (c .before .before .before .facts-of .ensures)) (now (c .before .before .before .before .before .before .before .args .words)) (c .before .before .loop .stripe) (placing-length (c .before .before .loop .inv .1) ∙ c .before .before .before .before .before .before .before .pre .1 .1) (c .before .loop-test .taken) (now (c .before .before .before .before .before .before .before .args .«data»)) (c .before .before .before .before .before .before .before .pre .1 .0) (c .before .before .loop .inv .1 .count))
+part-place-row-start c = omega (arith, here (c .before) .room)
 
 part-place-row-end : tie.Need-part-place-row-end Inv-loop μ-loop
 part-place-row-end c = search needs
@@ -51,13 +56,13 @@ part-place-row-start-2 : tie.Need-part-place-row-start-2 Inv-loop μ-loop
 part-place-row-start-2 c = search needs
 
 part-place-row-end-2 : tie.Need-part-place-row-end-2 Inv-loop μ-loop
-part-place-row-end-2 c = row-ends (numbers _ (c .before .before .before .before .facts-of .ensures)) (now (c .before .before .before .before .before .before .before .before .args .words)) (c .before .before .before .loop .stripe) (placing-length (c .before .before .before .loop .inv .1) ∙ c .before .before .before .before .before .before .before .before .pre .1 .1) (c .before .before .loop-test .taken)
+part-place-row-end-2 c = here (c .before .before) .ends
 
 place-row-requires : tie.Need-place-row-requires Inv-loop μ-loop
-place-row-requires c κs = row-lent (numbers _ (c .before .before .before .before .before .facts-of .ensures)) (now (c .before .before .before .before .before .before .before .before .before .args .words)) (c .before .before .before .before .loop .stripe) (placing-length (c .before .before .before .before .loop .inv .1) ∙ c .before .before .before .before .before .before .before .before .before .pre .1 .1) (c .before .before .before .loop-test .taken) (now (c .before .before .before .before .before .before .before .before .before .args .«data»)) (c .before .before .before .before .before .before .before .before .before .pre .1 .0) (c .before .before .before .before .loop .inv .1 .count)
+place-row-requires c κs = here (c .before .before .before) .lent
 
 add-next : tie.Need-add-next Inv-loop μ-loop
-add-next c = omega (arith, row-room (numbers _ (c .before .before .before .before .before .before .before .before .facts-of .ensures)) (now (c .before .before .before .before .before .before .before .before .before .before .before .before .args .words)) (c .before .before .before .before .before .before .before .loop .stripe) (placing-length (c .before .before .before .before .before .before .before .loop .inv .1) ∙ c .before .before .before .before .before .before .before .before .before .before .before .before .pre .1 .1) (c .before .before .before .before .before .before .loop-test .taken) (now (c .before .before .before .before .before .before .before .before .before .before .before .before .args .«data»)) (c .before .before .before .before .before .before .before .before .before .before .before .before .pre .1 .0) (c .before .before .before .before .before .before .before .loop .inv .1 .count), c .before .before .place-row .ensures .0, c .before .before .before .before .before .before .before .before .before .before .before .before .good)
+add-next c = omega (arith, here (c .before .before .before .before .before .before) .room, c .before .before .place-row .ensures .0, c .before .before .before .before .before .before .before .before .before .before .before .before .good)
 
 add-r : tie.Need-add-r Inv-loop μ-loop
 add-r c = search needs
@@ -68,7 +73,8 @@ loop-less c = search needs
 loop-again : tie.Need-loop-again Inv-loop μ-loop
 loop-again c = (
   omega arith,
-  row-turns (numbers _ (c .before .before .before .before .before .before .before .before .facts-of .ensures)) (now (c .before .before .before .before .before .before .before .before .before .before .before .before .args .words)) (c .before .before .before .before .before .before .before .loop .stripe) (placing-length (c .before .before .before .before .before .before .before .loop .inv .1) ∙ c .before .before .before .before .before .before .before .before .before .before .before .before .pre .1 .1) (c .before .before .before .before .before .before .loop-test .taken) (c .before .before .before .before .before .before .before .loop .inv .1) (c .before .before .place-row .ensures .0) (c .before .before .place-row .ensures .1),
+  row-turns (numbers _ (c .before .before .before .before .before .before .before .before .facts-of .ensures)) _ _ (placing-length (c .before .before .before .before .before .before .before .loop .inv .1) ∙ c .before .before .before .before .before .before .before .before .before .before .before .before .pre .1 .1) (c .before .before .before .before .before .before .loop-test .taken) (c .before .before .before .before .before .before .before .loop .inv .1)
+      (c .before .before .place-row .ensures .0) (c .before .before .place-row .ensures .1),
 )
 
 same-length : tie.Need-same-length Inv-loop μ-loop

@@ -8,8 +8,6 @@ use lib.ListN.{length}
 use Rattle.repair.proofs.Placing.{Placing, placing-starts, placing-length, bitOf, bit-within, place-data, place-none, row-placed}
 use Rattle.repair.proofs.encoding.place_row.Statement.{statement}
 use Rattle.repair.proofs.encoding.place_row.Tie as tie
-use Rattle.repair.proofs.encoding.place_row.Reads as reads
-use Rattle.repair.proofs.encoding.place_row.Lts as lts
 
 abbrev Inv-loop : tie.InvT-loop
 Inv-loop word «data» row₀ next₀ c₀ c-end row next c = (c-end ≡ length row₀) × (c ≤ length row₀) × Placing (bitOf word) «data» row₀ c next row

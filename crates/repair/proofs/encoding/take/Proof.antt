@@ -5,9 +5,8 @@ use native.Mathlib.Omega.{arith}
 use borrow.Author.Needs.{needs}
 use denote.Ref.{now}
 use Rattle.repair.specs.Plan.{planOf, marksAt}
-use Rattle.repair.proofs.Plans.{symbols-most}
 use Rattle.repair.proofs.Numbers.{numbers}
-use Rattle.repair.proofs.Placing.{Taking, taking-starts, taking-length, row-ends, row-room, row-lent, row-takes, rows-taken}
+use Rattle.repair.proofs.Placing.{Taking, taking-starts, taking-length, AtRow, at-row, row-takes, rows-taken}
 use Rattle.repair.proofs.encoding.take.Statement.{statement}
 use Rattle.repair.proofs.encoding.take.Tie as tie
 
@@ -17,6 +16,12 @@ Inv-loop plan words stripe data₀ rows columns next₀ r₀ «data» next r = (
 abbrev μ-loop : tie.MeasureT-loop
 μ-loop plan words stripe data₀ rows columns next₀ r₀ «data» next r = rows - r
 
+here : (c : tie.In-loop Inv-loop μ-loop) → let a = c .before .before .before .before .before .before .args in
+    AtRow (now (a .words)) (now (a .stripe)) (c .before .loop .«data») (c .before .before .facts-of .result .columns) (c .before .loop .r) (c .before .loop .next)
+here c =
+    at-row (numbers _ (c .before .before .facts-of .ensures)) _ _ (c .before .before .before .before .before .before .pre .1 .1) (c .loop-test .taken) _
+    (taking-length (c .before .loop .inv .1) ∙ c .before .before .before .before .before .before .pre .1 .0) (c .before .loop .inv .1 .count)
+
 facts-of-requires : tie.Need-facts-of-requires Inv-loop μ-loop
 facts-of-requires c κs = search needs
 
@@ -24,10 +29,10 @@ loop-holds : tie.Need-loop-holds Inv-loop μ-loop
 loop-holds c = (omega arith, taking-starts)
 
 mul-start : tie.Need-mul-start Inv-loop μ-loop
-mul-start c = omega (arith, row-ends (numbers _ (c .before .before .facts-of .ensures)) (now (c .before .before .before .before .before .before .args .words)) (now (c .before .before .before .before .before .before .args .stripe)) (c .before .before .before .before .before .before .pre .1 .1) (c .loop-test .taken), (c .before .before .before .before .before .before .pre .1 .1), symbols-most (c .before .before .before .before .before .before .args .plan))
+mul-start c = omega (arith, here c .ends, here c .few)
 
 add-end : tie.Need-add-end Inv-loop μ-loop
-add-end c = omega (arith, row-ends (numbers _ (c .before .before .facts-of .ensures)) (now (c .before .before .before .before .before .before .args .words)) (now (c .before .before .before .before .before .before .args .stripe)) (c .before .before .before .before .before .before .pre .1 .1) (c .loop-test .taken), (c .before .before .before .before .before .before .pre .1 .1), symbols-most (c .before .before .before .before .before .before .args .plan))
+add-end c = omega (arith, here c .ends, here c .few)
 
 mul-take-row : tie.Need-mul-take-row Inv-loop μ-loop
 mul-take-row c = omega (arith, c .before .before .before .before .before .before .pre .0, c .before .before .facts-of .ensures .rows, c .before .before .before .before .before .before .good)
@@ -42,22 +47,22 @@ part-take-row-start : tie.Need-part-take-row-start Inv-loop μ-loop
 part-take-row-start c = search needs
 
 part-take-row-end : tie.Need-part-take-row-end Inv-loop μ-loop
-part-take-row-end c = row-ends (numbers _ (c .before .before .before .facts-of .ensures)) (now (c .before .before .before .before .before .before .before .args .words)) (now (c .before .before .before .before .before .before .before .args .stripe)) (c .before .before .before .before .before .before .before .pre .1 .1) (c .before .loop-test .taken)
+part-take-row-end c = here (c .before) .ends
 
 sub-take-row-2 : tie.Need-sub-take-row-2 Inv-loop μ-loop
-sub-take-row-2 c = omega (arith, row-room (numbers _ (c .before .before .before .before .facts-of .ensures)) (now (c .before .before .before .before .before .before .before .before .args .words)) (now (c .before .before .before .before .before .before .before .before .args .stripe)) (c .before .before .before .before .before .before .before .before .pre .1 .1) (c .before .before .loop-test .taken) (c .before .before .before .loop .«data») (taking-length (c .before .before .before .loop .inv .1) ∙ c .before .before .before .before .before .before .before .before .pre .1 .0) (c .before .before .before .loop .inv .1 .count))
+sub-take-row-2 c = omega (arith, here (c .before .before) .room)
 
 part-take-row-start-2 : tie.Need-part-take-row-start-2 Inv-loop μ-loop
-part-take-row-start-2 c = omega (arith, row-room (numbers _ (c .before .before .before .before .facts-of .ensures)) (now (c .before .before .before .before .before .before .before .before .args .words)) (now (c .before .before .before .before .before .before .before .before .args .stripe)) (c .before .before .before .before .before .before .before .before .pre .1 .1) (c .before .before .loop-test .taken) (c .before .before .before .loop .«data») (taking-length (c .before .before .before .loop .inv .1) ∙ c .before .before .before .before .before .before .before .before .pre .1 .0) (c .before .before .before .loop .inv .1 .count))
+part-take-row-start-2 c = omega (arith, here (c .before .before) .room)
 
 part-take-row-end-2 : tie.Need-part-take-row-end-2 Inv-loop μ-loop
 part-take-row-end-2 c = search needs
 
 take-row-requires : tie.Need-take-row-requires Inv-loop μ-loop
-take-row-requires c κs = row-lent (numbers _ (c .before .before .before .before .before .facts-of .ensures)) (now (c .before .before .before .before .before .before .before .before .before .args .words)) (now (c .before .before .before .before .before .before .before .before .before .args .stripe)) (c .before .before .before .before .before .before .before .before .before .pre .1 .1) (c .before .before .before .loop-test .taken) (c .before .before .before .before .loop .«data») (taking-length (c .before .before .before .before .loop .inv .1) ∙ c .before .before .before .before .before .before .before .before .before .pre .1 .0) (c .before .before .before .before .loop .inv .1 .count)
+take-row-requires c κs = here (c .before .before .before) .lent
 
 add-next : tie.Need-add-next Inv-loop μ-loop
-add-next c = omega (arith, row-room (numbers _ (c .before .before .before .before .before .before .before .before .facts-of .ensures)) (now (c .before .before .before .before .before .before .before .before .before .before .before .before .args .words)) (now (c .before .before .before .before .before .before .before .before .before .before .before .before .args .stripe)) (c .before .before .before .before .before .before .before .before .before .before .before .before .pre .1 .1) (c .before .before .before .before .before .before .loop-test .taken) (c .before .before .before .before .before .before .before .loop .«data») (taking-length (c .before .before .before .before .before .before .before .loop .inv .1) ∙ c .before .before .before .before .before .before .before .before .before .before .before .before .pre .1 .0) (c .before .before .before .before .before .before .before .loop .inv .1 .count), c .before .before .take-row .ensures .0, c .before .before .before .before .before .before .before .before .before .before .before .before .good, taking-length (c .before .before .before .before .before .before .before .loop .inv .1))
+add-next c = omega (arith, here (c .before .before .before .before .before .before) .room, c .before .before .take-row .ensures .0, c .before .before .before .before .before .before .before .before .before .before .before .before .good, taking-length (c .before .before .before .before .before .before .before .loop .inv .1))
 
 add-r : tie.Need-add-r Inv-loop μ-loop
 add-r c = search needs
@@ -68,7 +73,8 @@ loop-less c = search needs
 loop-again : tie.Need-loop-again Inv-loop μ-loop
 loop-again c = (
   omega arith,
-  row-takes (numbers _ (c .before .before .before .before .before .before .before .before .facts-of .ensures)) (now (c .before .before .before .before .before .before .before .before .before .before .before .before .args .words)) (now (c .before .before .before .before .before .before .before .before .before .before .before .before .args .stripe)) (c .before .before .before .before .before .before .before .before .before .before .before .before .pre .1 .1) (c .before .before .before .before .before .before .loop-test .taken) (c .before .before .before .before .before .before .before .loop .inv .1) (c .before .before .take-row .ensures .0) (c .before .before .take-row .ensures .1),
+  row-takes (numbers _ (c .before .before .before .before .before .before .before .before .facts-of .ensures)) _ _ (c .before .before .before .before .before .before .before .before .before .before .before .before .pre .1 .1) (c .before .before .before .before .before .before .loop-test .taken) (c .before .before .before .before .before .before .before .loop .inv .1)
+      (c .before .before .take-row .ensures .0) (c .before .before .take-row .ensures .1),
 )
 
 same-length : tie.Need-same-length Inv-loop μ-loop

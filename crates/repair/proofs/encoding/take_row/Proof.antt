@@ -8,8 +8,6 @@ use lib.ListN.{length}
 use Rattle.repair.proofs.Placing.{Taking, taking-starts, taking-length, bitOf, bit-within, take-symbol, take-none, row-taken}
 use Rattle.repair.proofs.encoding.take_row.Statement.{statement}
 use Rattle.repair.proofs.encoding.take_row.Tie as tie
-use Rattle.repair.proofs.encoding.take_row.Reads as reads
-use Rattle.repair.proofs.encoding.take_row.Lts as lts
 
 abbrev Inv-loop : tie.InvT-loop
 Inv-loop word row data₀ next₀ c₀ c-end «data» next c = (c-end ≡ length row) × (c ≤ length row) × Taking (bitOf word) row data₀ c next «data»
