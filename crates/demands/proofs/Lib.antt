@@ -29,6 +29,7 @@ pub mod Encoding
 pub mod Third
 pub mod Refused
 pub mod Silence
+pub mod Kept
 pub mod Samples
 -- the parameters
 pub mod Parameters

@@ -535,7 +535,7 @@ module _ (p : ℕ) (marks s t : List ℕ) (h : SameUnmarked p marks s t) (fit : 
       }
 
 -- a number is 0 or not
-zero-or-not : (n : ℕ) → (n ≡ 0) ⊎ (n ≢ 0)
+pub zero-or-not : (n : ℕ) → (n ≡ 0) ⊎ (n ≢ 0)
 zero-or-not zero = inl refl
 zero-or-not (suc n) = inr (λ e. absurd (omega (arith, e)))
 
