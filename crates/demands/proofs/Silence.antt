@@ -216,7 +216,7 @@ same-refl b = record {
   beyond = λ i l. refl;
 }
 
-fresh-same : (p : ℕ) (marks s t : List ℕ) → SameUnmarked p marks s t → Fit p s marks → SameButMarks (fresh p s marks) (fresh p t marks)
+pub fresh-same : (p : ℕ) (marks s t : List ℕ) → SameUnmarked p marks s t → Fit p s marks → SameButMarks (fresh p s marks) (fresh p t marks)
 unfolding fresh marksAt
 fresh-same p marks s t h fit =
     let P = planOf p in
