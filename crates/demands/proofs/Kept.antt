@@ -1,14 +1,14 @@
--- A row is filled whole or left: where marks are left, so is the byte under them. Assumes nothing.
+-- A row is filled whole or left: where marks are left, so is the byte under them; and so is all room beyond the stripe. Assumes nothing.
 use mathlib.Core.Path.{_≡_, refl, sym, ap, _∙_, subst}
 use mathlib.Core.Logic.{_⊎_, inl, inr}
 use mathlib.Core.Bool.{Bool, true, false}
 use mathlib.Core.List.{List, [], _∷_}
-use Prim.Native.Nat.{ℕ, zero, suc, _+_, _*_, _<_, _≤_}
-use native.Mathlib.Nat.{suc-inj, le-of-suc-le-suc}
+use Prim.Native.Nat.{ℕ, zero, suc, _+_, _*_, _-_, _<_, _≤_}
+use native.Mathlib.Nat.{le-of-suc-le-suc, eq-zero-or-pos}
 use native.Mathlib.Omega.{arith}
 use lib.Dec.{T, ltb, ltb→lt, nltb→le}
-use lib.ListN.{length, take, getD, set, length-take, List·getD-eq-default}
-use lib.Seq.{getD-set-other, getD-take}
+use lib.ListN.{length, take, getD, set, replicate, length-take, List·getD-eq-default, List·getD-append}
+use lib.Seq.{sets, getD-set-other, getD-take}
 use Rattle.field.specs.Lists.{if_then_else_}
 use Rattle.linear.specs.Lists.{only}
 use Rattle.linear.specs.Marks.{bitsOf}
@@ -17,20 +17,20 @@ use Rattle.linear.proofs.Tests.{either}
 use Rattle.repair.specs.Plan.{Plan, planOf, rowAt, marksAt, marksOf}
 use Rattle.repair.specs.Refusal.{unasked, lentRefusal, benchRefusal}
 use Rattle.repair.specs.Steps.{fresh, stepped, unlessRefused, rowFill, putRow, rowStepBy, rowStep, Learned, blocked, failing, learned, levelFill, raise, levelStepBy, levelStep}
-use Rattle.repair.specs.Rounds.{Standing, Turn, on, end, clash, mended, turnStripe, turnMarks, mendStripe, mendMarks}
+use Rattle.repair.specs.Rounds.{Standing, Turn, on, end, clash, mended, turnStripe, turnMarks}
 use Rattle.repair.specs.declared.Bench.{Bench}
 use Rattle.repair.specs.declared.Step.the-variants.{Top}
 use Rattle.repair.proofs.Rows.{of-rows, row-end, row-other}
-use Rattle.repair.proofs.Fit.{BenchFit, lent-fit, bench-fit, fresh-row}
+use Rattle.repair.proofs.Fit.{BenchFit, lent-fit, bench-fit}
 use Rattle.repair.proofs.Sound.{marks-length, filled-row}
 use Rattle.demands.specs.Words.{Fit, Move, onRow, onLevel, after, walk, rounds}
-use Rattle.demands.specs.Silence.{MarkedKeep}
+use Rattle.demands.specs.Silence.{StepsKeep, MarkedKeep}
 use Rattle.demands.proofs.Marked.{marked}
 use Rattle.demands.proofs.Alike.{row-at, mark-at, of-places, clear-unmarked}
 use Rattle.demands.proofs.Rounds.{Ended, Out, mended-out}
 use Rattle.demands.proofs.Left.{stripe-turn, marks-turn}
 use Rattle.demands.proofs.Refused.{mend-refused}
-use Rattle.demands.proofs.Silence.{zero-or-not}
+use Rattle.demands.proofs.Blind.{marks-same}
 
 -- ---- steps
 
@@ -41,12 +41,13 @@ RowKept P b c r = (getD (c .marks) r 0 ≡ 0) ⊎ ((getD (c .marks) r 0 ≡ getD
 record Kept (p : ℕ) (b c : Bench) : Type 0 where
   plan : c .plan ≡ p
   rows : (r : ℕ) → r < planOf p .rows → RowKept (planOf p) b c r
+  room : (i : ℕ) → planOf p .rows * planOf p .columns ≤ i → getD (c .symbols) i 0 ≡ getD (b .symbols) i 0
 
 kept-refl : (p : ℕ) (b : Bench) → b .plan ≡ p → Kept p b b
-kept-refl p b e = record { plan = e; rows = λ r l. inr (refl, refl) }
+kept-refl p b e = record { plan = e; rows = λ r l. inr (refl, refl); room = λ i l. refl }
 
 kept-trans : (p : ℕ) (a b c : Bench) → Kept p a b → Kept p b c → Kept p a c
-kept-trans p a b c f g = record { plan = g .plan; rows = λ r l. go r (f .rows r l) (g .rows r l) }
+kept-trans p a b c f g = record { plan = g .plan; rows = λ r l. go r (f .rows r l) (g .rows r l); room = λ i l. g .room i l ∙ f .room i l }
   where
     go : (r : ℕ) → RowKept (planOf p) a b r → RowKept (planOf p) b c r → RowKept (planOf p) a c r
     go r k (inl z) = inl z
@@ -58,13 +59,22 @@ set-clear [] r = refl
 set-clear (w ∷ l) zero = refl
 set-clear (w ∷ l) (suc r) = set-clear l r
 
-kept-put : (b : Bench) (r : ℕ) (row : List ℕ) → length row ≡ planOf (b .plan) .columns → Kept (b .plan) b (putRow b r row)
+-- writes before a place leave it alone
+sets-before : (x l : List ℕ) (k i : ℕ) → k + length x ≤ i → getD (sets l k x) i 0 ≡ getD l i 0
+sets-before [] l k i h = refl
+sets-before (v ∷ x) l k i h = sets-before x (set l k v) (suc k) i (omega arith) ∙ getD-set-other l k i v 0 (λ e. omega (arith, e))
+
+kept-put : (b : Bench) (r : ℕ) (row : List ℕ) → r < planOf (b .plan) .rows → length row ≡ planOf (b .plan) .columns
+    → Kept (b .plan) b (putRow b r row)
 unfolding putRow
-kept-put b r row wide = record {
+kept-put b r row inside wide = record {
   plan = refl;
   rows =
       of-rows (RowKept (planOf (b .plan)) b (putRow b r row)) r (inl (set-clear (b .marks) r))
       (λ k l ne. inr (getD-set-other (b .marks) r k 0 0 ne, row-other (planOf (b .plan)) r row (b .symbols) wide k ne));
+  room = λ i l.
+      let N = planOf (b .plan) .columns in
+      sets-before row (b .symbols) (r * N) i (omega (arith, wide, row-end N inside));
 }
 
 kept-after : (b : Bench) (m : Move) → Kept (b .plan) b (after b m)
@@ -74,7 +84,7 @@ kept-after b (onRow r) = go (benchRefusal b (ltb r (planOf (b .plan) .rows))) re
     by : BenchFit b → r < planOf (b .plan) .rows → (a : Fill) → rowFill b r ≡ a → Kept (b .plan) b (rowStepBy b r a .bench)
     by f l tied e = kept-refl (b .plan) b refl
     by f l none e = kept-refl (b .plan) b refl
-    by f l (one row) e = kept-put b r row (filled-row b f r l row e .0)
+    by f l (one row) e = kept-put b r row l (filled-row b f r l row e .0)
 
     go : (n : ℕ) → benchRefusal b (ltb r (planOf (b .plan) .rows)) ≡ n
         → Kept (b .plan) b (unlessRefused n b (rowStepBy b r (rowFill b r)) .bench)
@@ -90,7 +100,7 @@ kept-after b onLevel = go (benchRefusal b unasked) (ltb (b .level) (length (plan
     go zero false a = kept-refl (b .plan) b refl
     go zero true blocked = kept-refl (b .plan) b refl
     go zero true failing = kept-refl (b .plan) b refl
-    go zero true (learned cs) = record { plan = refl; rows = λ r l. inr (refl, refl) }
+    go zero true (learned cs) = record { plan = refl; rows = λ r l. inr (refl, refl); room = λ i l. refl }
 
 kept-walk : (ms : List Move) (p : ℕ) (b : Bench) → b .plan ≡ p → Kept p b (walk ms b)
 kept-walk [] p b e = kept-refl p b e
@@ -98,7 +108,7 @@ kept-walk (m ∷ ms) p b e =
     let k = subst (λ q. Kept q b (after b m)) e (kept-after b m) in
     kept-trans p b (after b m) (walk ms (after b m)) k (kept-walk ms p (after b m) (k .plan))
 
--- ---- mending in one call
+-- ---- places
 
 unmarked-at : (ms : List Bool) → marked ms ≡ 0 → (c : ℕ) → c < length ms → getD ms c true ≡ false
 unfolding if_then_else_ only
@@ -107,54 +117,63 @@ unmarked-at (true ∷ ms) z c l = absurd (omega arith)
 unmarked-at (false ∷ ms) z zero l = refl
 unmarked-at (false ∷ ms) z (suc c) l = unmarked-at ms z c (le-of-suc-le-suc l)
 
+kept-at : (p : ℕ) (b c : Bench) → Kept p b c → (i : ℕ) → getD (marksOf (planOf p) (c .marks)) i true ≡ true
+    → getD (c .symbols) i 0 ≡ getD (b .symbols) i 0
+unfolding marksAt
+kept-at p b c k i e =
+    elim (either (ltb i (P .rows * P .columns))) [
+      | inl t ↦
+          of-places P (λ i. getD (marksOf P (c .marks)) i true ≡ true → getD (c .symbols) i 0 ≡ getD (b .symbols) i 0) here i
+          (ltb→lt i (P .rows * P .columns) t) e
+      | inr t ↦ k .room i (nltb→le i (P .rows * P .columns) t)
+    ]
+  where
+    P : Plan
+    P = planOf p
+
+    here : (r x : ℕ) → r < P .rows → x < P .columns → getD (marksOf P (c .marks)) (r * P .columns + x) true ≡ true
+        → getD (c .symbols) (r * P .columns + x) 0 ≡ getD (b .symbols) (r * P .columns + x) 0
+    here r x lr lx e =
+        elim (k .rows r lr) [
+          | inl z ↦
+              absurd (subst T
+              (sym e ∙ mark-at P (c .marks) r x lr lx ∙ ap (λ w. getD (bitsOf (P .columns) w) x true) z
+              ∙ unmarked-at (bitsOf (P .columns) 0) (clear-unmarked (P .columns)) x (omega (arith, marks-length P [] 0))) tt)
+          | inr j ↦ sym (row-at P (c .symbols) r x lx) ∙ ap (λ row. getD row x 0) (j .1) ∙ row-at P (b .symbols) r x lx
+        ]
+
+pub steps-keep : StepsKeep
+steps-keep ms b i e =
+    kept-at (b .plan) b (walk ms b) (kept-walk ms (b .plan) b refl) i e
+
+-- ---- mending in one call
+
 module _ (p : ℕ) (stripe marks : List ℕ) (fit : Fit p stripe marks) where
-  abbrev P : Plan
-  P = planOf p
-
-  long : length stripe ≡ P .rows * P .columns
-  long = lent-fit p stripe marks fit .long
-
   ended-keep : (m : Standing) → Ended p stripe marks fit m → (i : ℕ)
-      → getD (marksOf P (take (length marks) (m .bench .marks))) i true ≡ true
+      → getD (marksOf (planOf p) (take (length marks) (m .bench .marks))) i true ≡ true
       → getD (take (length stripe) (m .bench .symbols)) i 0 ≡ getD stripe i 0
-  unfolding fresh marksAt
+  unfolding fresh
   ended-keep m h i e =
-      elim (either (ltb i (P .rows * P .columns))) [
-        | inl t ↦ of-places P (λ i. getD (marksOf P M) i true ≡ true → getD Y i 0 ≡ getD stripe i 0) here i (ltb→lt i (P .rows * P .columns) t) e
+      elim (either (ltb i (length stripe))) [
+        | inl t ↦
+            let l = ltb→lt i (length stripe) t in
+            getD-take (length stripe) (m .bench .symbols) i 0 l
+            ∙ kept-at p (fresh p stripe marks) (m .bench) kept i
+            (ap (λ ms. getD ms i true) (marks-same (planOf p) (m .bench .marks) (take (length marks) (m .bench .marks)) (λ r k.
+            sym (getD-take (length marks) (m .bench .marks) r 0 (omega (arith, lent-fit p stripe marks fit .words))))) ∙ e)
+            ∙ List·getD-append stripe (replicate (256 - length stripe) 0) 0 i l
         | inr t ↦
-            let g = nltb→le i (P .rows * P .columns) t in
-            List·getD-eq-default Y 0 {n = i} (simp length-take (omega (arith, long))) ∙ sym (List·getD-eq-default stripe 0 {n = i} (omega (arith, long)))
+            let g = nltb→le i (length stripe) t in
+            List·getD-eq-default (take (length stripe) (m .bench .symbols)) 0 {n = i} (simp length-take (omega arith))
+            ∙ sym (List·getD-eq-default stripe 0 {n = i} g)
       ]
     where
-      M : List ℕ
-      M = take (length marks) (m .bench .marks)
-
-      Y : List ℕ
-      Y = take (length stripe) (m .bench .symbols)
-
       kept : Kept p (fresh p stripe marks) (m .bench)
       kept =
-          subst (Kept p (fresh p stripe marks)) (h .leads) (kept-walk (rounds P (length (P .levels))) p (fresh p stripe marks) refl)
+          subst (Kept p (fresh p stripe marks)) (h .leads)
+          (kept-walk (rounds (planOf p) (length (planOf p .levels))) p (fresh p stripe marks) refl)
 
-      here : (r c : ℕ) → r < P .rows → c < P .columns → getD (marksOf P M) (r * P .columns + c) true ≡ true
-          → getD Y (r * P .columns + c) 0 ≡ getD stripe (r * P .columns + c) 0
-      here r c lr lc e =
-          elim (kept .rows r lr) [
-            | inl z ↦
-                absurd (subst T
-                (sym e ∙ mark-at P M r c lr lc
-                ∙ ap (λ w. getD (bitsOf (P .columns) w) c true) (getD-take (length marks) (m .bench .marks) r 0 (omega (arith, words)) ∙ z)
-                ∙ unmarked-at (bitsOf (P .columns) 0) (clear-unmarked (P .columns)) c (omega (arith, marks-length P [] 0))) tt)
-            | inr k ↦
-                getD-take (length stripe) (m .bench .symbols) (r * P .columns + c) 0 (omega (arith, long, row-end (P .columns) lr))
-                ∙ sym (row-at P (m .bench .symbols) r c lc) ∙ ap (λ row. getD row c 0) (k .1 ∙ fresh-row p stripe marks (lent-fit p stripe marks fit) r lr)
-                ∙ row-at P stripe r c lc
-          ]
-        where
-          words : length marks ≡ P .rows
-          words = lent-fit p stripe marks fit .words
-
-  turn-keep : (x : Turn) → Out p stripe marks fit x → (i : ℕ) → getD (marksOf P (turnMarks x marks)) i true ≡ true
+  turn-keep : (x : Turn) → Out p stripe marks fit x → (i : ℕ) → getD (marksOf (planOf p) (turnMarks x marks)) i true ≡ true
       → getD (turnStripe x stripe) i 0 ≡ getD stripe i 0
   unfolding turnStripe turnMarks
   turn-keep (on m) h i e = absurd h
@@ -163,10 +182,10 @@ module _ (p : ℕ) (stripe marks : List ℕ) (fit : Fit p stripe marks) where
 
 pub marked-keep : MarkedKeep
 marked-keep p stripe marks i e =
-    elim (zero-or-not (lentRefusal p stripe marks)) [
+    elim (eq-zero-or-pos (lentRefusal p stripe marks)) [
       | inl fit ↦
           ap (λ s. getD s i 0) (stripe-turn p stripe marks fit)
           ∙ turn-keep p stripe marks fit (mended p stripe marks) (mended-out p stripe marks fit) i
           (ap (λ ms. getD (marksOf (planOf p) ms) i true) (sym (marks-turn p stripe marks fit)) ∙ e)
-      | inr ne ↦ ap (λ s. getD s i 0) (mend-refused p stripe marks ne .stripe-stays)
+      | inr pos ↦ ap (λ s. getD s i 0) (mend-refused p stripe marks (λ e. omega (arith, e)) .stripe-stays)
     ]

@@ -1,7 +1,6 @@
 -- A refusal changes nothing: by the definitions. Assumes nothing.
 use mathlib.Core.Path.{_≡_, refl}
 use mathlib.Core.Logic.{_≢_}
-use mathlib.Core.List.{List}
 use Prim.Native.Nat.{ℕ, zero, suc}
 use lib.Dec.{not-T, eqb, eqb→eq}
 use Rattle.field.specs.Lists.{if_then_else_}
@@ -13,7 +12,6 @@ use Rattle.repair.specs.Codeword.{encodeRefusal, encodeStripe, extractRefusal, 
 use Rattle.repair.specs.File.{writeRefusal, writeFile, readRefusal, readStripe, readMarks}
 use Rattle.repair.specs.declared.Bench.{Bench}
 use Rattle.repair.specs.declared.Stepped.{Stepped}
-use Rattle.repair.specs.declared.Started.{Started}
 use Rattle.repair.specs.declared.Step.the-variants.{Refused}
 use Rattle.repair.specs.declared.Outcome.the-variants.{Refused as Undone}
 use Rattle.repair.proofs.Fit.{if-false}

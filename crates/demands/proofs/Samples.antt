@@ -17,7 +17,7 @@ use Rattle.linear.proofs.Choices.{Alike}
 use Rattle.repair.specs.Plan.{ones, bitChecks, wordOf, locations1, plan1, known, planOf, noLevel, levelOf, checksTo, rowAt, marksAt, marksOf}
 use Rattle.repair.specs.Refusal.{firstFailed, unasked, inMemory, stripeFits, wordsFit, marksFit, allBelow, unmarkedBelow, symbolsFit, sumsAt, sumsFit, levelFits, lentRefusal, benchRefusal}
 use Rattle.repair.specs.Steps.{fresh, stepped, unlessRefused, rowFill, putRow, rowStepBy, rowStep, lossy, across, join, joined, levelFill, keepSums, raise, levelStepBy, levelStep}
-use Rattle.repair.specs.Rounds.{mendReport, mendStripe, mendMarks}
+use Rattle.repair.specs.Rounds.{mendReport, mendMarks}
 use Rattle.repair.specs.Codeword.{rowsHold, totalsHold, isCodeword, checkPlacesOf, carried, encodeRefusal, encodeStripe, extractRefusal}
 use Rattle.repair.specs.declared.Bench.{Bench}
 use Rattle.repair.specs.declared.Answer.{Answer}

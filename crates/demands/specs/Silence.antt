@@ -53,6 +53,11 @@ SilentLevelStep = (b c : Bench) → SameButMarks b c → SameStep (levelStep b) 
 abbrev pub SilentWalk : Type 0
 SilentWalk = (ms : List Move) (b c : Bench) → SameButMarks b c → SameButMarks (walk ms b) (walk ms c)
 
+-- a place that is still marked keeps its own byte; and so does all room beyond the stripe, which counts as marked here
+abbrev pub StepsKeep : Type 0
+StepsKeep = (ms : List Move) (b : Bench) (i : ℕ) → getD (marksOf (planOf (b .plan)) (walk ms b .marks)) i true ≡ true
+    → getD (walk ms b .symbols) i 0 ≡ getD (b .symbols) i 0
+
 -- ---- mending in one call
 
 -- the same report, the same marks, and stripes that are equal wherever no mark is left
