@@ -128,14 +128,14 @@ pub is-clash : mendReport 1 (set blank 0 1) (0 ∷ 0 ∷ 0 ∷ []) .answer ≡ C
 unfolding restored stuck clashed unchanged blankRestored cases done
 is-clash = ap (answers 7) (sheet .0)
 
--- ---- counts, distance
+-- ---- the counts' premises: the example again, which has 1, 3 and 1 marks in a row
 
--- 1, 3 and 1 marks in a row
 pub counts-met : MeetsCounts 1 exampleMarks
 unfolding if_then_else_ only plan1 planOf bitsSet onesIn rowsWith counts exampleMarks
 counts-met = (omega arith, (omega arith, tt))
 
--- three of the five marks: those where the example's stripe is not the codeword, and one more
+-- ---- the distance's: three of those five marks, among them the places where the example's stripe is not the codeword
+
 unfoldable pub fewMarks : List ℕ
 fewMarks = 2 ∷ 16 ∷ 4 ∷ []
 
@@ -152,7 +152,7 @@ pub few-enough : total fewMarks < distance 1
 unfolding bitsSet onesIn total distance fewMarks
 few-enough = omega arith
 
--- ---- encoding and extraction
+-- ---- encoding's and extraction's: the bench sheet's data and its codeword
 
 unfoldable pub exampleData : List ℕ
 exampleData = 1 ∷ replicate 14 0
@@ -169,8 +169,7 @@ is-encoded : encodeStripe 1 exampleData blank ≡ exampleWord
 unfolding if_then_else_ encodeStripe exampleData exampleWord
 is-encoded = rw encode-fits (sheet .4)
 
--- a codeword is taken apart, whatever the lent buffer holds
-extract-fits : extractRefusal 1 exampleWord (replicate 15 0) ≡ 0
+pub extract-fits : extractRefusal 1 exampleWord (replicate 15 0) ≡ 0
 unfolding if_then_else_ upFrom _⊕_ size double times mul dot gf2 flatMap all only vanish bitsOf sumsOf ones bitChecks wordOf locations1 plan1 known planOf
     noLevel levelOf rowAt marksAt marksOf firstFailed unasked inMemory stripeFits allBelow across rowsHold totalsHold isCodeword checkPlacesOf carried
     extractRefusal exampleWord
@@ -179,7 +178,7 @@ extract-fits = refl
 pub extract-encoded : extractRefusal 1 (encodeStripe 1 exampleData blank) (replicate 15 0) ≡ 0
 extract-encoded = subst (λ X. extractRefusal 1 X (replicate 15 0) ≡ 0) (sym is-encoded) extract-fits
 
--- ---- silence: other bytes under the example's marks, no symbols at all
+-- ---- silence's: bytes under the example's marks that are no symbols at all
 
 unfoldable pub otherStripe : List ℕ
 otherStripe = set (set exampleStripe 1 255) 7 7
@@ -199,3 +198,9 @@ pub still-marked : getD (marksOf (planOf 1) (mendMarks 1 blank (row1 (0 ∷ 1 �
 unfolding upFrom flatMap bitsOf plan1 planOf marksAt marksOf wordOf restored stuck clashed unchanged blankRestored row1 cases done
 still-marked =
     ap (λ (cs : List Case). getD (marksOf (planOf 1) (getD (map (λ (c : Case). c .marksAfter) cs) 3 [])) 7 true) (sheet .0)
+
+-- ---- a refusal: a plan that is not known
+
+pub is-refused : lentRefusal 4 blank [] ≡ 10
+unfolding if_then_else_ known firstFailed inMemory lentRefusal
+is-refused = refl
