@@ -123,7 +123,14 @@ pub fn row_step(bench: Bench, row: usize) -> Stepped
 {
     let plan = bench.plan;
     let level = bench.level;
-    let number = refusal::bench_refusal(plan, level, &bench.symbols, &bench.marks, &bench.sums, row < plan::rows(plan));
+    let number = refusal::bench_refusal(
+        plan,
+        level,
+        &bench.symbols,
+        &bench.marks,
+        &bench.sums,
+        row < plan::rows(plan),
+    );
     if number != 0 {
         return Stepped {
             bench: bench,
@@ -183,9 +190,9 @@ pub fn mend(plan: usize, stripe: &mut [u8], marks: &mut [u32]) -> Report
     ensures { λ _. ⌜ now (stripe .exit) ≡ mendStripe plan (now (stripe .entry)) (now (marks .entry)) ⌝ }
     ensures { λ _. ⌜ now (marks .exit) ≡ mendMarks plan (now (stripe .entry)) (now (marks .entry)) ⌝ }
 {
-    let number = refusal::lent_refusal(plan, &stripe[..], &marks[..]);
-    if number != 0 {
-        return mending::bare_report(Answer::Refused(number));
+    let refused = refusal::lent_refusal(plan, &stripe[..], &marks[..]);
+    if refused != 0 {
+        return mending::bare_report(Answer::Refused(refused));
     }
     let ended = mending::rounds(plan, &stripe[..], &marks[..]);
     let report = ended.report;
