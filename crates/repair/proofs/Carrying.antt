@@ -10,7 +10,8 @@ use Rattle.field.specs.Lists.{if_then_else_, upFrom}
 use Rattle.repair.specs.Plan.{Plan, wordOf, plan1, plan2, plan3, noPlan, planOf, marksOf}
 use Rattle.repair.specs.Refusal.{inMemory, stripeFits}
 use Rattle.repair.specs.Rounds.{mendStripe}
-use Rattle.repair.specs.Codeword.{checkPlacesOf, carried, placed, taken, encoded, encodeRefusal, outcomeOf, encodeStripe, extracted, extractRefusal, extractData}
+use Rattle.repair.specs.Codeword.{checkPlacesOf, carried, placed, taken, outcomeOf}
+use Rattle.repair.specs.Codeword.{encoded, encodeRefusal, encodeStripe, extracted, extractRefusal, extractData}
 use Rattle.repair.specs.Tables.{padded, placeTable, unmarked}
 use Rattle.repair.specs.declared.Outcome.the-variants.{Done, Refused}
 use Rattle.repair.proofs.Plans.{of-plans}
@@ -89,8 +90,8 @@ module _ (p : ℕ) (ds stripe : List ℕ) {n : ℕ} (e : n ≡ encodeRefusal p d
   unfolding encodeStripe
   encode-refused ne = (outcome-refused e ne, left-old e _ _ ne)
 
-  pub encode-done : {words D X : List ℕ} → n ≡ 0 → words ≡ planOf p .checkPlaces → D ≡ placed (marksOf (planOf p) words) ds → X ≡ mendStripe p D words
-      → (Done ≡ outcomeOf (encodeRefusal p ds stripe)) × (X ≡ encodeStripe p ds stripe)
+  pub encode-done : {words D X : List ℕ} → n ≡ 0 → words ≡ planOf p .checkPlaces → D ≡ placed (marksOf (planOf p) words) ds
+      → X ≡ mendStripe p D words → (Done ≡ outcomeOf (encodeRefusal p ds stripe)) × (X ≡ encodeStripe p ds stripe)
   unfolding checkPlacesOf encoded encodeStripe
   encode-done {words} z ew ed ex =
       (outcome-done e z, ex ∙ ap (λ D. mendStripe p D words) ed ∙ ap (λ w. mendStripe p (placed (marksOf (planOf p) w) ds) w) ew ∙ left-new e _ _ z)

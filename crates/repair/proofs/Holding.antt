@@ -243,7 +243,8 @@ module _ (p : ℕ) (stripe : List ℕ) {n : ℕ} (e : n ≡ testRefusal p stripe
     unfolding if_then_else_ tested
     tested-by =
         let k = testRefusal p stripe in
-        ap (λ b. if b then Yes else No) holds ∙ sym (ap (λ b. if b then if isCodeword (planOf p) stripe then Yes else No else Refused k) (eq-eqb k 0 (sym e ∙ z)))
+        ap (λ b. if b then Yes else No) holds
+        ∙ sym (ap (λ b. if b then if isCodeword (planOf p) stripe then Yes else No else Refused k) (eq-eqb k 0 (sym e ∙ z)))
 
     pub tested-yes : b ≡ true → Yes ≡ tested p stripe
     unfolding if_then_else_

@@ -116,7 +116,8 @@ module _ {f : ℕ → List Bool} {xs old : List ℕ} where
           count = en ∙ ap (λ n. n + unmarked (f k)) (t .count) ∙ sym (unmarked-next f k);
           done =
               eu ∙ ap (λ l. sets l next (taken (f k) (drop (length ms) xs))) (t .done)
-              ∙ ap (λ i. sets (sets old 0 (taken ms xs)) i (taken (f k) (drop (length ms) xs))) (t .count ∙ sym (taken-length ms xs long) ∙ sym (zero-add _))
+              ∙ ap (λ i. sets (sets old 0 (taken ms xs)) i (taken (f k) (drop (length ms) xs)))
+              (t .count ∙ sym (taken-length ms xs long) ∙ sym (zero-add _))
               ∙ sym (sets-append (taken ms xs) (taken (f k) (drop (length ms) xs)) old 0)
               ∙ ap (sets old 0) (sym (taken-append ms (f k) xs) ∙ ap (λ l. taken l xs) (sym (marks-next f k)));
         }
@@ -231,7 +232,8 @@ pub record AtRow (words xs ds : List ℕ) (n r next : ℕ) : Type 0 where
   pub lent : let row = part (r * n) n xs in
       (length row ≤ 32) × (unmarked (bitsOf (length row) (getD words r 0)) ≤ length (take (length ds - next) (drop next ds)))
 
-module _ {p q rows n : ℕ} (is : Numbers p q rows n) (words xs : List ℕ) (long : length xs ≡ planOf p .rows * planOf p .columns) {r : ℕ} (more : r < rows) where
+module _ {p q rows n : ℕ} (is : Numbers p q rows n) (words xs : List ℕ) (long : length xs ≡ planOf p .rows * planOf p .columns)
+    {r : ℕ} (more : r < rows) where
   abbrev P : Plan
   P = planOf p
 
@@ -248,7 +250,8 @@ module _ {p q rows n : ℕ} (is : Numbers p q rows n) (words xs : List ℕ) (lon
   unfolding marksAt
   its-marks = ap (λ k. bitsOf k (getD words r 0)) row-wide
 
-  pub at-row : (ds : List ℕ) → length ds ≡ unmarked (marksOf P words) → {next : ℕ} → next ≡ unmarked (marksTo (marksAt P words) r) → AtRow words xs ds n r next
+  pub at-row : (ds : List ℕ) → length ds ≡ unmarked (marksOf P words) → {next : ℕ} → next ≡ unmarked (marksTo (marksAt P words) r)
+      → AtRow words xs ds n r next
   unfolding marksOf
   at-row ds all {next} count =
       let h : r < P .rows = rw (is .high) at more in
@@ -281,7 +284,8 @@ module _ {p q rows n : ℕ} (is : Numbers p q rows n) (words xs : List ℕ) (lon
       let short : length (drop next s) ≤ length s - next = simp length-drop (omega arith) in
       let none : drop (length s - next) (drop next s) ≡ [] = drop-of-length-le (drop next s) short in
       taking-turns (omega (arith, row-ends, start)) t (ap (λ k. next + k) (em ∙ ap unmarked its-marks))
-      (ap (λ l. take next s ++ (v ++ l)) none ∙ ap (λ l. take next s ++ l) (append-nil v ∙ ev ∙ ap (λ l. sets l 0 (taken (bitsOf (length row) (getD words r 0)) row)) (rest-of next s))
+      (ap (λ l. take next s ++ (v ++ l)) none
+      ∙ ap (λ l. take next s ++ l) (append-nil v ∙ ev ∙ ap (λ l. sets l 0 (taken (bitsOf (length row) (getD words r 0)) row)) (rest-of next s))
       ∙ sets-behind next (taken (bitsOf (length row) (getD words r 0)) row) s
       ∙ ap (sets s next) (ap₂ taken its-marks (part-of (r * n) n xs ∙ ap₂ (λ k i. take k (drop i xs)) (is .wide ∙ sym (marks-length P words r)) start)
       ∙ taken-front (marksAt P words r) (drop (length (marksTo (marksAt P words) r)) xs)))

@@ -28,16 +28,17 @@ slice-aggregate-place c = c .before .rows .ensures ∙ sym (lent-words _ (c .bef
 
 place-requires : tie.Need-place-requires
 place-requires c κs =
-    let high = c .before .before .rows .ensures in
-    let table = c .before .before .before .check-places .ensures in
-    let fits = encode-fits _ _ _ (c .before .before .before .before .before .encode-refusal .ensures) (c .before .before .before .before .if1 .left) in
+    let at = c .before .before in
+    let high = at .rows .ensures in
+    let table = at .before .check-places .ensures in
+    let fits = encode-fits _ _ _ (at .before .before .before .encode-refusal .ensures) (at .before .before .if1 .left) in
     (lent-words _ high table, (lent-count _ high table (fits .0), fits .1))
 
 array-borrow-prefix-words : tie.Need-array-borrow-prefix-words
-array-borrow-prefix-words c = lent-room _ (c .before .before .before .before .before .before .rows .ensures) (c .before .before .before .before .before .before .before .check-places .ensures)
+array-borrow-prefix-words c = let at = c .before .before .before .before .before .before in lent-room _ (at .rows .ensures) (at .before .check-places .ensures)
 
 slice-aggregate-mend : tie.Need-slice-aggregate-mend
-slice-aggregate-mend c = c .before .before .before .before .before .before .before .rows .ensures ∙ sym (lent-words _ (c .before .before .before .before .before .before .before .rows .ensures) (c .before .before .before .before .before .before .before .before .check-places .ensures))
+slice-aggregate-mend c = let at = c .before .before .before .before .before .before .before in at .rows .ensures ∙ sym (lent-words _ (at .rows .ensures) (at .before .check-places .ensures))
 
 mend-requires : tie.Need-mend-requires
 mend-requires c κs = search needs
@@ -47,8 +48,10 @@ same-length-2 c = search needs
 
 returns-2 : tie.Need-returns-2
 returns-2 c =
-    encode-done _ _ _ (c .before .before .before .before .before .before .before .before .before .before .before .before .before .before .encode-refusal .ensures) (c .before .before .before .before .before .before .before .before .before .before .before .before .before .if1 .left)
-    (lent-places _ (c .before .before .before .before .before .before .before .before .before .before .before .rows .ensures) (c .before .before .before .before .before .before .before .before .before .before .before .before .check-places .ensures)) (c .before .before .before .before .before .before .before .before .place .ensures) (c .before .before .before .mend .ensures .1 .0)
+    let at = c .before .before .before .before .before .before .before .before .before .before .before in
+    let put = c .before .before .before .before .before .before .before .before .place .ensures in
+    encode-done _ _ _ (at .before .before .before .encode-refusal .ensures) (at .before .before .if1 .left)
+    (lent-places _ (at .rows .ensures) (at .before .check-places .ensures)) put (c .before .before .before .mend .ensures .1 .0)
 
 pub encode-spec : {M : Type 1} → statement M
 encode-spec =

@@ -28,9 +28,10 @@ slice-aggregate-take c = c .before .rows .ensures ∙ sym (lent-words _ (c .befo
 
 take-requires : tie.Need-take-requires
 take-requires c κs =
-    let high = c .before .before .rows .ensures in
-    let table = c .before .before .before .check-places .ensures in
-    let fits = extract-fits _ _ _ (c .before .before .before .before .before .extract-refusal .ensures) (c .before .before .before .before .if1 .left) in
+    let at = c .before .before in
+    let high = at .rows .ensures in
+    let table = at .before .check-places .ensures in
+    let fits = extract-fits _ _ _ (at .before .before .before .extract-refusal .ensures) (at .before .before .if1 .left) in
     (lent-words _ high table, (lent-count _ high table (fits .0), fits .1))
 
 same-length-2 : tie.Need-same-length-2
@@ -38,8 +39,9 @@ same-length-2 c = search needs
 
 returns-2 : tie.Need-returns-2
 returns-2 c =
-    extract-done _ _ _ (c .before .before .before .before .before .before .before .before .extract-refusal .ensures) (c .before .before .before .before .before .before .before .if1 .left)
-    (lent-places _ (c .before .before .before .before .before .rows .ensures) (c .before .before .before .before .before .before .check-places .ensures)) (c .before .before .take .ensures)
+    let at = c .before .before .before .before .before in
+    extract-done _ _ _ (at .before .before .before .extract-refusal .ensures) (at .before .before .if1 .left)
+    (lent-places _ (at .rows .ensures) (at .before .check-places .ensures)) (c .before .before .take .ensures)
 
 pub extract-spec : {M : Type 1} → statement M
 extract-spec =

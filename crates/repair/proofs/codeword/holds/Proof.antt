@@ -24,7 +24,7 @@ slice-aggregate-levels-hold : tie.Need-slice-aggregate-levels-hold
 slice-aggregate-levels-hold c = search needs
 
 levels-hold-requires : tie.Need-levels-hold-requires
-levels-hold-requires c κs = ((c .before .before .before .before .before .before .before .products .ensures, c .before .before .before .before .before .before .row-checks .ensures), c .before .before .before .before .before .before .before .before .before .pre)
+levels-hold-requires c κs = let lent = c .before .before .before .before .before .before in ((lent .before .products .ensures, lent .row-checks .ensures), lent .before .before .before .pre)
 
 returns-2 : tie.Need-returns-2
 returns-2 c = holds-by _ _ (c .before .before .before .before .rows-hold .ensures) (not-false _ (c .before .before .before .if1 .left)) (c .levels-hold .ensures)

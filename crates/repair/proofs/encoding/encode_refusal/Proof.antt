@@ -6,6 +6,7 @@ use borrow.Author.Tests.{not-true, not-false}
 use denote.Ref.{now}
 use lib.Dec.{eqb}
 use lib.ListN.{length}
+use Rattle.field.specs.Field.{size}
 use Rattle.field.proofs.Ring.{size-pos}
 use Rattle.repair.specs.Plan.{planOf, known}
 use Rattle.repair.specs.Refusal.{unasked, inMemory, stripeFits, allBelow}
@@ -20,6 +21,12 @@ is-known c = sym (c .before .is-known .ensures) ∙ not-false _ (c .if1 .left)
 fit : (c : tie.Else2) → let a = c .before .before .before .before .before .before .args in
     (eqb (length (now (a .«data»))) (carried (planOf (a .plan))) && stripeFits (planOf (a .plan)) (now (a .stripe))) ≡ true
 fit c = sym (c .before .lengths-fit .ensures) ∙ not-false _ (c .if2 .left)
+
+below : (c : tie.After-all-below) → let a = c .before .before .before .before .before .before .before .before .args in
+    allBelow (size (planOf (a .plan) .field)) (now (a .«data»)) ≡ c .all-below .result
+below c =
+    let a = c .before .before .before .before .before .before .before .before .args in
+    ap (λ q. allBelow q (now (a .«data»))) (sym (c .before .field .ensures .its-size)) ∙ sym (c .all-below .ensures)
 
 is-known-requires : tie.Need-is-known-requires
 is-known-requires c κs = search needs
@@ -46,15 +53,14 @@ unfolding unasked inMemory encodeRefusal
 returns-3 c =
     sym
     (passes 10 _ (is-known (c .before .before .before .before .before)) ∙ passes 11 _ (fit (c .before .before .before)) ∙ passes 15 _ refl ∙ passes 12 _ refl
-    ∙ fails 13 _ (ap (λ q. allBelow q (now (c .before .before .before .before .before .before .before .before .before .args .«data»))) (sym (c .before .before .field .ensures .its-size)) ∙ sym (c .before .all-below .ensures) ∙ not-true _ (c .if3 .taken)))
+    ∙ fails 13 _ (below (c .before) ∙ not-true _ (c .if3 .taken)))
 
 returns-4 : tie.Need-returns-4
 unfolding unasked inMemory encodeRefusal
 returns-4 c =
     sym
     (passes 10 _ (is-known (c .before .before .before .before .before)) ∙ passes 11 _ (fit (c .before .before .before)) ∙ passes 15 _ refl ∙ passes 12 _ refl
-    ∙ passes 13 _ (ap (λ q. allBelow q (now (c .before .before .before .before .before .before .before .before .before .args .«data»))) (sym (c .before .before .field .ensures .its-size)) ∙ sym (c .before .all-below .ensures) ∙ not-false _ (c .if3 .left))
-    ∙ passes 14 _ refl ∙ passes 16 _ refl ∙ none-fails)
+    ∙ passes 13 _ (below (c .before) ∙ not-false _ (c .if3 .left)) ∙ passes 14 _ refl ∙ passes 16 _ refl ∙ none-fails)
 
 pub encode-refusal-spec : {M : Type 1} → statement M
 encode-refusal-spec = tie.close (tie.spec is-known-requires returns lengths-fit-requires returns-2 field-requires all-below-requires returns-3 returns-4)

@@ -30,8 +30,11 @@ fit : (c : tie.Else2) → let a = c .before .before .before .before .before .bef
     (stripeFits (planOf (a .plan)) (now (a .stripe)) && eqb (length (now (a .«data»))) (carried (planOf (a .plan)))) ≡ true
 fit c = lengths (c .before) ∙ not-false _ (c .if2 .left)
 
-below : (c : tie.After-all-below) → let a = c .before .before .before .before .before .before .before .before .args in allBelow (size (planOf (a .plan) .field)) (now (a .stripe)) ≡ c .all-below .result
-below c = ap (λ q. allBelow q (now (c .before .before .before .before .before .before .before .before .args .stripe))) (sym (c .before .field .ensures .its-size)) ∙ sym (c .all-below .ensures)
+below : (c : tie.After-all-below) → let a = c .before .before .before .before .before .before .before .before .args in
+    allBelow (size (planOf (a .plan) .field)) (now (a .stripe)) ≡ c .all-below .result
+below c =
+    let a = c .before .before .before .before .before .before .before .before .args in
+    ap (λ q. allBelow q (now (a .stripe))) (sym (c .before .field .ensures .its-size)) ∙ sym (c .all-below .ensures)
 
 is-known-requires : tie.Need-is-known-requires
 is-known-requires c κs = search needs
@@ -57,7 +60,8 @@ returns-3 : tie.Need-returns-3
 unfolding unasked inMemory extractRefusal
 returns-3 c =
     sym
-    (passes 10 _ (is-known (c .before .before .before .before .before)) ∙ passes 11 _ (fit (c .before .before .before)) ∙ passes 15 _ refl ∙ passes 12 _ refl ∙ fails 13 _ (below (c .before) ∙ not-true _ (c .if3 .taken)))
+    (passes 10 _ (is-known (c .before .before .before .before .before)) ∙ passes 11 _ (fit (c .before .before .before)) ∙ passes 15 _ refl ∙ passes 12 _ refl
+    ∙ fails 13 _ (below (c .before) ∙ not-true _ (c .if3 .taken)))
 
 holds-requires : tie.Need-holds-requires
 unfolding stripeFits
@@ -67,14 +71,16 @@ returns-4 : tie.Need-returns-4
 unfolding unasked inMemory extractRefusal
 returns-4 c =
     sym
-    (passes 10 _ (is-known (c .before .before .before .before .before .before .before)) ∙ passes 11 _ (fit (c .before .before .before .before .before)) ∙ passes 15 _ refl ∙ passes 12 _ refl ∙ passes 13 _ (below (c .before .before .before) ∙ not-false _ (c .before .before .if3 .left))
+    (passes 10 _ (is-known (c .before .before .before .before .before .before .before)) ∙ passes 11 _ (fit (c .before .before .before .before .before)) ∙ passes 15 _ refl ∙ passes 12 _ refl
+    ∙ passes 13 _ (below (c .before .before .before) ∙ not-false _ (c .before .before .if3 .left))
     ∙ passes 14 _ refl ∙ fails 16 _ (sym (c .before .holds .ensures) ∙ not-true _ (c .if4 .taken)))
 
 returns-5 : tie.Need-returns-5
 unfolding unasked inMemory extractRefusal
 returns-5 c =
     sym
-    (passes 10 _ (is-known (c .before .before .before .before .before .before .before)) ∙ passes 11 _ (fit (c .before .before .before .before .before)) ∙ passes 15 _ refl ∙ passes 12 _ refl ∙ passes 13 _ (below (c .before .before .before) ∙ not-false _ (c .before .before .if3 .left))
+    (passes 10 _ (is-known (c .before .before .before .before .before .before .before)) ∙ passes 11 _ (fit (c .before .before .before .before .before)) ∙ passes 15 _ refl ∙ passes 12 _ refl
+    ∙ passes 13 _ (below (c .before .before .before) ∙ not-false _ (c .before .before .if3 .left))
     ∙ passes 14 _ refl ∙ passes 16 _ (sym (c .before .holds .ensures) ∙ not-false _ (c .if4 .left)) ∙ none-fails)
 
 pub extract-refusal-spec : {M : Type 1} → statement M

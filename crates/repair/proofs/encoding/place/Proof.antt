@@ -19,8 +19,9 @@ abbrev μ-loop : tie.MeasureT-loop
 here : (c : tie.In-loop Inv-loop μ-loop) → let a = c .before .before .before .before .before .before .args in
     AtRow (now (a .words)) (c .before .loop .stripe) (now (a .«data»)) (c .before .before .facts-of .result .columns) (c .before .loop .r) (c .before .loop .next)
 here c =
-    at-row (numbers _ (c .before .before .facts-of .ensures)) _ _ (placing-length (c .before .loop .inv .1) ∙ c .before .before .before .before .before .before .pre .1 .1) (c .loop-test .taken) _
-    (c .before .before .before .before .before .before .pre .1 .0) (c .before .loop .inv .1 .count)
+    let start = c .before .before .before .before .before .before in
+    at-row (numbers _ (c .before .before .facts-of .ensures)) _ _ (placing-length (c .before .loop .inv .1) ∙ start .pre .1 .1) (c .loop-test .taken) _ (start .pre .1 .0)
+    (c .before .loop .inv .1 .count)
 
 facts-of-requires : tie.Need-facts-of-requires Inv-loop μ-loop
 facts-of-requires c κs = search needs
@@ -35,10 +36,10 @@ add-end : tie.Need-add-end Inv-loop μ-loop
 add-end c = omega (arith, here c .ends, here c .few)
 
 mul-place-row : tie.Need-mul-place-row Inv-loop μ-loop
-mul-place-row c = omega (arith, c .before .before .before .before .before .before .pre .0, c .before .before .facts-of .ensures .rows, c .before .before .before .before .before .before .good)
+mul-place-row c = let start = c .before .before .before .before .before .before in omega (arith, start .pre .0, c .before .before .facts-of .ensures .rows, start .good)
 
 shared-slice-read-place-row : tie.Need-shared-slice-read-place-row Inv-loop μ-loop
-shared-slice-read-place-row c = omega (arith, c .before .before .before .before .before .before .before .pre .0, c .before .before .before .facts-of .ensures .rows)
+shared-slice-read-place-row c = let start = c .before .before .before .before .before .before .before in omega (arith, start .pre .0, c .before .before .before .facts-of .ensures .rows)
 
 sub-place-row : tie.Need-sub-place-row Inv-loop μ-loop
 sub-place-row c = omega (arith, here (c .before) .room)
@@ -62,7 +63,9 @@ place-row-requires : tie.Need-place-row-requires Inv-loop μ-loop
 place-row-requires c κs = here (c .before .before .before) .lent
 
 add-next : tie.Need-add-next Inv-loop μ-loop
-add-next c = omega (arith, here (c .before .before .before .before .before .before) .room, c .before .before .place-row .ensures .0, c .before .before .before .before .before .before .before .before .before .before .before .before .good)
+add-next c =
+    let at = c .before .before .before .before .before .before .before in
+    omega (arith, here (c .before .before .before .before .before .before) .room, c .before .before .place-row .ensures .0, at .before .before .before .before .before .good)
 
 add-r : tie.Need-add-r Inv-loop μ-loop
 add-r c = search needs
@@ -71,17 +74,22 @@ loop-less : tie.Need-loop-less Inv-loop μ-loop
 loop-less c = search needs
 
 loop-again : tie.Need-loop-again Inv-loop μ-loop
-loop-again c = (
-  omega arith,
-  row-turns (numbers _ (c .before .before .before .before .before .before .before .before .facts-of .ensures)) _ _ (placing-length (c .before .before .before .before .before .before .before .loop .inv .1) ∙ c .before .before .before .before .before .before .before .before .before .before .before .before .pre .1 .1) (c .before .before .before .before .before .before .loop-test .taken) (c .before .before .before .before .before .before .before .loop .inv .1)
-      (c .before .before .place-row .ensures .0) (c .before .before .place-row .ensures .1),
-)
+loop-again c =
+    let at = c .before .before .before .before .before .before .before in
+    let turn = c .before .before .place-row .ensures in (
+      omega arith,
+      row-turns (numbers _ (at .before .facts-of .ensures)) _ _ (placing-length (at .loop .inv .1) ∙ at .before .before .before .before .before .pre .1 .1)
+          (c .before .before .before .before .before .before .loop-test .taken) (at .loop .inv .1) (turn .0) (turn .1),
+    )
 
 same-length : tie.Need-same-length Inv-loop μ-loop
 same-length c = placing-length (c .before .loop .inv .1)
 
 returns : tie.Need-returns Inv-loop μ-loop
-returns c = rows-placed _ _ (omega (arith, c .before .loop .inv .0, c .loop-test .left, c .before .before .facts-of .ensures .rows)) (c .before .before .before .before .before .before .pre .1 .1) (c .before .loop .inv .1)
+returns c =
+    let start = c .before .before .before .before .before .before in
+    rows-placed _ _ (omega (arith, c .before .loop .inv .0, c .loop-test .left, c .before .before .facts-of .ensures .rows))
+    (start .pre .1 .1) (c .before .loop .inv .1)
 
 pub place-spec : {M : Type 1} → statement M
 place-spec =

@@ -1,9 +1,10 @@
 -- `encoding::place_row` meets its contract: after c turns the first c columns are written. Assumes nothing.
 use mathlib.Core.Path.{_≡_, refl}
 use mathlib.Core.Logic.{⊎-elim}
-use Prim.Native.Nat.{_-_, _≤_}
+use Prim.Native.Nat.{_-_, _≤_, _<_}
 use native.Mathlib.Omega.{arith}
 use borrow.Author.Needs.{needs}
+use denote.Ref.{now}
 use lib.ListN.{length}
 use Rattle.repair.proofs.Placing.{Placing, placing-starts, placing-length, bitOf, bit-within, place-data, place-none, row-placed}
 use Rattle.repair.proofs.encoding.place_row.Statement.{statement}
@@ -15,6 +16,9 @@ Inv-loop word «data» row₀ next₀ c₀ c-end row next c = (c-end ≡ length 
 abbrev μ-loop : tie.MeasureT-loop
 μ-loop word «data» row₀ next₀ c₀ c-end row next c = length row₀ - c
 
+within : (c : tie.Then1 Inv-loop μ-loop) → c .before .before .loop .next < length (now (c .before .before .before .args .«data»))
+within c = bit-within _ _ (c .if1 .taken) (c .before .loop-test .taken) (c .before .before .before .pre .1) (c .before .before .loop .inv .2 .count)
+
 loop-holds : tie.Need-loop-holds Inv-loop μ-loop
 loop-holds c = (refl, omega arith, placing-starts)
 
@@ -25,14 +29,13 @@ shr-mark : tie.Need-shr-mark Inv-loop μ-loop
 shr-mark c = search needs
 
 shared-slice-read-row : tie.Need-shared-slice-read-row Inv-loop μ-loop
-shared-slice-read-row c = bit-within _ _ (c .before .if1 .taken) (c .before .before .loop-test .taken) (c .before .before .before .before .pre .1) (c .before .before .before .loop .inv .2 .count)
+shared-slice-read-row c = within (c .before)
 
 slice-write-row : tie.Need-slice-write-row Inv-loop μ-loop
 slice-write-row c = omega (arith, placing-length (c .before .before .before .loop .inv .2))
 
 add-next : tie.Need-add-next Inv-loop μ-loop
-add-next c =
-    omega (arith, c .before .before .before .before .good, bit-within _ _ (c .before .if1 .taken) (c .before .before .loop-test .taken) (c .before .before .before .before .pre .1) (c .before .before .before .loop .inv .2 .count))
+add-next c = omega (arith, c .before .before .before .before .good, within (c .before))
 
 slice-write-row-2 : tie.Need-slice-write-row-2 Inv-loop μ-loop
 slice-write-row-2 c = omega (arith, placing-length (c .before .before .loop .inv .2))

@@ -19,8 +19,9 @@ abbrev μ-loop : tie.MeasureT-loop
 here : (c : tie.In-loop Inv-loop μ-loop) → let a = c .before .before .before .before .before .before .args in
     AtRow (now (a .words)) (now (a .stripe)) (c .before .loop .«data») (c .before .before .facts-of .result .columns) (c .before .loop .r) (c .before .loop .next)
 here c =
-    at-row (numbers _ (c .before .before .facts-of .ensures)) _ _ (c .before .before .before .before .before .before .pre .1 .1) (c .loop-test .taken) _
-    (taking-length (c .before .loop .inv .1) ∙ c .before .before .before .before .before .before .pre .1 .0) (c .before .loop .inv .1 .count)
+    let start = c .before .before .before .before .before .before in
+    at-row (numbers _ (c .before .before .facts-of .ensures)) _ _ (start .pre .1 .1) (c .loop-test .taken) _ (taking-length (c .before .loop .inv .1) ∙ start .pre .1 .0)
+    (c .before .loop .inv .1 .count)
 
 facts-of-requires : tie.Need-facts-of-requires Inv-loop μ-loop
 facts-of-requires c κs = search needs
@@ -35,10 +36,10 @@ add-end : tie.Need-add-end Inv-loop μ-loop
 add-end c = omega (arith, here c .ends, here c .few)
 
 mul-take-row : tie.Need-mul-take-row Inv-loop μ-loop
-mul-take-row c = omega (arith, c .before .before .before .before .before .before .pre .0, c .before .before .facts-of .ensures .rows, c .before .before .before .before .before .before .good)
+mul-take-row c = let start = c .before .before .before .before .before .before in omega (arith, start .pre .0, c .before .before .facts-of .ensures .rows, start .good)
 
 shared-slice-read-take-row : tie.Need-shared-slice-read-take-row Inv-loop μ-loop
-shared-slice-read-take-row c = omega (arith, c .before .before .before .before .before .before .before .pre .0, c .before .before .before .facts-of .ensures .rows)
+shared-slice-read-take-row c = let start = c .before .before .before .before .before .before .before in omega (arith, start .pre .0, c .before .before .before .facts-of .ensures .rows)
 
 sub-take-row : tie.Need-sub-take-row Inv-loop μ-loop
 sub-take-row c = search needs
@@ -62,7 +63,9 @@ take-row-requires : tie.Need-take-row-requires Inv-loop μ-loop
 take-row-requires c κs = here (c .before .before .before) .lent
 
 add-next : tie.Need-add-next Inv-loop μ-loop
-add-next c = omega (arith, here (c .before .before .before .before .before .before) .room, c .before .before .take-row .ensures .0, c .before .before .before .before .before .before .before .before .before .before .before .before .good, taking-length (c .before .before .before .before .before .before .before .loop .inv .1))
+add-next c =
+    let at = c .before .before .before .before .before .before .before in
+    omega (arith, here (c .before .before .before .before .before .before) .room, c .before .before .take-row .ensures .0, at .before .before .before .before .before .good, taking-length (at .loop .inv .1))
 
 add-r : tie.Need-add-r Inv-loop μ-loop
 add-r c = search needs
@@ -71,17 +74,22 @@ loop-less : tie.Need-loop-less Inv-loop μ-loop
 loop-less c = search needs
 
 loop-again : tie.Need-loop-again Inv-loop μ-loop
-loop-again c = (
-  omega arith,
-  row-takes (numbers _ (c .before .before .before .before .before .before .before .before .facts-of .ensures)) _ _ (c .before .before .before .before .before .before .before .before .before .before .before .before .pre .1 .1) (c .before .before .before .before .before .before .loop-test .taken) (c .before .before .before .before .before .before .before .loop .inv .1)
-      (c .before .before .take-row .ensures .0) (c .before .before .take-row .ensures .1),
-)
+loop-again c =
+    let at = c .before .before .before .before .before .before .before in
+    let turn = c .before .before .take-row .ensures in (
+      omega arith,
+      row-takes (numbers _ (at .before .facts-of .ensures)) _ _ (at .before .before .before .before .before .pre .1 .1)
+          (c .before .before .before .before .before .before .loop-test .taken) (at .loop .inv .1) (turn .0) (turn .1),
+    )
 
 same-length : tie.Need-same-length Inv-loop μ-loop
 same-length c = taking-length (c .before .loop .inv .1)
 
 returns : tie.Need-returns Inv-loop μ-loop
-returns c = rows-taken _ _ (omega (arith, c .before .loop .inv .0, c .loop-test .left, c .before .before .facts-of .ensures .rows)) (c .before .before .before .before .before .before .pre .1 .1) (c .before .before .before .before .before .before .pre .1 .0) (c .before .loop .inv .1)
+returns c =
+    let start = c .before .before .before .before .before .before in
+    rows-taken _ _ (omega (arith, c .before .loop .inv .0, c .loop-test .left, c .before .before .facts-of .ensures .rows))
+    (start .pre .1 .1) (start .pre .1 .0) (c .before .loop .inv .1)
 
 pub take-spec : {M : Type 1} → statement M
 take-spec =

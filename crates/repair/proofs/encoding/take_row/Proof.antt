@@ -1,9 +1,10 @@
 -- `encoding::take_row` meets its contract: after c turns the symbols of the first c columns are taken. Assumes nothing.
 use mathlib.Core.Path.{_≡_, refl}
 use mathlib.Core.Logic.{⊎-elim}
-use Prim.Native.Nat.{_-_, _≤_}
+use Prim.Native.Nat.{_-_, _≤_, _<_}
 use native.Mathlib.Omega.{arith}
 use borrow.Author.Needs.{needs}
+use denote.Ref.{now}
 use lib.ListN.{length}
 use Rattle.repair.proofs.Placing.{Taking, taking-starts, taking-length, bitOf, bit-within, take-symbol, take-none, row-taken}
 use Rattle.repair.proofs.encoding.take_row.Statement.{statement}
@@ -14,6 +15,9 @@ Inv-loop word row data₀ next₀ c₀ c-end «data» next c = (c-end ≡ length
 
 abbrev μ-loop : tie.MeasureT-loop
 μ-loop word row data₀ next₀ c₀ c-end «data» next c = length row - c
+
+within : (c : tie.Then1 Inv-loop μ-loop) → c .before .before .loop .next < length (now (c .before .before .before .args .«data»))
+within c = bit-within _ _ (c .if1 .taken) (c .before .loop-test .taken) (c .before .before .before .pre .1) (c .before .before .loop .inv .2 .count)
 
 loop-holds : tie.Need-loop-holds Inv-loop μ-loop
 loop-holds c = (refl, omega arith, taking-starts)
@@ -28,12 +32,10 @@ shared-slice-read-data : tie.Need-shared-slice-read-data Inv-loop μ-loop
 shared-slice-read-data c = search needs
 
 slice-write-data : tie.Need-slice-write-data Inv-loop μ-loop
-slice-write-data c =
-    omega (arith, taking-length (c .before .before .before .loop .inv .2), bit-within _ _ (c .before .if1 .taken) (c .before .before .loop-test .taken) (c .before .before .before .before .pre .1) (c .before .before .before .loop .inv .2 .count))
+slice-write-data c = omega (arith, taking-length (c .before .before .before .loop .inv .2), within (c .before))
 
 add-next : tie.Need-add-next Inv-loop μ-loop
-add-next c =
-    omega (arith, c .before .before .before .before .good, bit-within _ _ (c .before .if1 .taken) (c .before .before .loop-test .taken) (c .before .before .before .before .pre .1) (c .before .before .before .loop .inv .2 .count))
+add-next c = omega (arith, c .before .before .before .before .good, within (c .before))
 
 add-c : tie.Need-add-c Inv-loop μ-loop
 add-c c = search needs
