@@ -1,3 +1,4 @@
 -- What is shown of the definitions.
 pub mod Sheet
 pub mod Samples
+pub mod Writing

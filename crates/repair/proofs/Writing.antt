@@ -1,0 +1,93 @@
+-- Buffers written from a place on: runs of stores, and the loops that make them. Assumes nothing.
+use mathlib.Core.Path.{_≡_, refl, sym, ap, ap₂, _∙_}
+use mathlib.Core.List.{List, [], _∷_, _++_, flatMap, append-nil, append-assoc}
+use Prim.Native.Nat.{ℕ, zero, suc, _+_, _≤_, _<_}
+use native.Mathlib.Nat.{add-zero, add-suc, suc-add, zero-add, add-assoc, le-of-eq}
+use native.Mathlib.Numerals.{add-one}
+use native.Mathlib.Omega.{arith}
+use lib.ListN.{length, getD, set, take, drop, length-append, drop-of-length-le}
+use lib.Seq.{sets, sets-eq, length-sets, length-take-le, take-all, take-suc}
+
+-- a run of stores and then another is one
+pub sets-append : (a b l : List ℕ) (i : ℕ) → sets l i (a ++ b) ≡ sets (sets l i a) (i + length a) b
+sets-append [] b l i = ap (λ k. sets l k b) (sym (add-zero i))
+sets-append (v ∷ a) b l i =
+    sets-append a b (set l i v) (suc i)
+    ∙ ap (λ k. sets (sets (set l i v) (suc i) a) k b) (suc-add i (length a) ∙ sym (add-suc i (length a)))
+
+-- a list as long as the buffer takes its place
+pub sets-whole : (x l : List ℕ) → length x ≡ length l → sets l 0 x ≡ x
+sets-whole x l e =
+    sets-eq x l 0 (omega arith) ∙ ap (λ k. x ++ k) (drop-of-length-le l (le-of-eq (sym e ∙ sym (zero-add (length x))))) ∙ append-nil x
+
+-- ---- a loop that writes a list, one number a turn
+
+-- the first i of xs are written from `at` on
+pub record Writing (old : List ℕ) (at : ℕ) (xs : List ℕ) (i : ℕ) (l : List ℕ) : Type 0 where
+  pub within : i ≤ length xs
+  pub written : l ≡ sets old at (take i xs)
+
+module _ (old : List ℕ) (at : ℕ) (xs : List ℕ) where
+  pub writing-starts : Writing old at xs 0 old
+  writing-starts = record { within = omega arith; written = refl }
+
+  pub writing-length : {i : ℕ} {l : List ℕ} → Writing old at xs i l → length l ≡ length old
+  writing-length {i} h = ap length (h .written) ∙ length-sets old at (take i xs)
+
+  pub writing-turns : {i : ℕ} {l : List ℕ} (v : ℕ) → Writing old at xs i l → i < length xs → v ≡ getD xs i 0
+      → Writing old at xs (i + 1) (set l (at + i) v)
+  writing-turns {i} v h more e = record { within = omega arith; written = ap₂ (λ l w. set l (at + i) w) (h .written) e ∙ next }
+    where
+      next : set (sets old at (take i xs)) (at + i) (getD xs i 0) ≡ sets old at (take (i + 1) xs)
+      next =
+          ap (λ k. set (sets old at (take i xs)) (at + k) (getD xs i 0)) (sym (length-take-le i xs (omega arith)))
+          ∙ sym (sets-append (take i xs) (getD xs i 0 ∷ []) old at) ∙ ap (sets old at) (sym (take-suc xs i 0 more))
+          ∙ ap (λ k. sets old at (take k xs)) (sym (add-one i))
+
+  pub writing-ends : {i : ℕ} {l : List ℕ} → Writing old at xs i l → length xs ≤ i → l ≡ sets old at xs
+  writing-ends {i} h all = h .written ∙ ap (sets old at) (take-all i xs all)
+
+-- ---- a loop that writes a list for each number, one a turn
+
+module _ (f : ℕ → List ℕ) where
+  pub flat-last : (a : List ℕ) (x : ℕ) → flatMap f (a ++ (x ∷ [])) ≡ flatMap f a ++ f x
+  unfolding flatMap
+  flat-last [] x = append-nil (f x)
+  flat-last (y ∷ a) x = ap (λ k. f y ++ k) (flat-last a x) ∙ sym (append-assoc (f y) (flatMap f a) (f x))
+
+  -- what f gives for the first i of xs is written from `at` up to `next`
+  pub record Joining (old : List ℕ) (at : ℕ) (xs : List ℕ) (i : ℕ) (l : List ℕ) (next : ℕ) : Type 0 where
+    pub within : i ≤ length xs
+    pub written : l ≡ sets old at (flatMap f (take i xs))
+    pub reached : next ≡ at + length (flatMap f (take i xs))
+
+  module _ (old : List ℕ) (at : ℕ) (xs : List ℕ) where
+    pub joining-starts : Joining old at xs 0 old at
+    unfolding flatMap
+    joining-starts = record { within = omega arith; written = refl; reached = sym (add-zero at) }
+
+    pub joining-length : {i : ℕ} {l : List ℕ} {next : ℕ} → Joining old at xs i l next → length l ≡ length old
+    joining-length {i} h = ap length (h .written) ∙ length-sets old at (flatMap f (take i xs))
+
+    pub joining-turns : {i : ℕ} {l : List ℕ} {next : ℕ} (y : List ℕ) → Joining old at xs i l next → i < length xs → y ≡ f (getD xs i 0)
+        → Joining old at xs (i + 1) (sets l next y) (next + length y)
+    joining-turns {i} {l} {next} y h more e = record {
+      within = omega arith;
+      written =
+          ap₂ (λ l y. sets l next y) (h .written) e ∙ ap (λ k. sets (sets old at done) k (f (getD xs i 0))) (h .reached)
+          ∙ sym (sets-append done (f (getD xs i 0)) old at) ∙ ap (sets old at) grown;
+      reached =
+          ap₂ (λ k y. k + length y) (h .reached) e ∙ add-assoc at (length done) (length (f (getD xs i 0)))
+          ∙ ap (λ k. at + k) (sym (length-append done (f (getD xs i 0))) ∙ ap length grown);
+    }
+      where
+        done : List ℕ
+        done = flatMap f (take i xs)
+
+        grown : done ++ f (getD xs i 0) ≡ flatMap f (take (i + 1) xs)
+        grown = sym (flat-last (take i xs) (getD xs i 0)) ∙ ap (flatMap f) (sym (take-suc xs i 0 more)) ∙ ap (λ k. flatMap f (take k xs)) (sym (add-one i))
+
+    pub joining-ends : {i : ℕ} {l : List ℕ} {next : ℕ} → Joining old at xs i l next → length xs ≤ i
+        → (l ≡ sets old at (flatMap f xs)) × (next ≡ at + length (flatMap f xs))
+    joining-ends {i} h all =
+        let e = ap (flatMap f) (take-all i xs all) in (h .written ∙ ap (sets old at) e, h .reached ∙ ap (λ l. at + length l) e)
