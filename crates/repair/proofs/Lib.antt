@@ -2,3 +2,5 @@
 pub mod Sheet
 pub mod Samples
 pub mod Writing
+pub mod Plans
+pub mod Padded

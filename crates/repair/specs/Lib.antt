@@ -7,3 +7,4 @@ pub mod Rounds
 pub mod Codeword
 pub mod File
 pub mod Text
+pub mod Tables
