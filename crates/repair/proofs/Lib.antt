@@ -1,6 +1,8 @@
 -- What is shown of the definitions.
 pub mod Sheet
 pub mod Samples
+pub mod Sames
 pub mod Writing
+pub mod Stripes
 pub mod Plans
 pub mod Padded

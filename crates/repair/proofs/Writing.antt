@@ -34,9 +34,12 @@ module _ (old : List ℕ) (at : ℕ) (xs : List ℕ) where
   pub writing-length : {i : ℕ} {l : List ℕ} → Writing old at xs i l → length l ≡ length old
   writing-length {i} h = ap length (h .written) ∙ length-sets old at (take i xs)
 
-  pub writing-turns : {i : ℕ} {l : List ℕ} (v : ℕ) → Writing old at xs i l → i < length xs → v ≡ getD xs i 0
-      → Writing old at xs (i + 1) (set l (at + i) v)
-  writing-turns {i} v h more e = record { within = omega arith; written = ap₂ (λ l w. set l (at + i) w) (h .written) e ∙ next }
+  pub writing-turns : {i : ℕ} {l : List ℕ} {j v : ℕ} → Writing old at xs i l → i < length xs → j ≡ at + i → v ≡ getD xs i 0
+      → Writing old at xs (i + 1) (set l j v)
+  writing-turns {i} {l} {j} h more place e = record {
+    within = omega arith;
+    written = ap₂ (λ k w. set l k w) place e ∙ ap (λ l. set l (at + i) (getD xs i 0)) (h .written) ∙ next;
+  }
     where
       next : set (sets old at (take i xs)) (at + i) (getD xs i 0) ≡ sets old at (take (i + 1) xs)
       next =

@@ -1,9 +1,18 @@
 // The stripe file, read and written.
+use super::buffer;
+use super::marks;
+use super::plan;
 ghost use mathlib.Core.Path.{_≡_};
-ghost use Prim.Native.Nat.{_+_, _*_, _^_, _≤_};
-ghost use lib.ListN.{length};
+ghost use mathlib.Core.List.{map, flatMap};
+ghost use Prim.Native.Nat.{_+_, _*_, _/_, _%_, _^_, _≤_, _<_};
+ghost use lib.Dec.{T, eqb};
+ghost use lib.ListN.{length, getD};
 ghost use lib.Seq.{sets};
-ghost use Rattle.repair.specs.File.{bytes4, wordAt};
+ghost use Rattle.field.specs.Lists.{if_then_else_, upFrom};
+ghost use Rattle.linear.specs.Lists.{«same» as equal};
+ghost use Rattle.linear.specs.Marks.{bitsOf};
+ghost use Rattle.repair.specs.Plan.{planOf, known, marksOf};
+ghost use Rattle.repair.specs.File.{bytes4, headerOf, blanked, planIn, wordAt};
 
 // ---- words of four bytes, low byte first
 
@@ -32,4 +41,74 @@ fn bytes_of(word: u32) -> [u8; 4]
         (word / 0x10000 % 0x100) as u8,
         (word / 0x1000000 % 0x100) as u8,
     ]
+}
+
+// ---- the header
+
+// The header of a plan's file: offsets low byte first.
+fn header_of(plan: usize) -> [u8; 8]
+    requires { ⌜ T (known plan) ⌝ }
+    ensures { λ r. ⌜ r ≡ headerOf plan ⌝ }
+{
+    let rows = plan::rows(plan);
+    let columns = plan::columns(plan);
+    let symbols = 8 + 4 * rows;
+    [
+        plan as u8,
+        rows as u8,
+        columns as u8,
+        0,
+        8,
+        0,
+        (symbols % 256) as u8,
+        (symbols / 256 % 256) as u8,
+    ]
+}
+
+// Whether two lists of bytes, equally long, are the same.
+fn same(a: &[u8], b: &[u8]) -> bool
+    requires { ⌜ length (now a) ≡ length (now b) ⌝ }
+    ensures { λ r. ⌜ r ≡ equal (now (a .entry)) (now (b .entry)) ⌝ }
+{
+    for i in 0..a.len() {
+        if a[i] != b[i] {
+            return false;
+        }
+    }
+    true
+}
+
+// The plan number of a file; 0 where it is empty.
+fn plan_in(file: &[u8]) -> usize
+    ensures { λ r. ⌜ r ≡ planIn (now (file .entry)) ⌝ }
+{
+    if file.len() == 0 {
+        return 0;
+    }
+    file[0] as usize
+}
+
+// ---- symbols
+
+// A symbol as a file holds it: 0 where its column is marked.
+fn kept(word: u32, column: usize, symbol: u8) -> u8
+    requires { ⌜ column < 32 ⌝ }
+    ensures { λ r. ⌜ r ≡ (if eqb (word / 2 ^ column % 2) 1 then 0 else symbol) ⌝ }
+{
+    if marks::is_marked(word, column) {
+        return 0;
+    }
+    symbol
+}
+
+// Writes a row from `at` on, 0 under its marks, and gives the place behind it. The rest of the file is unchanged.
+fn put_row(word: u32, row: &[u8], file: &mut [u8], at: usize) -> usize
+    requires { ⌜ (length (now row) ≤ 32) × (at + length (now row) ≤ length (now file)) ⌝ }
+    ensures { λ r. ⌜ r ≡ at + length (now (row .entry)) ⌝ }
+    ensures { λ r. ⌜ now (file .exit) ≡ sets (now (file .entry)) at (blanked (bitsOf (length (now (row .entry))) word) (now (row .entry))) ⌝ }
+{
+    for c in 0..row.len() {
+        file[at + c] = kept(word, c, row[c]);
+    }
+    at + row.len()
 }

@@ -1,6 +1,7 @@
 // The repair library: what a bench is, and what each call answers.
 pub mod plan;
 mod buffer;
+mod marks;
 pub mod file;
 
 // A plan's number, the level t that was reached, symbols and mark words row after row, and each row's learned sums, 16 places a row.

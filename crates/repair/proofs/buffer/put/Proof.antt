@@ -34,7 +34,7 @@ loop-less : tie.Need-loop-less Inv-loop μ-loop
 loop-less c = search needs
 
 loop-again : tie.Need-loop-again Inv-loop μ-loop
-loop-again c = (c .before .before .loop .inv .0, writing-turns _ _ _ _ (c .before .before .loop .inv .1) (omega arith) refl)
+loop-again c = (c .before .before .loop .inv .0, writing-turns _ _ _ (c .before .before .loop .inv .1) (omega arith) refl refl)
 
 add-result : tie.Need-add-result Inv-loop μ-loop
 add-result c = search needs

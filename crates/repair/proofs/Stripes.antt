@@ -1,0 +1,152 @@
+-- A stripe row by row, and its symbols with 0 under marks. Assumes nothing.
+use mathlib.Core.Path.{_≡_, refl, sym, ap, ap₂, _∙_, subst}
+use mathlib.Core.Bool.{Bool, true, false}
+use mathlib.Core.List.{List, [], _∷_, _++_, map, flatMap, List·Memᴰ·head, List·Memᴰ·tail}
+use Prim.Native.Nat.{ℕ, zero, suc, _+_, _*_, _/_, _%_, _^_, _≤_, _<_}
+use native.Mathlib.Nat.{zero-mul, suc-mul, add-comm, zero-add, suc-inj, not-suc-le-zero, le-of-suc-le-suc, mul-le-mul-right, le-of-eq}
+use native.Mathlib.Omega.{arith}
+use lib.Dec.{T, eqb, ltb, ltb→lt}
+use lib.ListN.{length, getD, take, drop, length-append, length-drop, length-map}
+use lib.Seq.{length-take-le, take-all, take-add, drop-drop}
+use Rattle.field.specs.Lists.{if_then_else_, upFrom}
+use Rattle.field.proofs.Lists.{length-up, getD-map-below}
+use Rattle.field.proofs.Test.{both-right}
+use Rattle.linear.specs.Marks.{bitsOf}
+use Rattle.linear.proofs.Tests.{In, up-in}
+use Rattle.repair.specs.Plan.{Plan, plan1, plan2, plan3, noPlan, planOf, known, rowAt, marksAt, marksOf}
+use Rattle.repair.specs.File.{blanked}
+use Rattle.repair.proofs.Plans.{of-plans}
+
+-- ---- sizes
+
+pub record Small (P : Plan) : Type 0 where
+  pub rows : P .rows ≤ 8
+  pub columns : P .columns ≤ 32
+  pub symbols : P .rows * P .columns ≤ 256
+
+pub plans-small : (p : ℕ) → Small (planOf p)
+unfolding plan1 plan2 plan3 noPlan
+plans-small = of-plans Small (omega arith) (omega arith) (omega arith) (omega arith)
+
+pub known-below : (p : ℕ) → T (known p) → p < 4
+unfolding known
+known-below p t = ltb→lt p 4 (both-right (ltb 0 p) (ltb p 4) t)
+
+-- ---- ascending numbers
+
+pub take-up : (k n i : ℕ) → i ≤ n → take i (upFrom k n) ≡ upFrom k i
+unfolding upFrom
+take-up k n zero h = refl
+take-up k zero (suc i) h = absurd (not-suc-le-zero h)
+take-up k (suc n) (suc i) h = ap (λ l. k ∷ l) (take-up (suc k) n i (le-of-suc-le-suc h))
+
+pub getD-up : (n i : ℕ) → i < n → getD (upFrom 0 n) i 0 ≡ i
+getD-up n i h = ap (λ l. getD l i 0) (plain (upFrom 0 n)) ∙ getD-map-below (λ x. x) n i 0 h
+  where
+    plain : (l : List ℕ) → l ≡ map (λ x. x) l
+    plain [] = refl
+    plain (x ∷ l) = ap (λ k. x ∷ k) (plain l)
+
+-- ---- rows
+
+pub length-bits : (word n : ℕ) → length (bitsOf n word) ≡ n
+unfolding bitsOf
+length-bits word n = length-map (upFrom 0 n) (λ k. eqb (word / 2 ^ k % 2) 1) ∙ length-up 0 n
+
+module _ (P : Plan) where
+  pub length-marks : (marks : List ℕ) (r : ℕ) → length (marksAt P marks r) ≡ P .columns
+  unfolding marksAt
+  length-marks marks r = length-bits (getD marks r 0) (P .columns)
+
+  pub length-row : (l : List ℕ) (r : ℕ) → r * P .columns + P .columns ≤ length l → length (rowAt P l r) ≡ P .columns
+  unfolding rowAt
+  length-row l r h = length-take-le (P .columns) (drop (r * P .columns) l) (simp length-drop (omega arith))
+
+  rows-from : (l : List ℕ) (k n : ℕ) → flatMap (rowAt P l) (upFrom k n) ≡ take (n * P .columns) (drop (k * P .columns) l)
+  unfolding flatMap upFrom rowAt
+  rows-from l k zero = ap (λ n. take n (drop (k * P .columns) l)) (sym (zero-mul (P .columns)))
+  rows-from l k (suc n) =
+      ap (λ t. rowAt P l k ++ t)
+      (rows-from l (suc k) n ∙ ap (λ i. take (n * P .columns) (drop i l)) (suc-mul k (P .columns))
+      ∙ ap (take (n * P .columns)) (sym (drop-drop (P .columns) (k * P .columns) l)))
+      ∙ sym (take-add (P .columns) (n * P .columns) (drop (k * P .columns) l))
+      ∙ ap (λ i. take i (drop (k * P .columns) l)) (add-comm (P .columns) (n * P .columns) ∙ sym (suc-mul n (P .columns)))
+
+  -- the rows one behind the other are the stripe
+  pub rows-joined : (l : List ℕ) → length l ≡ P .rows * P .columns → flatMap (rowAt P l) (upFrom 0 (P .rows)) ≡ l
+  rows-joined l e =
+      rows-from l 0 (P .rows) ∙ ap (λ i. take (P .rows * P .columns) (drop i l)) (zero-mul (P .columns))
+      ∙ take-all (P .rows * P .columns) l (le-of-eq e)
+
+-- row r ends within R rows
+pub row-end : (N : ℕ) {r R : ℕ} → r < R → r * N + N ≤ R * N
+row-end N {r} {R} h = omega (arith, mul-le-mul-right N h, suc-mul r N)
+
+-- ---- 0 under marks
+
+pub blanked-append : (ms ns : List Bool) (xs ys : List ℕ) → length ms ≡ length xs → blanked (ms ++ ns) (xs ++ ys) ≡ blanked ms xs ++ blanked ns ys
+unfolding blanked
+blanked-append [] ns [] ys e = refl
+blanked-append [] ns (x ∷ xs) ys e = absurd (omega arith)
+blanked-append (m ∷ ms) ns [] ys e = absurd (omega arith)
+blanked-append (true ∷ ms) ns (x ∷ xs) ys e = ap (λ l. 0 ∷ l) (blanked-append ms ns xs ys (suc-inj e))
+blanked-append (false ∷ ms) ns (x ∷ xs) ys e = ap (λ l. x ∷ l) (blanked-append ms ns xs ys (suc-inj e))
+
+pub length-blanked : (ms : List Bool) (xs : List ℕ) → length ms ≡ length xs → length (blanked ms xs) ≡ length xs
+unfolding blanked
+length-blanked [] [] e = refl
+length-blanked [] (x ∷ xs) e = absurd (omega arith)
+length-blanked (m ∷ ms) [] e = refl
+length-blanked (true ∷ ms) (x ∷ xs) e = ap suc (length-blanked ms xs (suc-inj e))
+length-blanked (false ∷ ms) (x ∷ xs) e = ap suc (length-blanked ms xs (suc-inj e))
+
+pub getD-blanked : (ms : List Bool) (xs : List ℕ) (i : ℕ) → i < length ms
+    → getD (blanked ms xs) i 0 ≡ (if getD ms i false then 0 else getD xs i 0)
+unfolding blanked if_then_else_
+getD-blanked [] xs i h = absurd (not-suc-le-zero h)
+getD-blanked (true ∷ ms) [] zero h = refl
+getD-blanked (false ∷ ms) [] zero h = refl
+getD-blanked (m ∷ ms) [] (suc i) h = go (getD ms i false)
+  where
+    go : (b : Bool) → _≡_ {A = ℕ} 0 (if b then 0 else 0)
+    go true = refl
+    go false = refl
+getD-blanked (true ∷ ms) (x ∷ xs) zero h = refl
+getD-blanked (false ∷ ms) (x ∷ xs) zero h = refl
+getD-blanked (true ∷ ms) (x ∷ xs) (suc i) h = getD-blanked ms xs i (le-of-suc-le-suc h)
+getD-blanked (false ∷ ms) (x ∷ xs) (suc i) h = getD-blanked ms xs i (le-of-suc-le-suc h)
+
+-- the marks are a word's bits
+module _ (word : ℕ) (row : List ℕ) where
+  pub length-kept : length (blanked (bitsOf (length row) word) row) ≡ length row
+  length-kept = length-blanked (bitsOf (length row) word) row (length-bits word (length row))
+
+  pub getD-kept : (c : ℕ) → c < length row
+      → (if eqb (word / 2 ^ c % 2) 1 then 0 else getD row c 0) ≡ getD (blanked (bitsOf (length row) word) row) c 0
+  getD-kept c h =
+      ap (λ b. if b then 0 else getD row c 0) (sym (bit c h))
+      ∙ sym (getD-blanked (bitsOf (length row) word) row c (subst (λ n. c < n) (sym (length-bits word (length row))) h))
+    where
+      bit : (c : ℕ) → c < length row → getD (bitsOf (length row) word) c false ≡ eqb (word / 2 ^ c % 2) 1
+      bit c h = unfold bitsOf in getD-map-below (λ k. eqb (word / 2 ^ k % 2) 1) (length row) c false h
+
+blanked-flat : (a : ℕ → List Bool) (b : ℕ → List ℕ) (is : List ℕ) → ((i : ℕ) → In i is → length (a i) ≡ length (b i))
+    → blanked (flatMap a is) (flatMap b is) ≡ flatMap (λ i. blanked (a i) (b i)) is
+unfolding flatMap blanked
+blanked-flat a b [] e = refl
+blanked-flat a b (i ∷ is) e =
+    blanked-append (a i) (flatMap a is) (b i) (flatMap b is) (e i (List·Memᴰ·head refl))
+    ∙ ap (λ l. blanked (a i) (b i) ++ l) (blanked-flat a b is (λ k m. e k (List·Memᴰ·tail m)))
+
+-- a stripe is blanked row by row
+pub blanked-rows : (P : Plan) (marks stripe : List ℕ) → length stripe ≡ P .rows * P .columns
+    → blanked (marksOf P marks) stripe ≡ flatMap (λ r. blanked (marksAt P marks r) (rowAt P stripe r)) (upFrom 0 (P .rows))
+unfolding marksOf
+blanked-rows P marks stripe e =
+    ap (blanked (marksOf P marks)) (sym (rows-joined P stripe e))
+    ∙ blanked-flat (marksAt P marks) (rowAt P stripe) (upFrom 0 (P .rows))
+    (λ r m. length-marks P marks r ∙ sym (length-row P stripe r (ends r (up-in 0 (P .rows) m .1))))
+  where
+    ends : (r : ℕ) → r < 0 + P .rows → r * P .columns + P .columns ≤ length stripe
+    ends r h =
+        let inside : r < P .rows = omega arith in omega (arith, row-end (P .columns) inside)
