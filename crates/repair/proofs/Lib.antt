@@ -4,5 +4,6 @@ pub mod Samples
 pub mod Sames
 pub mod Writing
 pub mod Stripes
+pub mod Files
 pub mod Plans
 pub mod Padded

@@ -2,7 +2,7 @@
 use mathlib.Core.Path.{_≡_, refl, sym, ap, ap₂, _∙_, subst}
 use mathlib.Core.Bool.{Bool, true, false}
 use mathlib.Core.List.{List, [], _∷_, _++_, map, flatMap, List·Memᴰ·head, List·Memᴰ·tail}
-use Prim.Native.Nat.{ℕ, zero, suc, _+_, _*_, _/_, _%_, _^_, _≤_, _<_}
+use Prim.Native.Nat.{ℕ, zero, suc, _+_, _*_, _-_, _/_, _%_, _^_, _≤_, _<_}
 use native.Mathlib.Nat.{zero-mul, suc-mul, add-comm, zero-add, suc-inj, not-suc-le-zero, le-of-suc-le-suc, mul-le-mul-right, le-of-eq}
 use native.Mathlib.Omega.{arith}
 use lib.Dec.{T, eqb, ltb, ltb→lt}
@@ -31,21 +31,6 @@ plans-small = of-plans Small (omega arith) (omega arith) (omega arith) (omega ar
 pub known-below : (p : ℕ) → T (known p) → p < 4
 unfolding known
 known-below p t = ltb→lt p 4 (both-right (ltb 0 p) (ltb p 4) t)
-
--- ---- ascending numbers
-
-pub take-up : (k n i : ℕ) → i ≤ n → take i (upFrom k n) ≡ upFrom k i
-unfolding upFrom
-take-up k n zero h = refl
-take-up k zero (suc i) h = absurd (not-suc-le-zero h)
-take-up k (suc n) (suc i) h = ap (λ l. k ∷ l) (take-up (suc k) n i (le-of-suc-le-suc h))
-
-pub getD-up : (n i : ℕ) → i < n → getD (upFrom 0 n) i 0 ≡ i
-getD-up n i h = ap (λ l. getD l i 0) (plain (upFrom 0 n)) ∙ getD-map-below (λ x. x) n i 0 h
-  where
-    plain : (l : List ℕ) → l ≡ map (λ x. x) l
-    plain [] = refl
-    plain (x ∷ l) = ap (λ k. x ∷ k) (plain l)
 
 -- ---- rows
 
@@ -78,9 +63,35 @@ module _ (P : Plan) where
       rows-from l 0 (P .rows) ∙ ap (λ i. take (P .rows * P .columns) (drop i l)) (zero-mul (P .columns))
       ∙ take-all (P .rows * P .columns) l (le-of-eq e)
 
--- row r ends within R rows
-pub row-end : (N : ℕ) {r R : ℕ} → r < R → r * N + N ≤ R * N
-row-end N {r} {R} h = omega (arith, mul-le-mul-right N h, suc-mul r N)
+  -- row r ends within the stripe
+  pub row-inside : (l : List ℕ) {r : ℕ} → length l ≡ P .rows * P .columns → r < P .rows → r * P .columns + P .columns ≤ length l
+  row-inside l {r} e h = omega (arith, mul-le-mul-right (P .columns) h, suc-mul r (P .columns))
+
+-- row r of a stripe, as code that knows its columns cuts it out
+pub record Cut (P : Plan) (l : List ℕ) (r n : ℕ) : Type 0 where
+  pub long : length l ≡ P .rows * P .columns
+  pub below : r < P .rows
+  pub wide : n ≡ P .columns
+
+module _ {P : Plan} {l : List ℕ} {r n : ℕ} (k : Cut P l r n) where
+  pub cut-inside : r * n + n ≤ length l
+  cut-inside = subst (λ m. r * m + m ≤ length l) (sym (k .wide)) (row-inside P l (k .long) (k .below))
+
+  pub cut-row : take (r * n + n - r * n) (drop (r * n) l) ≡ rowAt P l r
+  unfolding rowAt
+  cut-row = ap₂ (λ i m. take i (drop (r * m) l)) (from (r * n) ∙ k .wide) (k .wide)
+    where
+      from : (i : ℕ) → i + n - i ≡ n
+      from i = omega arith
+
+  pub cut-length : length (take (r * n + n - r * n) (drop (r * n) l)) ≡ n
+  cut-length = ap length cut-row ∙ length-row P l r (row-inside P l (k .long) (k .below)) ∙ sym (k .wide)
+
+  -- what a function of a mark word and a row gives
+  pub cut-marks : (f : List Bool → List ℕ → List ℕ) (marks : List ℕ) → let row = take (r * n + n - r * n) (drop (r * n) l) in
+      f (bitsOf (length row) (getD marks r 0)) row ≡ f (marksAt P marks r) (rowAt P l r)
+  unfolding marksAt
+  cut-marks f marks = ap₂ (λ m row. f (bitsOf m (getD marks r 0)) row) (cut-length ∙ k .wide) cut-row
 
 -- ---- 0 under marks
 
@@ -145,8 +156,7 @@ unfolding marksOf
 blanked-rows P marks stripe e =
     ap (blanked (marksOf P marks)) (sym (rows-joined P stripe e))
     ∙ blanked-flat (marksAt P marks) (rowAt P stripe) (upFrom 0 (P .rows))
-    (λ r m. length-marks P marks r ∙ sym (length-row P stripe r (ends r (up-in 0 (P .rows) m .1))))
+    (λ r m. length-marks P marks r ∙ sym (length-row P stripe r (row-inside P stripe e (below r (up-in 0 (P .rows) m .1)))))
   where
-    ends : (r : ℕ) → r < 0 + P .rows → r * P .columns + P .columns ≤ length stripe
-    ends r h =
-        let inside : r < P .rows = omega arith in omega (arith, row-end (P .columns) inside)
+    below : (r : ℕ) → r < 0 + P .rows → r < P .rows
+    below r h = omega arith

@@ -1,11 +1,13 @@
 -- Buffers written from a place on: runs of stores, and the loops that make them. Assumes nothing.
 use mathlib.Core.Path.{_≡_, refl, sym, ap, ap₂, _∙_}
-use mathlib.Core.List.{List, [], _∷_, _++_, flatMap, append-nil, append-assoc}
+use mathlib.Core.List.{List, [], _∷_, _++_, map, flatMap, append-nil, append-assoc}
 use Prim.Native.Nat.{ℕ, zero, suc, _+_, _≤_, _<_}
 use native.Mathlib.Nat.{add-zero, add-suc, suc-add, zero-add, add-assoc, le-of-eq}
 use native.Mathlib.Numerals.{add-one}
 use native.Mathlib.Omega.{arith}
 use lib.ListN.{length, getD, set, take, drop, length-append, drop-of-length-le}
+use Rattle.field.specs.Lists.{upFrom}
+use Rattle.field.proofs.Lists.{length-up, getD-map-below}
 use lib.Seq.{sets, sets-eq, length-sets, length-take-le, take-all, take-suc}
 
 -- a run of stores and then another is one
@@ -52,6 +54,13 @@ module _ (old : List ℕ) (at : ℕ) (xs : List ℕ) where
 
 -- ---- a loop that writes a list for each number, one a turn
 
+getD-up : (n i : ℕ) → i < n → getD (upFrom 0 n) i 0 ≡ i
+getD-up n i h = ap (λ l. getD l i 0) (plain (upFrom 0 n)) ∙ getD-map-below (λ x. x) n i 0 h
+  where
+    plain : (l : List ℕ) → l ≡ map (λ x. x) l
+    plain [] = refl
+    plain (x ∷ l) = ap (λ k. x ∷ k) (plain l)
+
 module _ (f : ℕ → List ℕ) where
   pub flat-last : (a : List ℕ) (x : ℕ) → flatMap f (a ++ (x ∷ [])) ≡ flatMap f a ++ f x
   unfolding flatMap
@@ -72,15 +81,15 @@ module _ (f : ℕ → List ℕ) where
     pub joining-length : {i : ℕ} {l : List ℕ} {next : ℕ} → Joining old at xs i l next → length l ≡ length old
     joining-length {i} h = ap length (h .written) ∙ length-sets old at (flatMap f (take i xs))
 
-    pub joining-turns : {i : ℕ} {l : List ℕ} {next : ℕ} (y : List ℕ) → Joining old at xs i l next → i < length xs → y ≡ f (getD xs i 0)
-        → Joining old at xs (i + 1) (sets l next y) (next + length y)
-    joining-turns {i} {l} {next} y h more e = record {
+    pub joining-turns : {i : ℕ} {l : List ℕ} {next : ℕ} {y l′ : List ℕ} {next′ : ℕ} → Joining old at xs i l next → i < length xs
+        → y ≡ f (getD xs i 0) → l′ ≡ sets l next y → next′ ≡ next + length y → Joining old at xs (i + 1) l′ next′
+    joining-turns {i} {l} {next} {y} h more e w n = record {
       within = omega arith;
       written =
-          ap₂ (λ l y. sets l next y) (h .written) e ∙ ap (λ k. sets (sets old at done) k (f (getD xs i 0))) (h .reached)
+          w ∙ ap₂ (λ l y. sets l next y) (h .written) e ∙ ap (λ k. sets (sets old at done) k (f (getD xs i 0))) (h .reached)
           ∙ sym (sets-append done (f (getD xs i 0)) old at) ∙ ap (sets old at) grown;
       reached =
-          ap₂ (λ k y. k + length y) (h .reached) e ∙ add-assoc at (length done) (length (f (getD xs i 0)))
+          n ∙ ap₂ (λ k y. k + length y) (h .reached) e ∙ add-assoc at (length done) (length (f (getD xs i 0)))
           ∙ ap (λ k. at + k) (sym (length-append done (f (getD xs i 0))) ∙ ap length grown);
     }
       where
@@ -94,3 +103,14 @@ module _ (f : ℕ → List ℕ) where
         → (l ≡ sets old at (flatMap f xs)) × (next ≡ at + length (flatMap f xs))
     joining-ends {i} h all =
         let e = ap (flatMap f) (take-all i xs all) in (h .written ∙ ap (sets old at) e, h .reached ∙ ap (λ l. at + length l) e)
+
+  -- the same for the numbers below n
+  pub counting-turns : (old : List ℕ) (at n : ℕ) {i : ℕ} {l : List ℕ} {next : ℕ} {y l′ : List ℕ} {next′ : ℕ}
+      → Joining old at (upFrom 0 n) i l next → i < n → y ≡ f i → l′ ≡ sets l next y → next′ ≡ next + length y
+      → Joining old at (upFrom 0 n) (i + 1) l′ next′
+  counting-turns old at n {i} h more e =
+      joining-turns old at (upFrom 0 n) h (omega (arith, length-up 0 n)) (e ∙ ap f (sym (getD-up n i more)))
+
+  pub counting-ends : (old : List ℕ) (at n : ℕ) {i : ℕ} {l : List ℕ} {next : ℕ} → Joining old at (upFrom 0 n) i l next → n ≤ i
+      → (l ≡ sets old at (flatMap f (upFrom 0 n))) × (next ≡ at + length (flatMap f (upFrom 0 n)))
+  counting-ends old at n h all = joining-ends old at (upFrom 0 n) h (omega (arith, length-up 0 n))

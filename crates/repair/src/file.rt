@@ -12,7 +12,7 @@ ghost use Rattle.field.specs.Lists.{if_then_else_, upFrom};
 ghost use Rattle.linear.specs.Lists.{«same» as equal};
 ghost use Rattle.linear.specs.Marks.{bitsOf};
 ghost use Rattle.repair.specs.Plan.{planOf, known, marksOf};
-ghost use Rattle.repair.specs.File.{bytes4, headerOf, blanked, planIn, wordAt};
+ghost use Rattle.repair.specs.File.{bytes4, headerOf, blanked, planIn, wordAt, marksIn};
 
 // ---- words of four bytes, low byte first
 
@@ -111,4 +111,47 @@ fn put_row(word: u32, row: &[u8], file: &mut [u8], at: usize) -> usize
         file[at + c] = kept(word, c, row[c]);
     }
     at + row.len()
+}
+
+// Writes the symbols from `at` on, 0 under marks. The rest of the file is unchanged.
+fn put_symbols(plan: usize, stripe: &[u8], marks: &[u32], file: &mut [u8], at: usize)
+    requires { ⌜ length (now marks) ≡ planOf plan .rows ⌝ }
+    requires { ⌜ length (now stripe) ≡ planOf plan .rows * planOf plan .columns ⌝ }
+    requires { ⌜ at + length (now stripe) ≤ length (now file) ⌝ }
+    ensures { λ _. ⌜ now (file .exit) ≡ sets (now (file .entry)) at (blanked (marksOf (planOf plan) (now (marks .entry))) (now (stripe .entry))) ⌝ }
+{
+    let columns = plan::columns(plan);
+    let mut next = at;
+    for r in 0..marks.len() {
+        let start = r * columns;
+        let end = start + columns;
+        next = put_row(marks[r], &stripe[start..end], file, next);
+    }
+}
+
+// ---- marks
+
+// Writes the mark words from `at` on, and gives the place behind them. The rest of the file is unchanged.
+fn put_marks(marks: &[u32], file: &mut [u8], at: usize) -> usize
+    requires { ⌜ at + 4 * length (now marks) ≤ length (now file) ⌝ }
+    ensures { λ r. ⌜ r ≡ at + 4 * length (now (marks .entry)) ⌝ }
+    ensures { λ r. ⌜ now (file .exit) ≡ sets (now (file .entry)) at (flatMap bytes4 (now (marks .entry))) ⌝ }
+{
+    let mut next = at;
+    for r in 0..marks.len() {
+        let bytes = bytes_of(marks[r]);
+        next = buffer::put(&bytes, file, next);
+    }
+    next
+}
+
+// Reads the mark words of a file into `marks`. What is behind them there is unchanged.
+fn read_marks(file: &[u8], rows: usize, marks: &mut [u32])
+    requires { ⌜ rows ≡ planOf (planIn (now file)) .rows ⌝ }
+    requires { ⌜ (8 + 4 * rows ≤ length (now file)) × (rows ≤ length (now marks)) ⌝ }
+    ensures { λ _. ⌜ now (marks .exit) ≡ sets (now (marks .entry)) 0 (marksIn (now (file .entry))) ⌝ }
+{
+    for r in 0..rows {
+        marks[r] = word_at(file, 8 + 4 * r);
+    }
 }
