@@ -1,19 +1,21 @@
 -- A stripe row by row, and its symbols with 0 under marks. Assumes nothing.
 use mathlib.Core.Path.{_≡_, refl, sym, ap, ap₂, _∙_, subst}
-use mathlib.Core.Bool.{Bool, true, false}
+use mathlib.Core.Bool.{Bool, true, false, _&&_}
 use mathlib.Core.List.{List, [], _∷_, _++_, map, flatMap, List·Memᴰ·head, List·Memᴰ·tail}
 use Prim.Native.Nat.{ℕ, zero, suc, _+_, _*_, _-_, _/_, _%_, _^_, _≤_, _<_}
-use native.Mathlib.Nat.{zero-mul, suc-mul, add-comm, zero-add, suc-inj, not-suc-le-zero, le-of-suc-le-suc, mul-le-mul-right, le-of-eq}
+use native.Mathlib.Nat.{zero-mul, suc-mul, add-comm, add-zero, zero-add, suc-inj, not-suc-le-zero, le-of-suc-le-suc, mul-le-mul-right, le-of-eq}
 use native.Mathlib.Omega.{arith}
 use lib.Dec.{T, eqb, ltb, ltb→lt}
 use lib.ListN.{length, getD, take, drop, length-append, length-drop, length-map}
-use lib.Seq.{length-take-le, take-all, take-add, drop-drop}
+use lib.Seq.{length-take-le, take-all, take-add, take-at, drop-at, drop-drop}
 use Rattle.field.specs.Lists.{if_then_else_, upFrom}
+use Rattle.field.specs.Field.{size}
 use Rattle.field.proofs.Lists.{length-up, getD-map-below}
 use Rattle.field.proofs.Test.{both-right}
 use Rattle.linear.specs.Marks.{bitsOf}
-use Rattle.linear.proofs.Tests.{In, up-in}
+use Rattle.linear.proofs.Tests.{In, up-in, all-in, in-all}
 use Rattle.repair.specs.Plan.{Plan, plan1, plan2, plan3, noPlan, planOf, known, rowAt, marksAt, marksOf}
+use Rattle.repair.specs.Refusal.{unmarkedBelow, symbolsFit}
 use Rattle.repair.specs.File.{blanked}
 use Rattle.repair.proofs.Plans.{of-plans}
 
@@ -160,3 +162,66 @@ blanked-rows P marks stripe e =
   where
     below : (r : ℕ) → r < 0 + P .rows → r < P .rows
     below r h = omega arith
+
+pub blanked-twice : (ms : List Bool) (xs : List ℕ) → blanked ms (blanked ms xs) ≡ blanked ms xs
+unfolding blanked
+blanked-twice [] xs = refl
+blanked-twice (m ∷ ms) [] = refl
+blanked-twice (true ∷ ms) (x ∷ xs) = ap (λ l. 0 ∷ l) (blanked-twice ms xs)
+blanked-twice (false ∷ ms) (x ∷ xs) = ap (λ l. x ∷ l) (blanked-twice ms xs)
+
+-- a row of lists that are as long as the columns
+row-flat : (P : Plan) (f : ℕ → List ℕ) (k n : ℕ) → ((i : ℕ) → i < n → length (f (k + i)) ≡ P .columns)
+    → (r : ℕ) → r < n → rowAt P (flatMap f (upFrom k n)) r ≡ f (k + r)
+unfolding flatMap upFrom rowAt
+row-flat P f k zero long r h = absurd (not-suc-le-zero h)
+row-flat P f k (suc n) long zero h =
+    ap (λ i. take (P .columns) (drop i (f k ++ flatMap f (upFrom (suc k) n)))) (zero-mul (P .columns))
+    ∙ take-at (f k) (flatMap f (upFrom (suc k) n)) (P .columns) (ap (λ i. length (f i)) (sym (add-zero k)) ∙ long 0 (omega arith))
+    ∙ ap f (sym (add-zero k))
+row-flat P f k (suc n) long (suc r) h =
+    ap (λ i. take (P .columns) (drop i (f k ++ flatMap f (upFrom (suc k) n)))) (suc-mul r (P .columns) ∙ add-comm (r * P .columns) (P .columns))
+    ∙ ap (take (P .columns)) (sym (drop-drop (r * P .columns) (P .columns) (f k ++ flatMap f (upFrom (suc k) n))))
+    ∙ ap (λ l. take (P .columns) (drop (r * P .columns) l))
+    (drop-at (f k) (flatMap f (upFrom (suc k) n)) (P .columns) (ap (λ i. length (f i)) (sym (add-zero k)) ∙ long 0 (omega arith)))
+    ∙ row-flat P f (suc k) n (λ i l. ap (λ j. length (f j)) (next i) ∙ long (suc i) (omega arith)) r (le-of-suc-le-suc h)
+    ∙ ap f (next r)
+  where
+    next : (i : ℕ) → suc k + i ≡ k + suc i
+    next i = omega arith
+
+-- a row of the blanked stripe
+pub row-blanked : (P : Plan) (marks stripe : List ℕ) → length stripe ≡ P .rows * P .columns → (r : ℕ) → r < P .rows
+    → rowAt P (blanked (marksOf P marks) stripe) r ≡ blanked (marksAt P marks r) (rowAt P stripe r)
+row-blanked P marks stripe e r h =
+    ap (λ l. rowAt P l r) (blanked-rows P marks stripe e)
+    ∙ row-flat P (λ r. blanked (marksAt P marks r) (rowAt P stripe r)) 0 (P .rows) (λ i l. wide (0 + i) (omega arith)) r h
+    ∙ ap (λ r. blanked (marksAt P marks r) (rowAt P stripe r)) (zero-add r)
+  where
+    wide : (i : ℕ) → i < P .rows → length (blanked (marksAt P marks i) (rowAt P stripe i)) ≡ P .columns
+    wide i l =
+        let row = length-row P stripe i (row-inside P stripe e l) in
+        length-blanked (marksAt P marks i) (rowAt P stripe i) (length-marks P marks i ∙ sym row) ∙ row
+
+unmarked-blanked : (q : ℕ) (ms : List Bool) (xs : List ℕ) → unmarkedBelow q ms (blanked ms xs) ≡ unmarkedBelow q ms xs
+unfolding blanked unmarkedBelow
+unmarked-blanked q [] xs = refl
+unmarked-blanked q (m ∷ ms) [] = refl
+unmarked-blanked q (true ∷ ms) (x ∷ xs) = unmarked-blanked q ms xs
+unmarked-blanked q (false ∷ ms) (x ∷ xs) = ap (λ b. ltb x q && b) (unmarked-blanked q ms xs)
+
+-- what stands under marks is not looked at
+pub fit-blanked : (P : Plan) (marks stripe : List ℕ) → length stripe ≡ P .rows * P .columns
+    → T (symbolsFit P marks stripe) → T (symbolsFit P marks (blanked (marksOf P marks) stripe))
+unfolding symbolsFit
+fit-blanked P marks stripe e t =
+    in-all (below (blanked (marksOf P marks) stripe)) (upFrom 0 (P .rows)) (λ r m. subst T (sym (row r m)) (all-in (below stripe) (upFrom 0 (P .rows)) t m))
+  where
+    below : List ℕ → ℕ → Bool
+    below l r = unmarkedBelow (size (P .field)) (marksAt P marks r) (rowAt P l r)
+
+    row : (r : ℕ) → In r (upFrom 0 (P .rows)) → below (blanked (marksOf P marks) stripe) r ≡ below stripe r
+    row r m =
+        let h = up-in 0 (P .rows) m .1 in
+        ap (unmarkedBelow (size (P .field)) (marksAt P marks r)) (row-blanked P marks stripe e r (omega arith))
+        ∙ unmarked-blanked (size (P .field)) (marksAt P marks r) (rowAt P stripe r)
