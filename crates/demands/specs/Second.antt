@@ -1,0 +1,59 @@
+-- The second demand: what Restored, Clash and Stuck mean; which marks are always restored; encoding and extraction.
+use Prim.Native.Nat.{ℕ, suc, _≤_, _<_}
+use mathlib.Core.Path.{_≡_}
+use mathlib.Core.List.{List}
+use lib.ListN.{replicate}
+use Rattle.repair.specs.Plan.{planOf, known}
+use Rattle.repair.specs.Rounds.{mendReport, mendStripe, mendMarks}
+use Rattle.repair.specs.Codeword.{carried, encodeRefusal, encodeStripe, extractRefusal, extractData, extracted, encoded, checkPlacesOf, taken}
+use Rattle.repair.specs.declared.Place.{Place}
+use Rattle.repair.specs.declared.Answer.the-variants.{Restored, Stuck, Clash}
+use Rattle.demands.specs.Words.{Codeword, Agree, Fit, MeetsCounts, total, distance}
+
+-- Restored: a codeword is left behind, it agrees with every unmarked symbol, no other does, and no mark is left
+pub record IsRestored (p : ℕ) (stripe marks : List ℕ) : Type 0 where
+  pub codeword : Codeword p (mendStripe p stripe marks)
+  pub agrees : Agree p marks (mendStripe p stripe marks) stripe
+  pub only : (X : List ℕ) → Codeword p X → Agree p marks X stripe → X ≡ mendStripe p stripe marks
+  pub clear : mendMarks p stripe marks ≡ replicate (planOf p .rows) 0
+
+abbrev pub RestoredMeans : Type 0
+RestoredMeans = (p : ℕ) (stripe marks : List ℕ) → mendReport p stripe marks .answer ≡ Restored → IsRestored p stripe marks
+
+-- Clash: no codeword agrees with every unmarked symbol
+abbrev pub ClashMeans : Type 0
+ClashMeans = (p : ℕ) (stripe marks : List ℕ) (place : Place) → mendReport p stripe marks .answer ≡ Clash place
+    → (X : List ℕ) → Codeword p X → Agree p marks X stripe → ⊥
+
+-- Stuck: every codeword that agrees has each symbol that is now unmarked
+abbrev pub StuckMeans : Type 0
+StuckMeans = (p : ℕ) (stripe marks : List ℕ) → mendReport p stripe marks .answer ≡ Stuck
+    → (X : List ℕ) → Codeword p X → Agree p marks X stripe → Agree p (mendMarks p stripe marks) X (mendStripe p stripe marks)
+
+-- a codeword whose marks meet the published row counts is restored, to itself, whatever stands under the marks
+abbrev pub CountsSuffice : Type 0
+CountsSuffice = (p : ℕ) (X stripe marks : List ℕ) → Codeword p X → Fit p stripe marks → Agree p marks X stripe → MeetsCounts p marks
+    → (mendReport p stripe marks .answer ≡ Restored) × (mendStripe p stripe marks ≡ X)
+
+-- and so is one with any d - 1 marks
+abbrev pub DistanceSuffices : Type 0
+DistanceSuffices = (p : ℕ) (X stripe marks : List ℕ) → Codeword p X → Fit p stripe marks → Agree p marks X stripe → total marks < distance p
+    → (mendReport p stripe marks .answer ≡ Restored) × (mendStripe p stripe marks ≡ X)
+
+-- encoding writes a codeword that holds the data, the only one
+pub record IsEncoded (p : ℕ) (ds Y : List ℕ) : Type 0 where
+  pub codeword : Codeword p Y
+  pub holds : extracted (planOf p) Y ≡ ds
+  pub only : (X : List ℕ) → Codeword p X → extracted (planOf p) X ≡ ds → X ≡ Y
+
+abbrev pub EncodingMeans : Type 0
+EncodingMeans = (p : ℕ) (ds stripe : List ℕ) → encodeRefusal p ds stripe ≡ 0 → IsEncoded p ds (encodeStripe p ds stripe)
+
+-- extraction gives the data back
+abbrev pub ExtractionMeans : Type 0
+ExtractionMeans = (p : ℕ) (ds stripe room : List ℕ) → encodeRefusal p ds stripe ≡ 0 → extractRefusal p (encodeStripe p ds stripe) room ≡ 0
+    → extractData p (encodeStripe p ds stripe) room ≡ ds
+
+-- every codeword is the encoding of what extraction gives
+abbrev pub CodewordsAreEncodings : Type 0
+CodewordsAreEncodings = (p : ℕ) (X room : List ℕ) → extractRefusal p X room ≡ 0 → encoded p (extractData p X room) ≡ X
