@@ -43,7 +43,7 @@ sets-out [] l i h = refl
 sets-out (v ∷ x) l i h = sets-out x (set l i v) (suc i) (simp length-set (omega arith)) ∙ set-out l i v h
 
 -- a whole list stored over one as long
-sets-whole : (x l : List ℕ) → length x ≡ length l → sets l 0 x ≡ x
+pub sets-whole : (x l : List ℕ) → length x ≡ length l → sets l 0 x ≡ x
 sets-whole x l e =
     sets-eq x l 0 (omega arith) ∙ ap (λ k. x ++ k) (drop-of-length-le l (le-of-eq (sym e ∙ sym (zero-add (length x))))) ∙ append-nil x
 

@@ -14,21 +14,10 @@ use Rattle.field.proofs.Lists.{length-up, getD-map-below}
 use Rattle.field.proofs.Test.{both-right}
 use Rattle.linear.specs.Marks.{bitsOf}
 use Rattle.linear.proofs.Tests.{In, up-in, all-in, in-all}
-use Rattle.repair.specs.Plan.{Plan, plan1, plan2, plan3, noPlan, planOf, known, rowAt, marksAt, marksOf}
+use Rattle.repair.specs.Plan.{Plan, known, rowAt, marksAt, marksOf}
 use Rattle.repair.specs.Refusal.{unmarkedBelow, symbolsFit}
 use Rattle.repair.specs.File.{blanked}
-use Rattle.repair.proofs.Plans.{of-plans}
-
--- ---- sizes
-
-pub record Small (P : Plan) : Type 0 where
-  pub rows : P .rows ≤ 8
-  pub columns : P .columns ≤ 32
-  pub symbols : P .rows * P .columns ≤ 256
-
-pub plans-small : (p : ℕ) → Small (planOf p)
-unfolding plan1 plan2 plan3 noPlan
-plans-small = of-plans Small (omega arith) (omega arith) (omega arith) (omega arith)
+use Rattle.repair.proofs.Rows.{row-end, row-length}
 
 pub known-below : (p : ℕ) → T (known p) → p < 4
 unfolding known
@@ -44,10 +33,6 @@ module _ (P : Plan) where
   pub length-marks : (marks : List ℕ) (r : ℕ) → length (marksAt P marks r) ≡ P .columns
   unfolding marksAt
   length-marks marks r = length-bits (getD marks r 0) (P .columns)
-
-  pub length-row : (l : List ℕ) (r : ℕ) → r * P .columns + P .columns ≤ length l → length (rowAt P l r) ≡ P .columns
-  unfolding rowAt
-  length-row l r h = length-take-le (P .columns) (drop (r * P .columns) l) (simp length-drop (omega arith))
 
   rows-from : (l : List ℕ) (k n : ℕ) → flatMap (rowAt P l) (upFrom k n) ≡ take (n * P .columns) (drop (k * P .columns) l)
   unfolding flatMap upFrom rowAt
@@ -65,9 +50,8 @@ module _ (P : Plan) where
       rows-from l 0 (P .rows) ∙ ap (λ i. take (P .rows * P .columns) (drop i l)) (zero-mul (P .columns))
       ∙ take-all (P .rows * P .columns) l (le-of-eq e)
 
-  -- row r ends within the stripe
-  pub row-inside : (l : List ℕ) {r : ℕ} → length l ≡ P .rows * P .columns → r < P .rows → r * P .columns + P .columns ≤ length l
-  row-inside l {r} e h = omega (arith, mul-le-mul-right (P .columns) h, suc-mul r (P .columns))
+  row-inside : (l : List ℕ) {r : ℕ} → length l ≡ P .rows * P .columns → r < P .rows → r * P .columns + P .columns ≤ length l
+  row-inside l {r} e h = subst (λ n. r * P .columns + P .columns ≤ n) (sym e) (row-end (P .columns) h)
 
 -- row r of a stripe, as code that knows its columns cuts it out
 pub record Cut (P : Plan) (l : List ℕ) (r n : ℕ) : Type 0 where
@@ -87,7 +71,7 @@ module _ {P : Plan} {l : List ℕ} {r n : ℕ} (k : Cut P l r n) where
       from i = omega arith
 
   pub cut-length : length (take (r * n + n - r * n) (drop (r * n) l)) ≡ n
-  cut-length = ap length cut-row ∙ length-row P l r (row-inside P l (k .long) (k .below)) ∙ sym (k .wide)
+  cut-length = ap length cut-row ∙ row-length P l r (row-inside P l (k .long) (k .below)) ∙ sym (k .wide)
 
   -- what a function of a mark word and a row gives
   pub cut-marks : (f : List Bool → List ℕ → List ℕ) (marks : List ℕ) → let row = take (r * n + n - r * n) (drop (r * n) l) in
@@ -143,6 +127,16 @@ module _ (word : ℕ) (row : List ℕ) where
       bit : (c : ℕ) → c < length row → getD (bitsOf (length row) word) c false ≡ eqb (word / 2 ^ c % 2) 1
       bit c h = unfold bitsOf in getD-map-below (λ k. eqb (word / 2 ^ k % 2) 1) (length row) c false h
 
+pub length-marks-of : (P : Plan) (marks : List ℕ) → length (marksOf P marks) ≡ P .rows * P .columns
+unfolding flatMap upFrom marksOf
+length-marks-of P marks = go 0 (P .rows)
+  where
+    go : (k n : ℕ) → length (flatMap (marksAt P marks) (upFrom k n)) ≡ n * P .columns
+    go k zero = sym (zero-mul (P .columns))
+    go k (suc n) =
+        length-append (marksAt P marks k) (flatMap (marksAt P marks) (upFrom (suc k) n))
+        ∙ ap₂ _+_ (length-marks P marks k) (go (suc k) n) ∙ add-comm (P .columns) (n * P .columns) ∙ sym (suc-mul n (P .columns))
+
 blanked-flat : (a : ℕ → List Bool) (b : ℕ → List ℕ) (is : List ℕ) → ((i : ℕ) → In i is → length (a i) ≡ length (b i))
     → blanked (flatMap a is) (flatMap b is) ≡ flatMap (λ i. blanked (a i) (b i)) is
 unfolding flatMap blanked
@@ -158,7 +152,7 @@ unfolding marksOf
 blanked-rows P marks stripe e =
     ap (blanked (marksOf P marks)) (sym (rows-joined P stripe e))
     ∙ blanked-flat (marksAt P marks) (rowAt P stripe) (upFrom 0 (P .rows))
-    (λ r m. length-marks P marks r ∙ sym (length-row P stripe r (row-inside P stripe e (below r (up-in 0 (P .rows) m .1)))))
+    (λ r m. length-marks P marks r ∙ sym (row-length P stripe r (row-inside P stripe e (below r (up-in 0 (P .rows) m .1)))))
   where
     below : (r : ℕ) → r < 0 + P .rows → r < P .rows
     below r h = omega arith
@@ -200,7 +194,7 @@ row-blanked P marks stripe e r h =
   where
     wide : (i : ℕ) → i < P .rows → length (blanked (marksAt P marks i) (rowAt P stripe i)) ≡ P .columns
     wide i l =
-        let row = length-row P stripe i (row-inside P stripe e l) in
+        let row = row-length P stripe i (row-inside P stripe e l) in
         length-blanked (marksAt P marks i) (rowAt P stripe i) (length-marks P marks i ∙ sym row) ∙ row
 
 unmarked-blanked : (q : ℕ) (ms : List Bool) (xs : List ℕ) → unmarkedBelow q ms (blanked ms xs) ≡ unmarkedBelow q ms xs

@@ -17,11 +17,6 @@ sets-append (v ∷ a) b l i =
     sets-append a b (set l i v) (suc i)
     ∙ ap (λ k. sets (sets (set l i v) (suc i) a) k b) (suc-add i (length a) ∙ sym (add-suc i (length a)))
 
--- a list as long as the buffer takes its place
-pub sets-whole : (x l : List ℕ) → length x ≡ length l → sets l 0 x ≡ x
-sets-whole x l e =
-    sets-eq x l 0 (omega arith) ∙ ap (λ k. x ++ k) (drop-of-length-le l (le-of-eq (sym e ∙ sym (zero-add (length x))))) ∙ append-nil x
-
 -- ---- a loop that writes a list, one number a turn
 
 -- the first i of xs are written from `at` on

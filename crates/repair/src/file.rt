@@ -115,6 +115,7 @@ fn put_row(word: u32, row: &[u8], file: &mut [u8], at: usize) -> usize
 
 // Writes the symbols from `at` on, 0 under marks. The rest of the file is unchanged.
 fn put_symbols(plan: usize, stripe: &[u8], marks: &[u32], file: &mut [u8], at: usize)
+    requires { ⌜ T (known plan) ⌝ }
     requires { ⌜ length (now marks) ≡ planOf plan .rows ⌝ }
     requires { ⌜ length (now stripe) ≡ planOf plan .rows * planOf plan .columns ⌝ }
     requires { ⌜ at + length (now stripe) ≤ length (now file) ⌝ }

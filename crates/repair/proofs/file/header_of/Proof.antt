@@ -1,5 +1,6 @@
+use Rattle.repair.proofs.Shape.{shape}
 use mathlib.Core.Path.{_≡_, ap₂}
-use Rattle.repair.proofs.Stripes.{known-below, plans-small}
+use Rattle.repair.proofs.Stripes.{known-below}
 use Rattle.repair.specs.File.{bytes2, marksOffset, symbolsOffset, headerOf}
 use Rattle.repair.specs.Plan.{known}
 use native.Mathlib.Omega.{arith}
@@ -18,19 +19,19 @@ columns-requires : tie.Need-columns-requires
 columns-requires c κs = search needs
 
 mul-symbols : tie.Need-mul-symbols
-mul-symbols c = omega (arith, plans-small (c .before .before .args .plan))
+mul-symbols c = omega (arith, shape _ (c .before .before .pre))
 
 add-symbols : tie.Need-add-symbols
-add-symbols c = omega (arith, plans-small (c .before .before .args .plan))
+add-symbols c = omega (arith, shape _ (c .before .before .pre))
 
 cast-t6 : tie.Need-cast-t6
 cast-t6 c = omega (arith, known-below _ (c .before .before .pre))
 
 cast-t7 : tie.Need-cast-t7
-cast-t7 c = omega (arith, plans-small (c .before .before .args .plan))
+cast-t7 c = omega (arith, shape _ (c .before .before .pre))
 
 cast-t8 : tie.Need-cast-t8
-cast-t8 c = omega (arith, plans-small (c .before .before .args .plan))
+cast-t8 c = omega (arith, shape _ (c .before .before .pre))
 
 cast-t9 : tie.Need-cast-t9
 cast-t9 c = search needs

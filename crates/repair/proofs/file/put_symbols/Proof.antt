@@ -1,6 +1,7 @@
 use lib.Seq.{sets}
+use Rattle.repair.proofs.Shape.{shape}
 use Prim.Native.Nat.{_≤_}
-use Rattle.repair.proofs.Stripes.{plans-small, Cut, cut-inside, cut-length, cut-marks, length-kept, blanked-rows}
+use Rattle.repair.proofs.Stripes.{Cut, cut-inside, cut-length, cut-marks, length-kept, blanked-rows}
 use native.Mathlib.Nat.{add-mul}
 use mathlib.Core.Path.{ap}
 use Rattle.repair.proofs.Writing.{Joining, joining-starts, joining-length, counting-turns, counting-ends}
@@ -30,7 +31,7 @@ abbrev μ-loop : tie.MeasureT-loop
 
 cut : (c : tie.In-loop Inv-loop μ-loop)
     → let a = c .before .before .before .before .before .before .args in Cut (planOf (a .plan)) (a .stripe .now) (c .before .loop .r) (c .before .before .columns .result)
-cut c = record { long = c .before .before .before .before .before .before .pre .1 .0; below = omega arith; wide = c .before .before .columns .ensures }
+cut c = record { long = c .before .before .before .before .before .before .pre .1 .1 .0; below = omega arith; wide = c .before .before .columns .ensures }
 
 columns-requires : tie.Need-columns-requires Inv-loop μ-loop
 columns-requires c κs = search needs
@@ -62,7 +63,7 @@ part-put-row-end c = cut-inside (cut (c .before))
 put-row-requires : tie.Need-put-row-requires Inv-loop μ-loop
 put-row-requires c κs =
     let i = c .before .before .before in
-    omega (arith, cut-inside (cut i), cut-length (cut i), cut i, plans-small (i .before .before .before .before .before .before .args .plan), joining-length _ _ _ _ (i .before .loop .inv .2))
+    omega (arith, cut-inside (cut i), cut-length (cut i), cut i, shape _ (i .before .before .before .before .before .before .pre .0), joining-length _ _ _ _ (i .before .loop .inv .2))
 
 add-r : tie.Need-add-r Inv-loop μ-loop
 add-r c = search needs
@@ -86,7 +87,7 @@ returns : tie.Need-returns Inv-loop μ-loop
 returns c =
     let s = c .before .before .before .before .before .before in
     counting-ends _ _ _ _ (c .before .loop .inv .2) (omega arith) .0
-    ∙ ap (sets _ _) (sym (blanked-rows (planOf (s .args .plan)) (s .args .marks .now) (s .args .stripe .now) (s .pre .1 .0)))
+    ∙ ap (sets _ _) (sym (blanked-rows (planOf (s .args .plan)) (s .args .marks .now) (s .args .stripe .now) (s .pre .1 .1 .0)))
 
 pub put-symbols-spec : {M : Type 1} → statement M
 put-symbols-spec =
