@@ -1,14 +1,15 @@
 -- The stripe file: what is read of what was written, and what is written of what was read. Assumes nothing.
 use mathlib.Core.Path.{_≡_, refl, sym, ap, ap₂, _∙_, subst}
-use mathlib.Core.Bool.{Bool, _&&_}
+use mathlib.Core.Bool.{Bool, true, _&&_, and-true, and-false}
 use mathlib.Core.List.{List, [], _∷_, _++_, map, flatMap, append-assoc}
 use Prim.Native.Nat.{ℕ, zero, suc, _+_, _*_, _/_, _%_, _^_, _≤_, _<_}
-use native.Mathlib.Nat.{div-add-mod', mod-eq-of-lt, add-assoc, not-suc-le-zero, le-of-suc-le-suc, le-of-eq, le-trans}
+use native.Mathlib.Nat.{div-add-mod', mod-eq-of-lt, zero-add, add-assoc, not-suc-le-zero, le-of-suc-le-suc, le-of-eq, le-trans}
 use native.Mathlib.Omega.{arith}
+use borrow.Author.Tests.{eq-eqb, ne-eqb}
 use lib.Dec.{T, eqb, leb, eqb→eq, le→leb}
 use lib.ListN.{length, getD, take, drop, length-map, length-append, length-take, length-drop, take-append-drop}
 use lib.Pow.{pow-mono, shr-shr}
-use lib.Seq.{getD-append-add, drop-cons, drop-at, take-at, take-all, take-add, drop-drop, ext-getD}
+use lib.Seq.{sets, getD-append-add, drop-cons, drop-at, take-at, take-all, take-add, drop-drop, ext-getD}
 use Rattle.field.specs.Lists.{if_then_else_, upFrom}
 use Rattle.field.proofs.Lists.{length-up, getD-map-below}
 use Rattle.field.proofs.Test.{both-left, both-right, both}
@@ -16,9 +17,11 @@ use Rattle.field.proofs.Words.{Fit, each-at}
 use Rattle.linear.specs.Lists.{same}
 use Rattle.linear.proofs.Tests.{same→eq, same-refl}
 use Rattle.repair.specs.Plan.{Plan, planOf, known, marksOf}
-use Rattle.repair.specs.Refusal.{firstFailed, unasked, inMemory, inFile, stripeFits, wordsFit, marksFit, symbolsFit}
+use Rattle.repair.specs.Refusal.{firstFailed, unasked, inMemory, inFile, stripeFits, wordsFit, marksFit, symbolsFit, lentRefusal}
+use Rattle.repair.specs.Codeword.{outcomeOf}
+use Rattle.repair.specs.declared.Outcome.the-variants.{Done, Refused}
 use Rattle.repair.specs.File.{bytes2, bytes4, marksOffset, symbolsOffset, fileLength, headerOf, blanked, fileOf, writeRefusal, writeFile, planIn, wordAt, marksIn, symbolsIn, fileRefusal, readRefusal, readStripe, readMarks}
-use Rattle.repair.proofs.Rows.{sets-whole}
+use Rattle.repair.proofs.Writing.{sets-three}
 use Rattle.repair.proofs.Shape.{shape}
 use Rattle.repair.proofs.Fit.{pass, go-on, eq→eqb, passed, passes, marks-fit, fit-marks, symbols-fit, fit-symbols, LentFit}
 use Rattle.repair.proofs.Stripes.{length-blanked, blanked-twice, fit-blanked, length-marks-of}
@@ -213,6 +216,20 @@ module _ (p : ℕ) (stripe marks : List ℕ) (f : LentFit p stripe marks) where
   length-written =
       length-append (headerOf p ++ flatMap bytes4 marks) (blanked (marksOf Q marks) stripe) ∙ ap₂ _+_ length-front length-back
 
+  -- the three parts, put one behind the other
+  pub parts-put : (old : List ℕ) {header l₁ l₂ l₃ : List ℕ} {i₁ i₂ : ℕ} → length old ≡ fileLength Q → header ≡ headerOf p → l₁ ≡ sets old 0 header
+      → i₁ ≡ 0 + length header → l₂ ≡ sets l₁ i₁ (flatMap bytes4 marks) → i₂ ≡ i₁ + 4 * length marks
+      → l₃ ≡ sets l₂ i₂ (blanked (marksOf Q marks) stripe) → l₃ ≡ file
+  unfolding fileOf
+  parts-put old {header} long h e₁ n₁ e₂ n₂ e₃ =
+      let H = headerOf p in
+      let W = flatMap bytes4 marks in
+      let first = n₁ ∙ zero-add (length header) ∙ ap length h in
+      e₃
+      ∙ ap₂ (λ l i. sets l i (blanked (marksOf Q marks) stripe)) (e₂ ∙ ap₂ (λ l i. sets l i W) (e₁ ∙ ap (sets old 0) h) first)
+      (n₂ ∙ ap₂ _+_ first (sym (length-bytes marks)) ∙ sym (length-append H W))
+      ∙ sets-three H W (blanked (marksOf Q marks) stripe) old (length-written ∙ sym long)
+
   header-written : take 8 file ≡ headerOf p
   unfolding bytes2 headerOf fileOf
   header-written = refl
@@ -290,6 +307,15 @@ module _ (file : List ℕ) (bytes : Fit 256 file) where
 
 -- ---- both ways round
 
+pub outcome-refused : (n : ℕ) → (n ≡ 0 → ⊥) → Refused n ≡ outcomeOf n
+unfolding outcomeOf
+outcome-refused zero h = absurd (h refl)
+outcome-refused (suc n) h = refl
+
+pub outcome-done : {n : ℕ} → n ≡ 0 → Done ≡ outcomeOf n
+unfolding outcomeOf
+outcome-done e = rw e
+
 module _ (p : ℕ) (stripe marks old : List ℕ) where
   abbrev S : Plan
   S = planOf p
@@ -331,6 +357,18 @@ module _ (p : ℕ) (stripe marks old : List ℕ) where
         row = tt;
         codeword = tt;
       }
+
+  pub room-refused : known p ≡ true → (length old ≡ fileLength S → ⊥) → writeRefusal p stripe marks old ≡ 11
+  unfolding if_then_else_ firstFailed inMemory writeRefusal
+  room-refused k h = rw (k, ne-eqb (length old) (fileLength S) h, and-false)
+
+  pub room-fits : length old ≡ fileLength S → writeRefusal p stripe marks old ≡ lentRefusal p stripe marks
+  unfolding lentRefusal writeRefusal
+  room-fits h = rw (eq-eqb (length old) (fileLength S) h, and-true)
+
+  pub unwritten : (writeRefusal p stripe marks old ≡ 0 → ⊥) → writeFile p stripe marks old ≡ old
+  unfolding if_then_else_ writeFile
+  unwritten h = rw (ne-eqb (writeRefusal p stripe marks old) 0 h)
 
   pub written : writeRefusal p stripe marks old ≡ 0 → writeFile p stripe marks old ≡ fileOf p stripe marks
   unfolding if_then_else_ writeFile

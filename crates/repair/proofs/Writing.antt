@@ -2,13 +2,14 @@
 use mathlib.Core.Path.{_≡_, refl, sym, ap, ap₂, _∙_}
 use mathlib.Core.List.{List, [], _∷_, _++_, map, flatMap, append-nil, append-assoc}
 use Prim.Native.Nat.{ℕ, zero, suc, _+_, _≤_, _<_}
-use native.Mathlib.Nat.{add-zero, add-suc, suc-add, zero-add, add-assoc, le-of-eq}
+use native.Mathlib.Nat.{add-zero, add-suc, suc-add, zero-add, add-assoc}
 use native.Mathlib.Numerals.{add-one}
 use native.Mathlib.Omega.{arith}
-use lib.ListN.{length, getD, set, take, drop, length-append, drop-of-length-le}
+use lib.ListN.{length, getD, set, take, length-append}
 use Rattle.field.specs.Lists.{upFrom}
 use Rattle.field.proofs.Lists.{length-up, getD-map-below}
-use lib.Seq.{sets, sets-eq, length-sets, length-take-le, take-all, take-suc}
+use Rattle.repair.proofs.Rows.{sets-whole}
+use lib.Seq.{sets, length-sets, length-take-le, take-all, take-suc}
 
 -- a run of stores and then another is one
 pub sets-append : (a b l : List ℕ) (i : ℕ) → sets l i (a ++ b) ≡ sets (sets l i a) (i + length a) b
@@ -16,6 +17,12 @@ sets-append [] b l i = ap (λ k. sets l k b) (sym (add-zero i))
 sets-append (v ∷ a) b l i =
     sets-append a b (set l i v) (suc i)
     ∙ ap (λ k. sets (sets (set l i v) (suc i) a) k b) (suc-add i (length a) ∙ sym (add-suc i (length a)))
+
+-- three lists as long as the buffer take its place
+pub sets-three : (a b c l : List ℕ) → length (a ++ b ++ c) ≡ length l → sets (sets (sets l 0 a) (length a) b) (length (a ++ b)) c ≡ a ++ b ++ c
+sets-three a b c l e =
+    ap₂ (λ k i. sets k i c) (ap (λ i. sets (sets l 0 a) i b) (sym (zero-add (length a))) ∙ sym (sets-append a b l 0)) (sym (zero-add (length (a ++ b))))
+    ∙ sym (sets-append (a ++ b) c l 0) ∙ sets-whole (a ++ b ++ c) l e
 
 -- ---- a loop that writes a list, one number a turn
 

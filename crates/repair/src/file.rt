@@ -2,8 +2,10 @@
 use super::buffer;
 use super::marks;
 use super::plan;
+use super::refusal;
+use super::Outcome;
 ghost use mathlib.Core.Path.{_≡_};
-ghost use mathlib.Core.List.{map, flatMap};
+ghost use mathlib.Core.List.{flatMap};
 ghost use Prim.Native.Nat.{_+_, _*_, _/_, _%_, _^_, _≤_, _<_};
 ghost use lib.Dec.{T, eqb};
 ghost use lib.ListN.{length, getD};
@@ -12,7 +14,8 @@ ghost use Rattle.field.specs.Lists.{if_then_else_, upFrom};
 ghost use Rattle.linear.specs.Lists.{«same» as equal};
 ghost use Rattle.linear.specs.Marks.{bitsOf};
 ghost use Rattle.repair.specs.Plan.{planOf, known, marksOf};
-ghost use Rattle.repair.specs.File.{bytes4, headerOf, blanked, planIn, wordAt, marksIn};
+ghost use Rattle.repair.specs.Codeword.{outcomeOf};
+ghost use Rattle.repair.specs.File.{bytes4, headerOf, blanked, fileOf, writeRefusal, writeFile, planIn, wordAt, marksIn};
 
 // ---- words of four bytes, low byte first
 
@@ -155,4 +158,43 @@ fn read_marks(file: &[u8], rows: usize, marks: &mut [u32])
     for r in 0..rows {
         marks[r] = word_at(file, 8 + 4 * r);
     }
+}
+
+// ---- writing
+
+// What writing refuses; 0 where it does not.
+fn write_refusal(plan: usize, stripe: &[u8], marks: &[u32], file: &[u8]) -> usize
+    ensures { λ r. ⌜ r ≡ writeRefusal plan (now (stripe .entry)) (now (marks .entry)) (now (file .entry)) ⌝ }
+{
+    if !plan::is_known(plan) {
+        return 10;
+    }
+    if file.len() != plan::file_length(plan) {
+        return 11;
+    }
+    refusal::lent_refusal(plan, stripe, marks)
+}
+
+// Writes the whole file of a stripe and its marks that are not refused.
+fn put_file(plan: usize, stripe: &[u8], marks: &[u32], file: &mut [u8])
+    requires { ⌜ writeRefusal plan (now stripe) (now marks) (now file) ≡ 0 ⌝ }
+    ensures { λ _. ⌜ now (file .exit) ≡ fileOf plan (now (stripe .entry)) (now (marks .entry)) ⌝ }
+{
+    let header = header_of(plan);
+    let at_marks = buffer::put(&header, file, 0);
+    let at_symbols = put_marks(marks, file, at_marks);
+    put_symbols(plan, stripe, marks, file, at_symbols);
+}
+
+// Writes a stripe and its marks as a file, 0 under marks. Where it is refused the file is unchanged.
+pub fn write_file(plan: usize, stripe: &[u8], marks: &[u32], file: &mut [u8]) -> Outcome
+    ensures { λ r. ⌜ r ≡ outcomeOf (writeRefusal plan (now (stripe .entry)) (now (marks .entry)) (now (file .entry))) ⌝ }
+    ensures { λ r. ⌜ now (file .exit) ≡ writeFile plan (now (stripe .entry)) (now (marks .entry)) (now (file .entry)) ⌝ }
+{
+    let refusal = write_refusal(plan, stripe, marks, file);
+    if refusal != 0 {
+        return Outcome::Refused(refusal);
+    }
+    put_file(plan, stripe, marks, file);
+    Outcome::Done
 }
