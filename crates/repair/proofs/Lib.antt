@@ -3,6 +3,10 @@ pub mod Sheet
 pub mod Samples
 pub mod Plans
 pub mod Padded
+pub mod Flat
+pub mod Tables
+pub mod Scan
+pub mod Refusals
 -- what the proofs of the code and of the demands rest on
 pub mod Rows
 pub mod Levels

@@ -1,11 +1,10 @@
 -- Plans by their numbers. Assumes nothing.
 use mathlib.Core.Path.{_≡_, refl, ap, _∙_, sym}
-use mathlib.Core.List.{List, [], _∷_, flatMap}
-use Prim.Native.Nat.{ℕ, zero, suc, pred, _≤_, _<_}
-use native.Mathlib.Nat.{le-trans}
+use mathlib.Core.List.{[], _∷_, flatMap}
+use Prim.Native.Nat.{ℕ, zero, suc, _*_, _≤_, _<_}
 use native.Mathlib.Omega.{arith}
 use lib.Dec.{lit≤}
-use lib.ListN.{length, take, List·getD-eq-default}
+use lib.ListN.{length, List·getD-eq-default}
 use lib.Seq.{take-all}
 use Rattle.repair.specs.Plan.{Plan, Level, ones, plan1, plan2, plan3, noPlan, planOf, noLevel, levelOf, checksTo}
 
@@ -26,6 +25,20 @@ of-plans Q q1 q2 q3 q0 (suc zero) = q1
 of-plans Q q1 q2 q3 q0 (suc (suc zero)) = q2
 of-plans Q q1 q2 q3 q0 (suc (suc (suc zero))) = q3
 of-plans Q q1 q2 q3 q0 (suc (suc (suc (suc p)))) = q0
+
+-- ---- the most that any plan has
+
+pub rows-most : (p : ℕ) → planOf p .rows ≤ 8
+unfolding plan1 plan2 plan3 noPlan
+rows-most = of-plans (λ P. P .rows ≤ 8) (lit≤ tt) (lit≤ tt) (lit≤ tt) (lit≤ tt)
+
+pub columns-most : (p : ℕ) → planOf p .columns ≤ 32
+unfolding plan1 plan2 plan3 noPlan
+columns-most = of-plans (λ P. P .columns ≤ 32) (lit≤ tt) (lit≤ tt) (lit≤ tt) (lit≤ tt)
+
+pub symbols-most : (p : ℕ) → planOf p .rows * planOf p .columns ≤ 256
+unfolding plan1 plan2 plan3 noPlan
+symbols-most = of-plans (λ P. P .rows * P .columns ≤ 256) (lit≤ tt) (lit≤ tt) (lit≤ tt) (lit≤ tt)
 
 pub levels-most : (p : ℕ) → length (planOf p .levels) ≤ 3
 unfolding plan1 plan2 plan3 noPlan

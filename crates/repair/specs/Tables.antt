@@ -1,5 +1,5 @@
 -- What the code's numbers and tables of a plan are.
-use Prim.Native.Nat.{ℕ, _-_, _^_}
+use Prim.Native.Nat.{ℕ, _*_, _-_, _^_}
 use mathlib.Core.Path.{_≡_}
 use mathlib.Core.List.{List, _++_, map, flatMap}
 use lib.ListN.{length, replicate}
@@ -22,6 +22,7 @@ pub record FactsOf (P : Plan) (f : Facts) : Type 0 where
   pub field : FieldNumber (P .field) (f .field)
   pub rows : f .rows ≡ P .rows
   pub columns : f .columns ≡ P .columns
+  pub symbols : f .symbols ≡ P .rows * P .columns
   pub words : f .words ≡ 2 ^ P .columns
   pub levels : f .levels ≡ length (P .levels)
   pub sums : f .sums ≡ map (λ t. length (checksTo P t)) (upFrom 0 4)

@@ -1,5 +1,6 @@
 // The repair library: what a bench is, and what each call answers.
 pub mod plan;
+mod refusal;
 mod buffer;
 mod marks;
 pub mod file;

@@ -7,12 +7,13 @@ ghost use Rattle.repair.specs.Codeword.{«carried» as carriedBy};
 ghost use Rattle.repair.specs.File.{fileLength};
 ghost use Rattle.repair.specs.Tables.{FactsOf, FieldNumber, padded, checkTable, weightTable, placeTable};
 
-// A plan's numbers. A mark word is below `words`; `sums` has how many sums a row has at levels 1 to t, and `totals` how many weighted
+// A plan's numbers. A stripe has so many `symbols`; a mark word is below `words`; `sums` has how many sums a row has at levels 1 to t, and `totals` how many weighted
 // totals level t has, both for t from 0 to 3.
 pub struct Facts {
     pub field: usize,
     pub rows: usize,
     pub columns: usize,
+    pub symbols: usize,
     pub words: u64,
     pub levels: usize,
     pub sums: [usize; 4],
@@ -25,6 +26,7 @@ const PLAN_1: Facts = Facts {
     field: 2,
     rows: 3,
     columns: 7,
+    symbols: 21,
     words: 0x80,
     levels: 2,
     sums: [0, 1, 4, 4],
@@ -37,6 +39,7 @@ const PLAN_2: Facts = Facts {
     field: 2,
     rows: 8,
     columns: 32,
+    symbols: 256,
     words: 0x1_0000_0000,
     levels: 3,
     sums: [0, 6, 11, 16],
@@ -49,6 +52,7 @@ const PLAN_3: Facts = Facts {
     field: 16,
     rows: 8,
     columns: 15,
+    symbols: 120,
     words: 0x8000,
     levels: 3,
     sums: [0, 2, 3, 7],
@@ -61,6 +65,7 @@ const NO_PLAN: Facts = Facts {
     field: 2,
     rows: 0,
     columns: 0,
+    symbols: 0,
     words: 1,
     levels: 0,
     sums: [0, 0, 0, 0],

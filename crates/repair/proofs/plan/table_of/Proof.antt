@@ -2,7 +2,7 @@
 use mathlib.Core.Path.{_≡_, refl}
 use Prim.Native.Nat.{_-_}
 use lib.ListN.{length}
-use Rattle.repair.proofs.Padded.{Padding, padding-starts, padding-length, padding-turns, padding-ends}
+use Rattle.repair.proofs.Padded.{Padding, padding-starts, padding-turns, padding-ends}
 use native.Mathlib.Omega.{arith}
 use borrow.Author.Needs.{needs}
 use Rattle.repair.proofs.plan.table_of.Statement.{statement}

@@ -1,0 +1,65 @@
+-- `refusal::lent_refusal` meets its contract: the tests in their order. Assumes nothing.
+use mathlib.Core.Path.{_≡_, refl, sym, _∙_}
+use mathlib.Core.Bool.{true, _&&_}
+use borrow.Author.Needs.{needs}
+use borrow.Author.Tests.{not-true, not-false}
+use denote.Ref.{now}
+use Rattle.repair.specs.Plan.{planOf, known}
+use Rattle.repair.specs.Refusal.{unasked, inMemory, stripeFits, wordsFit, marksFit, lentRefusal}
+use Rattle.repair.proofs.Refusals.{none-fails, passes, fails, stripe-length, marks-length}
+use Rattle.repair.proofs.refusal.lent_refusal.Statement.{statement}
+use Rattle.repair.proofs.refusal.lent_refusal.Tie as tie
+
+is-known-requires : tie.Need-is-known-requires
+is-known-requires c κs = search needs
+
+is-known : (c : tie.Else1) → known (c .before .before .before .before .args .plan) ≡ true
+is-known c = sym (c .before .is-known .ensures) ∙ not-false _ (c .if1 .left)
+
+fit : (c : tie.Else2) → let a = c .before .before .before .before .before .before .args in
+    (stripeFits (planOf (a .plan)) (now (a .stripe)) && wordsFit (planOf (a .plan)) (now (a .marks))) ≡ true
+fit c = sym (c .before .lengths-fit .ensures) ∙ not-false _ (c .if2 .left)
+
+marks-fit : (c : tie.Else3) → let a = c .before .before .before .before .before .before .before .before .args in marksFit (planOf (a .plan)) (now (a .marks)) ≡ true
+marks-fit c = sym (c .before .marks-fit .ensures) ∙ not-false _ (c .if3 .left)
+
+returns : tie.Need-returns
+unfolding unasked inMemory lentRefusal
+returns c = sym (fails 10 _ (sym (c .before .is-known .ensures) ∙ not-true _ (c .if1 .taken)))
+
+lengths-fit-requires : tie.Need-lengths-fit-requires
+lengths-fit-requires c κs = search needs
+
+returns-2 : tie.Need-returns-2
+unfolding unasked inMemory lentRefusal
+returns-2 c = sym (passes 10 _ (is-known (c .before .before)) ∙ fails 11 _ (sym (c .before .lengths-fit .ensures) ∙ not-true _ (c .if2 .taken)))
+
+marks-fit-requires : tie.Need-marks-fit-requires
+marks-fit-requires c κs = marks-length _ _ _ (fit c)
+
+returns-3 : tie.Need-returns-3
+unfolding unasked inMemory lentRefusal
+returns-3 c =
+    sym
+    (passes 10 _ (is-known (c .before .before .before .before)) ∙ passes 11 _ (fit (c .before .before)) ∙ passes 15 _ refl
+    ∙ fails 12 _ (sym (c .before .marks-fit .ensures) ∙ not-true _ (c .if3 .taken)))
+
+symbols-fit-requires : tie.Need-symbols-fit-requires
+symbols-fit-requires c κs = (marks-length _ _ _ (fit (c .before .before)), stripe-length _ _ _ (fit (c .before .before)))
+
+returns-4 : tie.Need-returns-4
+unfolding unasked inMemory lentRefusal
+returns-4 c =
+    sym
+    (passes 10 _ (is-known (c .before .before .before .before .before .before)) ∙ passes 11 _ (fit (c .before .before .before .before)) ∙ passes 15 _ refl ∙ passes 12 _ (marks-fit (c .before .before))
+    ∙ fails 13 _ (sym (c .before .symbols-fit .ensures) ∙ not-true _ (c .if4 .taken)))
+
+returns-5 : tie.Need-returns-5
+unfolding unasked inMemory lentRefusal
+returns-5 c =
+    sym
+    (passes 10 _ (is-known (c .before .before .before .before .before .before)) ∙ passes 11 _ (fit (c .before .before .before .before)) ∙ passes 15 _ refl ∙ passes 12 _ (marks-fit (c .before .before))
+    ∙ passes 13 _ (sym (c .before .symbols-fit .ensures) ∙ not-false _ (c .if4 .left)) ∙ passes 14 _ refl ∙ passes 16 _ refl ∙ none-fails)
+
+pub lent-refusal-spec : {M : Type 1} → statement M
+lent-refusal-spec = tie.close (tie.spec is-known-requires returns lengths-fit-requires returns-2 marks-fit-requires returns-3 symbols-fit-requires returns-4 returns-5)
