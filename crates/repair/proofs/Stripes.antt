@@ -17,6 +17,7 @@ use Rattle.linear.proofs.Tests.{In, up-in, all-in, in-all}
 use Rattle.repair.specs.Plan.{Plan, known, rowAt, marksAt, marksOf}
 use Rattle.repair.specs.Refusal.{unmarkedBelow, symbolsFit}
 use Rattle.repair.specs.File.{blanked}
+use Rattle.repair.proofs.Scan.{length-bits}
 use Rattle.repair.proofs.Rows.{row-end, row-length}
 
 pub known-below : (p : ℕ) → T (known p) → p < 4
@@ -25,14 +26,10 @@ known-below p t = ltb→lt p 4 (both-right (ltb 0 p) (ltb p 4) t)
 
 -- ---- rows
 
-pub length-bits : (word n : ℕ) → length (bitsOf n word) ≡ n
-unfolding bitsOf
-length-bits word n = length-map (upFrom 0 n) (λ k. eqb (word / 2 ^ k % 2) 1) ∙ length-up 0 n
-
 module _ (P : Plan) where
   pub length-marks : (marks : List ℕ) (r : ℕ) → length (marksAt P marks r) ≡ P .columns
   unfolding marksAt
-  length-marks marks r = length-bits (getD marks r 0) (P .columns)
+  length-marks marks r = length-bits (P .columns) (getD marks r 0)
 
   rows-from : (l : List ℕ) (k n : ℕ) → flatMap (rowAt P l) (upFrom k n) ≡ take (n * P .columns) (drop (k * P .columns) l)
   unfolding flatMap upFrom rowAt
@@ -116,13 +113,13 @@ getD-blanked (false ∷ ms) (x ∷ xs) (suc i) h = getD-blanked ms xs i (le-of-s
 -- the marks are a word's bits
 module _ (word : ℕ) (row : List ℕ) where
   pub length-kept : length (blanked (bitsOf (length row) word) row) ≡ length row
-  length-kept = length-blanked (bitsOf (length row) word) row (length-bits word (length row))
+  length-kept = length-blanked (bitsOf (length row) word) row (length-bits (length row) word)
 
   pub getD-kept : (c : ℕ) → c < length row
       → (if eqb (word / 2 ^ c % 2) 1 then 0 else getD row c 0) ≡ getD (blanked (bitsOf (length row) word) row) c 0
   getD-kept c h =
       ap (λ b. if b then 0 else getD row c 0) (sym (bit c h))
-      ∙ sym (getD-blanked (bitsOf (length row) word) row c (subst (λ n. c < n) (sym (length-bits word (length row))) h))
+      ∙ sym (getD-blanked (bitsOf (length row) word) row c (subst (λ n. c < n) (sym (length-bits (length row) word)) h))
     where
       bit : (c : ℕ) → c < length row → getD (bitsOf (length row) word) c false ≡ eqb (word / 2 ^ c % 2) 1
       bit c h = unfold bitsOf in getD-map-below (λ k. eqb (word / 2 ^ k % 2) 1) (length row) c false h
