@@ -2,7 +2,7 @@
 use mathlib.Core.Path.{_≡_, refl, sym, ap, ap₂, _∙_, subst}
 use mathlib.Core.Bool.{Bool, true, _&&_, and-true, and-false}
 use mathlib.Core.List.{List, [], _∷_, _++_, map, flatMap, append-assoc}
-use Prim.Native.Nat.{ℕ, zero, suc, _+_, _*_, _/_, _%_, _^_, _≤_, _<_}
+use Prim.Native.Nat.{ℕ, zero, suc, _+_, _*_, _-_, _/_, _%_, _^_, _≤_, _<_}
 use native.Mathlib.Nat.{div-add-mod', mod-eq-of-lt, zero-add, add-assoc, not-suc-le-zero, le-of-suc-le-suc, le-of-eq, le-trans}
 use native.Mathlib.Omega.{arith}
 use borrow.Author.Tests.{eq-eqb, ne-eqb}
@@ -21,7 +21,7 @@ use Rattle.repair.specs.Refusal.{firstFailed, unasked, inMemory, inFile,
 use Rattle.repair.specs.Codeword.{outcomeOf}
 use Rattle.repair.specs.declared.Outcome.the-variants.{Done, Refused}
 use Rattle.repair.specs.File.{bytes2, bytes4, marksOffset, symbolsOffset, fileLength, headerOf, blanked, fileOf, writeRefusal, writeFile, planIn, wordAt, marksIn, symbolsIn, fileRefusal, readRefusal, readStripe, readMarks}
-use Rattle.repair.proofs.Writing.{sets-three}
+use Rattle.repair.proofs.Writing.{front-set, sets-three}
 use Rattle.repair.proofs.Shape.{shape}
 use Rattle.repair.proofs.Fit.{pass, go-on, eq→eqb, passed, passes, marks-fit, fit-marks, symbols-fit, fit-symbols, LentFit}
 use Rattle.repair.proofs.Stripes.{length-blanked, blanked-twice, fit-blanked, length-marks-of}
@@ -92,6 +92,46 @@ module _ (file : List ℕ) where
   pub length-symbols-in : length file ≡ fileLength (planOf (planIn file)) → length (symbolsIn file) ≡ planOf (planIn file) .rows * planOf (planIn file) .columns
   unfolding symbolsIn fileLength
   length-symbols-in e = simp (length-take, length-drop) (omega arith)
+
+  -- what stands behind the marks
+  pub symbols-behind : length file ≡ fileLength (planOf (planIn file)) → symbolsIn file ≡ drop (symbolsOffset (planOf (planIn file))) file
+  unfolding symbolsIn fileLength
+  symbols-behind e =
+      let P = planOf (planIn file) in take-all (P .rows * P .columns) (drop (symbolsOffset P) file) (simp length-drop (omega arith))
+
+-- a file of its plan's length, as code that knows its rows reads it
+pub record Whole (p n : ℕ) (file : List ℕ) : Type 0 where
+  pub plan-known : T (known p)
+  pub plan : p ≡ planIn file
+  pub rows : n ≡ planOf p .rows
+  pub long : length file ≡ fileLength (planOf p)
+
+module _ {p n : ℕ} {file : List ℕ} (w : Whole p n file) where
+  pub whole-start : 8 + 4 * n ≤ length file
+  unfolding marksOffset symbolsOffset fileLength
+  whole-start = omega (arith, w .rows, w .long)
+
+  pub whole-rows : n ≤ 8
+  whole-rows = omega (arith, w .rows, shape p (w .plan-known) .rows-le)
+
+  pub whole-marks : length (marksIn file) ≡ planOf p .rows
+  whole-marks = length-marks-in file ∙ ap (λ k. planOf k .rows) (sym (w .plan))
+
+  -- the marks, read to the front of a buffer
+  pub whole-front : (l : List ℕ) → n ≤ length l → take n (sets l 0 (marksIn file)) ≡ marksIn file
+  whole-front l h = front-set n (marksIn file) l (whole-marks ∙ sym (w .rows)) h
+
+  pub whole-symbols : length (symbolsIn file) ≡ planOf p .rows * planOf p .columns
+  whole-symbols =
+      length-symbols-in file (w .long ∙ ap (λ k. fileLength (planOf k)) (w .plan)) ∙ ap (λ k. planOf k .rows * planOf k .columns) (sym (w .plan))
+
+  -- the symbols, cut off behind the marks
+  pub whole-cut : take (length file - (8 + 4 * n)) (drop (8 + 4 * n) file) ≡ symbolsIn file
+  unfolding marksOffset symbolsOffset
+  whole-cut =
+      take-all (length file - (8 + 4 * n)) (drop (8 + 4 * n) file) (le-of-eq (length-drop (8 + 4 * n) file))
+      ∙ ap (λ k. drop (8 + 4 * k) file) (w .rows ∙ ap (λ k. planOf k .rows) (w .plan))
+      ∙ sym (symbols-behind file (w .long ∙ ap (λ k. fileLength (planOf k)) (w .plan)))
 
 -- ---- files that are not refused
 
@@ -284,10 +324,6 @@ module _ (file : List ℕ) (bytes : Fit 256 file) where
     abbrev R : Plan
     R = planOf (planIn file)
 
-    symbols-behind : symbolsIn file ≡ drop (symbolsOffset R) file
-    unfolding symbolsIn fileLength
-    symbols-behind = take-all (R .rows * R .columns) (drop (symbolsOffset R) file) (simp length-drop (omega (arith, f .whole)))
-
     pub read-fit : LentFit (planIn file) (symbolsIn file) (marksIn file)
     read-fit = record {
       plan-known = f .plan-known;
@@ -302,7 +338,7 @@ module _ (file : List ℕ) (bytes : Fit 256 file) where
     unfolding marksOffset symbolsOffset fileLength fileOf marksIn
     file-of-read =
         ap₂ _++_ (ap₂ _++_ (sym (f .header)) (words-at 0 (R .rows) (omega (arith, f .whole))) ∙ sym (take-add 8 (4 * R .rows) file))
-        (sym (f .blank) ∙ symbols-behind)
+        (sym (f .blank) ∙ symbols-behind file (f .whole))
         ∙ take-append-drop (8 + 4 * R .rows) file
 
 -- ---- both ways round

@@ -8,7 +8,7 @@ use native.Mathlib.Omega.{arith}
 use lib.ListN.{length, getD, set, take, length-append}
 use Rattle.field.specs.Lists.{upFrom}
 use Rattle.field.proofs.Lists.{length-up, getD-map-below}
-use Rattle.repair.proofs.Rows.{sets-whole}
+use Rattle.repair.proofs.Rows.{take-sets, sets-whole}
 use lib.Seq.{sets, length-sets, length-take-le, take-all, take-suc}
 
 -- a run of stores and then another is one
@@ -23,6 +23,10 @@ pub sets-three : (a b c l : List ℕ) → length (a ++ b ++ c) ≡ length l → 
 sets-three a b c l e =
     ap₂ (λ k i. sets k i c) (ap (λ i. sets (sets l 0 a) i b) (sym (zero-add (length a))) ∙ sym (sets-append a b l 0)) (sym (zero-add (length (a ++ b))))
     ∙ sym (sets-append (a ++ b) c l 0) ∙ sets-whole (a ++ b ++ c) l e
+
+-- what was written at the front is read there
+pub front-set : (n : ℕ) (x l : List ℕ) → length x ≡ n → n ≤ length l → take n (sets l 0 x) ≡ x
+front-set n x l e h = take-sets n x l 0 ∙ sets-whole x (take n l) (e ∙ sym (length-take-le n l h))
 
 -- ---- a loop that writes a list, one number a turn
 

@@ -8,3 +8,4 @@ pub mod Codeword
 pub mod File
 pub mod Text
 pub mod Tables
+pub mod Parts

@@ -14,8 +14,10 @@ ghost use Rattle.field.specs.Lists.{if_then_else_, upFrom};
 ghost use Rattle.linear.specs.Lists.{«same» as equal};
 ghost use Rattle.linear.specs.Marks.{bitsOf};
 ghost use Rattle.repair.specs.Plan.{planOf, known, marksOf};
+ghost use Rattle.repair.specs.Refusal.{firstFailed};
 ghost use Rattle.repair.specs.Codeword.{outcomeOf};
-ghost use Rattle.repair.specs.File.{bytes4, headerOf, blanked, fileOf, writeRefusal, writeFile, planIn, wordAt, marksIn};
+ghost use Rattle.repair.specs.File.{bytes4, headerOf, fileLength, blanked, fileOf, writeRefusal, writeFile, planIn, wordAt, marksIn, symbolsIn};
+ghost use Rattle.repair.specs.Parts.{contentTests};
 
 // ---- words of four bytes, low byte first
 
@@ -197,4 +199,52 @@ pub fn write_file(plan: usize, stripe: &[u8], marks: &[u32], file: &mut [u8]) ->
     }
     put_file(plan, stripe, marks, file);
     Outcome::Done
+}
+
+// ---- reading
+
+// Whether every marked symbol is 0.
+fn is_blank(plan: usize, symbols: &[u8], marks: &[u32]) -> bool
+    requires { ⌜ T (known plan) ⌝ }
+    requires { ⌜ length (now marks) ≡ planOf plan .rows ⌝ }
+    requires { ⌜ length (now symbols) ≡ planOf plan .rows * planOf plan .columns ⌝ }
+    ensures { λ r. ⌜ r ≡ equal (now (symbols .entry)) (blanked (marksOf (planOf plan) (now (marks .entry))) (now (symbols .entry))) ⌝ }
+{
+    let mut blank = [0u8; 256];
+    put_symbols(plan, symbols, marks, &mut blank, 0);
+    let size = symbols.len();
+    same(symbols, &blank[..size])
+}
+
+// What of marks and symbols that were read is refused; 0 where nothing is.
+fn content_refusal(plan: usize, symbols: &[u8], marks: &[u32]) -> usize
+    requires { ⌜ T (known plan) ⌝ }
+    requires { ⌜ length (now marks) ≡ planOf plan .rows ⌝ }
+    requires { ⌜ length (now symbols) ≡ planOf plan .rows * planOf plan .columns ⌝ }
+    ensures { λ r. ⌜ r ≡ firstFailed (contentTests (planOf plan) (now (marks .entry)) (now (symbols .entry))) ⌝ }
+{
+    if !refusal::marks_fit(plan, marks) {
+        return 12;
+    }
+    if !refusal::symbols_fit(plan, marks, symbols) {
+        return 13;
+    }
+    if !is_blank(plan, symbols, marks) {
+        return 22;
+    }
+    0
+}
+
+// The same of a file whose header and length are right.
+fn whole_refusal(plan: usize, file: &[u8]) -> usize
+    requires { ⌜ T (known plan) ⌝ }
+    requires { ⌜ plan ≡ planIn (now file) ⌝ }
+    requires { ⌜ length (now file) ≡ fileLength (planOf plan) ⌝ }
+    ensures { λ r. ⌜ r ≡ firstFailed (contentTests (planOf plan) (marksIn (now (file .entry))) (symbolsIn (now (file .entry)))) ⌝ }
+{
+    let rows = plan::rows(plan);
+    let mut words = [0u32; 8];
+    read_marks(file, rows, &mut words);
+    let start = 8 + 4 * rows;
+    content_refusal(plan, &file[start..], &words[..rows])
 }
