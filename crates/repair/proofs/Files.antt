@@ -21,6 +21,7 @@ use Rattle.repair.specs.Refusal.{firstFailed, unasked, inMemory, inFile,
 use Rattle.repair.specs.Codeword.{outcomeOf}
 use Rattle.repair.specs.declared.Outcome.the-variants.{Done, Refused}
 use Rattle.repair.specs.File.{bytes2, bytes4, marksOffset, symbolsOffset, fileLength, headerOf, blanked, fileOf, writeRefusal, writeFile, planIn, wordAt, marksIn, symbolsIn, fileRefusal, readRefusal, readStripe, readMarks}
+use Rattle.repair.proofs.Rows.{sets-whole}
 use Rattle.repair.proofs.Writing.{front-set, sets-three}
 use Rattle.repair.proofs.Shape.{shape}
 use Rattle.repair.proofs.Fit.{pass, go-on, eq→eqb, passed, passes, marks-fit, fit-marks, symbols-fit, fit-symbols, LentFit}
@@ -208,6 +209,48 @@ module _ (file : List ℕ) (lengths : Bool) where
         symbols = f .symbols;
         blank = subst (λ l. T (same (symbolsIn file) l)) (f .blank) (same-refl (symbolsIn file));
       }
+
+pub fit-whole : {file : List ℕ} {p n : ℕ} → FileFit file → p ≡ planIn file → n ≡ planOf p .rows → Whole p n file
+fit-whole f is rows = record {
+  plan-known = subst (λ k. T (known k)) (sym is) (f .plan-known);
+  plan = is;
+  rows = rows;
+  long = f .whole ∙ ap (λ k. fileLength (planOf k)) (sym is);
+}
+
+-- what reading leaves in the buffers lent to receive the file
+module _ (file s m : List ℕ) where
+  pub unread-stripe : (readRefusal file s m ≡ 0 → ⊥) → s ≡ readStripe file s m
+  unfolding if_then_else_ readStripe
+  unread-stripe h = rw (ne-eqb (readRefusal file s m) 0 h)
+
+  pub unread-marks : (readRefusal file s m ≡ 0 → ⊥) → m ≡ readMarks file s m
+  unfolding if_then_else_ readMarks
+  unread-marks h = rw (ne-eqb (readRefusal file s m) 0 h)
+
+  module _ (e : readRefusal file s m ≡ 0) where
+    abbrev lent : Bool
+    lent = stripeFits (planOf (planIn file)) s && wordsFit (planOf (planIn file)) m
+
+    pub read-fits : FileFit file × T lent
+    unfolding readRefusal
+    read-fits = file-fit file lent e
+
+    pub read-stripe-long : length s ≡ planOf (planIn file) .rows * planOf (planIn file) .columns
+    unfolding stripeFits
+    read-stripe-long = eqb→eq (length s) _ (both-left (stripeFits (planOf (planIn file)) s) (wordsFit (planOf (planIn file)) m) (read-fits .1))
+
+    pub read-marks-long : length m ≡ planOf (planIn file) .rows
+    unfolding wordsFit
+    read-marks-long = eqb→eq (length m) _ (both-right (stripeFits (planOf (planIn file)) s) (wordsFit (planOf (planIn file)) m) (read-fits .1))
+
+    pub stripe-loaded : sets s 0 (symbolsIn file) ≡ readStripe file s m
+    unfolding if_then_else_ readStripe
+    stripe-loaded = rw e (sets-whole (symbolsIn file) s (length-symbols-in file (read-fits .0 .whole) ∙ sym read-stripe-long))
+
+    pub marks-loaded : sets m 0 (marksIn file) ≡ readMarks file s m
+    unfolding if_then_else_ readMarks
+    marks-loaded = rw e (sets-whole (marksIn file) m (length-marks-in file ∙ sym read-marks-long))
 
 -- ---- what was written is read
 
@@ -438,7 +481,7 @@ module _ (p : ℕ) (stripe marks old s m : List ℕ) (e : writeRefusal p stripe 
 -- bytes that are not refused when read are written, into a buffer as long, as they were
 module _ (file s m old : List ℕ) (bytes : Fit 256 file) (e : readRefusal file s m ≡ 0) (long : length old ≡ length file) where
   abbrev fit : FileFit file
-  fit = unfold readRefusal in file-fit file _ e .0
+  fit = read-fits file s m e .0
 
   pub write-read : writeRefusal (planIn file) (readStripe file s m) (readMarks file s m) old ≡ 0
   unfolding if_then_else_ readStripe readMarks

@@ -14,9 +14,10 @@ ghost use Rattle.field.specs.Lists.{if_then_else_, upFrom};
 ghost use Rattle.linear.specs.Lists.{«same» as equal};
 ghost use Rattle.linear.specs.Marks.{bitsOf};
 ghost use Rattle.repair.specs.Plan.{planOf, known, marksOf};
-ghost use Rattle.repair.specs.Refusal.{firstFailed};
+ghost use Rattle.repair.specs.Refusal.{firstFailed, unasked};
 ghost use Rattle.repair.specs.Codeword.{outcomeOf};
-ghost use Rattle.repair.specs.File.{bytes4, headerOf, fileLength, blanked, fileOf, writeRefusal, writeFile, planIn, wordAt, marksIn, symbolsIn};
+ghost use Rattle.repair.specs.File.{bytes4, headerOf, fileLength, blanked, fileOf, writeRefusal, writeFile, planIn, wordAt, marksIn, symbolsIn, fileRefusal};
+ghost use Rattle.repair.specs.File.{readRefusal, readStripe, readMarks};
 ghost use Rattle.repair.specs.Parts.{contentTests};
 
 // ---- words of four bytes, low byte first
@@ -247,4 +248,59 @@ fn whole_refusal(plan: usize, file: &[u8]) -> usize
     read_marks(file, rows, &mut words);
     let start = 8 + 4 * rows;
     content_refusal(plan, &file[start..], &words[..rows])
+}
+
+// What of a file is refused, `lengths` saying whether the buffers lent to receive it fit; 0 where nothing is.
+pub fn file_refusal(file: &[u8], lengths: bool) -> usize
+    ensures { λ r. ⌜ r ≡ fileRefusal (now (file .entry)) lengths ⌝ }
+{
+    if file.len() < 8 {
+        return 20;
+    }
+    let plan = plan_in(file);
+    if !plan::is_known(plan) {
+        return 10;
+    }
+    let header = header_of(plan);
+    if !same(&file[..8], &header) {
+        return 21;
+    }
+    if file.len() != plan::file_length(plan) {
+        return 20;
+    }
+    if !lengths {
+        return 11;
+    }
+    whole_refusal(plan, file)
+}
+
+// Reads a file that is not refused to the front of two buffers. What is behind the symbols and marks there is unchanged.
+pub fn load(file: &[u8], stripe: &mut [u8], marks: &mut [u32])
+    requires { ⌜ fileRefusal (now file) unasked ≡ 0 ⌝ }
+    requires { ⌜ planOf (planIn (now file)) .rows * planOf (planIn (now file)) .columns ≤ length (now stripe) ⌝ }
+    requires { ⌜ planOf (planIn (now file)) .rows ≤ length (now marks) ⌝ }
+    ensures { λ _. ⌜ now (stripe .exit) ≡ sets (now (stripe .entry)) 0 (symbolsIn (now (file .entry))) ⌝ }
+    ensures { λ _. ⌜ now (marks .exit) ≡ sets (now (marks .entry)) 0 (marksIn (now (file .entry))) ⌝ }
+{
+    let plan = plan_in(file);
+    let rows = plan::rows(plan);
+    read_marks(file, rows, marks);
+    let start = 8 + 4 * rows;
+    buffer::put(&file[start..], stripe, 0);
+}
+
+// Reads a file into a stripe and its marks. Where it is refused both are unchanged.
+pub fn read_file(file: &[u8], stripe: &mut [u8], marks: &mut [u32]) -> Outcome
+    ensures { λ r. ⌜ r ≡ outcomeOf (readRefusal (now (file .entry)) (now (stripe .entry)) (now (marks .entry))) ⌝ }
+    ensures { λ r. ⌜ now (stripe .exit) ≡ readStripe (now (file .entry)) (now (stripe .entry)) (now (marks .entry)) ⌝ }
+    ensures { λ r. ⌜ now (marks .exit) ≡ readMarks (now (file .entry)) (now (stripe .entry)) (now (marks .entry)) ⌝ }
+{
+    let plan = plan_in(file);
+    let lengths = refusal::lengths_fit(plan, stripe, marks);
+    let refusal = file_refusal(file, lengths);
+    if refusal != 0 {
+        return Outcome::Refused(refusal);
+    }
+    load(file, stripe, marks);
+    Outcome::Done
 }
