@@ -43,7 +43,7 @@ same-length : tie.Need-same-length Inv-loop μ-loop
 same-length c = writing-length _ _ _ (c .before .loop .inv .1)
 
 returns : tie.Need-returns Inv-loop μ-loop
-returns c = (search needs, writing-ends _ _ _ (c .before .loop .inv .1) (omega arith))
+returns c = record { reached = refl; written = writing-ends _ _ _ (c .before .loop .inv .1) (omega arith) }
 
 pub put-spec : {M : Type 1} → statement M
 put-spec =

@@ -59,7 +59,7 @@ same-length-2 c = search needs
 
 returns : tie.Need-returns
 returns c =
-    (c .before .before .put .ensures .1 ∙ ap (sets _ 0) (whole-cut (whole (c .before .before .before .before .before .before .before .before .before))), c .before .before .before .before .before .before .before .read-marks .ensures)
+    (c .before .before .put .ensures .written ∙ ap (sets _ 0) (whole-cut (whole (c .before .before .before .before .before .before .before .before .before))), c .before .before .before .before .before .before .before .read-marks .ensures)
 
 pub load-spec : {M : Type 1} → statement M
 load-spec =

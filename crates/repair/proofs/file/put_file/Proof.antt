@@ -34,7 +34,7 @@ put-marks-requires : tie.Need-put-marks-requires
 unfolding bytes2 marksOffset symbolsOffset fileLength headerOf
 put-marks-requires c κs =
     let put = c .before .before .before .put in
-    omega (arith, put .ensures .0, put .kept .1 .0, ap length (c .before .before .before .before .before .before .header-of .ensures), fit (c .before .before .before .before .before .before .before .before .before .before) .0 .words, fit (c .before .before .before .before .before .before .before .before .before .before) .1)
+    omega (arith, put .ensures .reached, put .kept .1 .0, ap length (c .before .before .before .before .before .before .header-of .ensures), fit (c .before .before .before .before .before .before .before .before .before .before) .0 .words, fit (c .before .before .before .before .before .before .before .before .before .before) .1)
 
 put-symbols-requires : tie.Need-put-symbols-requires
 unfolding bytes2 marksOffset symbolsOffset fileLength headerOf
@@ -43,7 +43,7 @@ put-symbols-requires c κs =
     let marks = c .before .before .before .put-marks in
     let f = fit (c .before .before .before .before .before .before .before .before .before .before .before .before .before .before) in
     (f .0 .plan-known, (f .0 .words, (f .0 .long,
-    omega (arith, put .ensures .0, put .kept .1 .0, marks .ensures .0, marks .kept .1 .0, ap length (c .before .before .before .before .before .before .before .before .before .before .header-of .ensures), f .0 .words, f .0 .long, f .1))))
+    omega (arith, put .ensures .reached, put .kept .1 .0, marks .ensures .0, marks .kept .1 .0, ap length (c .before .before .before .before .before .before .before .before .before .before .header-of .ensures), f .0 .words, f .0 .long, f .1))))
 
 same-length : tie.Need-same-length
 same-length c = search needs
@@ -53,7 +53,7 @@ returns c =
     let put = c .before .before .before .before .before .before .before .before .before .before .put .ensures in
     let marks = c .before .before .before .before .before .before .put-marks .ensures in
     let f = fit (c .before .before .before .before .before .before .before .before .before .before .before .before .before .before .before .before .before) in
-    parts-put _ _ _ (f .0) _ (f .1) (c .before .before .before .before .before .before .before .before .before .before .before .before .before .header-of .ensures) (put .1) (put .0) (marks .1) (marks .0) (c .before .before .put-symbols .ensures)
+    parts-put _ _ _ (f .0) _ (f .1) (c .before .before .before .before .before .before .before .before .before .before .before .before .before .header-of .ensures) (put .written) (put .reached) (marks .1) (marks .0) (c .before .before .put-symbols .ensures)
 
 pub put-file-spec : {M : Type 1} → statement M
 put-file-spec =

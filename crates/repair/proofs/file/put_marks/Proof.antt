@@ -49,8 +49,8 @@ unfolding bytes4
 loop-again c =
     let l = c .before .before .before .before .before .before .before .before .loop in
     let put = c .before .before .put .ensures in
-    (refl, omega (arith, put .0, ap length (c .before .before .before .before .before .bytes-of .ensures)),
-    joining-turns bytes4 _ _ _ (l .inv .2) (omega arith) (c .before .before .before .before .before .bytes-of .ensures) (put .1) (put .0))
+    (refl, omega (arith, put .reached, ap length (c .before .before .before .before .before .bytes-of .ensures)),
+    joining-turns bytes4 _ _ _ (l .inv .2) (omega arith) (c .before .before .before .before .before .bytes-of .ensures) (put .written) (put .reached))
 
 same-length : tie.Need-same-length Inv-loop μ-loop
 same-length c = joining-length bytes4 _ _ _ (c .before .loop .inv .2)
