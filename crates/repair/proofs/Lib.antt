@@ -18,3 +18,5 @@ pub mod Sames
 pub mod Writing
 pub mod Stripes
 pub mod Files
+-- the text
+pub mod Texts

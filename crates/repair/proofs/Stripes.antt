@@ -26,6 +26,10 @@ known-below p t = ltb→lt p 4 (both-right (ltb 0 p) (ltb p 4) t)
 
 -- ---- rows
 
+pub getD-bits : (n word c : ℕ) → c < n → getD (bitsOf n word) c false ≡ eqb (word / 2 ^ c % 2) 1
+unfolding bitsOf
+getD-bits n word c h = getD-map-below (λ k. eqb (word / 2 ^ k % 2) 1) n c false h
+
 module _ (P : Plan) where
   pub length-marks : (marks : List ℕ) (r : ℕ) → length (marksAt P marks r) ≡ P .columns
   unfolding marksAt
@@ -118,11 +122,8 @@ module _ (word : ℕ) (row : List ℕ) where
   pub getD-kept : (c : ℕ) → c < length row
       → (if eqb (word / 2 ^ c % 2) 1 then 0 else getD row c 0) ≡ getD (blanked (bitsOf (length row) word) row) c 0
   getD-kept c h =
-      ap (λ b. if b then 0 else getD row c 0) (sym (bit c h))
+      ap (λ b. if b then 0 else getD row c 0) (sym (getD-bits (length row) word c h))
       ∙ sym (getD-blanked (bitsOf (length row) word) row c (subst (λ n. c < n) (sym (length-bits (length row) word)) h))
-    where
-      bit : (c : ℕ) → c < length row → getD (bitsOf (length row) word) c false ≡ eqb (word / 2 ^ c % 2) 1
-      bit c h = unfold bitsOf in getD-map-below (λ k. eqb (word / 2 ^ k % 2) 1) (length row) c false h
 
 pub length-marks-of : (P : Plan) (marks : List ℕ) → length (marksOf P marks) ≡ P .rows * P .columns
 unfolding flatMap upFrom marksOf

@@ -8,6 +8,7 @@ use native.Mathlib.Omega.{arith}
 use lib.ListN.{length, getD, set, take, length-append}
 use Rattle.field.specs.Lists.{upFrom}
 use Rattle.field.proofs.Lists.{length-up, getD-map-below}
+use Rattle.repair.specs.Parts.{Put}
 use Rattle.repair.proofs.Rows.{take-sets, sets-whole}
 use lib.Seq.{sets, length-sets, length-take-le, take-all, take-suc}
 
@@ -17,6 +18,16 @@ sets-append [] b l i = ap (λ k. sets l k b) (sym (add-zero i))
 sets-append (v ∷ a) b l i =
     sets-append a b (set l i v) (suc i)
     ∙ ap (λ k. sets (sets (set l i v) (suc i) a) k b) (suc-add i (length a) ∙ sym (add-suc i (length a)))
+
+-- what was put behind what was put
+pub put-then : {old l k : List ℕ} {at i j : ℕ} {xs ys : List ℕ} → Put old at xs i l → Put l i ys j k → Put old at (xs ++ ys) j k
+put-then {old} {at} {xs} {ys} p q = record {
+  reached = q .reached ∙ ap (λ n. n + length ys) (p .reached) ∙ add-assoc at (length xs) (length ys) ∙ ap (λ n. at + n) (sym (length-append xs ys));
+  written = q .written ∙ ap₂ (λ l i. sets l i ys) (p .written) (p .reached) ∙ sym (sets-append xs ys old at);
+}
+
+pub put-one : {old l : List ℕ} {at i : ℕ} {xs : List ℕ} → Put old at xs i l → (v : ℕ) → Put old at (xs ++ (v ∷ [])) (i + 1) (set l i v)
+put-one p v = put-then {ys = v ∷ []} p record { reached = refl; written = refl }
 
 -- three lists as long as the buffer take its place
 pub sets-three : (a b c l : List ℕ) → length (a ++ b ++ c) ≡ length l → sets (sets (sets l 0 a) (length a) b) (length (a ++ b)) c ≡ a ++ b ++ c
@@ -57,6 +68,9 @@ module _ (old : List ℕ) (at : ℕ) (xs : List ℕ) where
 
   pub writing-ends : {i : ℕ} {l : List ℕ} → Writing old at xs i l → length xs ≤ i → l ≡ sets old at xs
   writing-ends {i} h all = h .written ∙ ap (sets old at) (take-all i xs all)
+
+  pub writing-put : {i : ℕ} {l : List ℕ} {next : ℕ} → Writing old at xs i l → length xs ≤ i → next ≡ at + length xs → Put old at xs next l
+  writing-put h all n = record { reached = n; written = writing-ends h all }
 
 -- ---- a loop that writes a list for each number, one a turn
 

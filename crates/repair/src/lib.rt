@@ -4,6 +4,7 @@ mod refusal;
 mod buffer;
 mod marks;
 pub mod file;
+pub mod text;
 
 // A plan's number, the level t that was reached, symbols and mark words row after row, and each row's learned sums, 16 places a row.
 pub struct Bench {
