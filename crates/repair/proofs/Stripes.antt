@@ -75,7 +75,7 @@ module _ {P : Plan} {l : List ℕ} {r n : ℕ} (k : Cut P l r n) where
   cut-length = ap length cut-row ∙ row-length P l r (row-inside P l (k .long) (k .below)) ∙ sym (k .wide)
 
   -- what a function of a mark word and a row gives
-  pub cut-marks : (f : List Bool → List ℕ → List ℕ) (marks : List ℕ) → let row = take (r * n + n - r * n) (drop (r * n) l) in
+  pub cut-marks : {A : Type 0} (f : List Bool → List ℕ → A) (marks : List ℕ) → let row = take (r * n + n - r * n) (drop (r * n) l) in
       f (bitsOf (length row) (getD marks r 0)) row ≡ f (marksAt P marks r) (rowAt P l r)
   unfolding marksAt
   cut-marks f marks = ap₂ (λ m row. f (bitsOf m (getD marks r 0)) row) (cut-length ∙ k .wide) cut-row

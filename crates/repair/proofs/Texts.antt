@@ -3,15 +3,24 @@ use mathlib.Core.Path.{_≡_, refl, sym, ap, ap₂, _∙_, subst}
 use mathlib.Core.Bool.{Bool, true, false, _||_}
 use mathlib.Core.List.{List, [], _∷_, _++_}
 use Prim.Native.Nat.{ℕ, zero, suc, _+_, _/_, _%_, _^_, _≤_, _<_}
-use native.Mathlib.Nat.{suc-inj, not-suc-le-zero, le-of-suc-le-suc}
+use native.Mathlib.Nat.{suc-inj, not-suc-le-zero, le-of-suc-le-suc, le-trans}
 use native.Mathlib.Omega.{arith}
 use borrow.Author.Tests.{lt-ltb, le-ltb, ltb-true}
-use lib.Dec.{T, eqb, ltb}
+use lib.Dec.{T, eqb, ltb, ltb→lt, lt→ltb, lit<, lit≤}
 use lib.ListN.{length, getD}
 use Rattle.field.specs.Lists.{if_then_else_}
+use Rattle.field.specs.Field.{size, gf2, gf16}
+use Rattle.field.proofs.Test.{both-left, both-right, both}
+use Rattle.linear.specs.Lists.{all}
 use Rattle.linear.specs.Marks.{bitsOf}
-use Rattle.repair.specs.Refusal.{unmarkedBelow}
+use Rattle.repair.specs.Plan.{plan1, plan2, plan3, planOf, known, rowAt, marksAt}
+use Rattle.repair.specs.Refusal.{allBelow, unmarkedBelow, symbolsFit}
+use Rattle.repair.specs.Answers.{placeValues}
+use Rattle.repair.specs.declared.Place.{Place}
+use Rattle.repair.specs.declared.Place.the-variants.{Row, Across}
 use Rattle.repair.specs.Text.{digitsIn, decimal, hex, shown}
+use Rattle.repair.proofs.Shape.{of-known}
+use Rattle.repair.proofs.Fit.{symbols-fit}
 use Rattle.repair.proofs.Scan.{length-bits, fitsIn, row-up, up-each}
 use Rattle.repair.proofs.Sames.{holds}
 use Rattle.repair.proofs.Stripes.{getD-bits}
@@ -27,6 +36,21 @@ unfolding if_then_else_ digitsIn decimal
 two-digits zero l h = absurd (omega arith)
 two-digits (suc n) l h =
     rw (le-ltb (suc n) 10 l, lt-ltb (suc n / 10) 10 (omega arith)) (ap (λ d. (48 + d) ∷ (48 + suc n % 10) ∷ []) (omega arith))
+
+pub below-at : (q : ℕ) (xs : List ℕ) → T (allBelow q xs) → (i : ℕ) → i < length xs → getD xs i 0 < q
+unfolding all allBelow
+below-at q [] t i h = absurd (not-suc-le-zero h)
+below-at q (x ∷ xs) t zero h = ltb→lt x q (both-left (ltb x q) (allBelow q xs) t)
+below-at q (x ∷ xs) t (suc i) h = below-at q xs (both-right (ltb x q) (allBelow q xs) t) i (le-of-suc-le-suc h)
+
+pub row-below : {place : Place} {row level q : ℕ} → place ≡ Row row level → T (allBelow q (placeValues place)) → (level < q) × (row < q)
+unfolding placeValues
+row-below {place} {row} {level} {q} e t =
+    let h = below-at q (level ∷ row ∷ []) (subst (λ p. T (allBelow q (placeValues p))) e t) in (h 0 (lit< tt), h 1 (lit< tt))
+
+pub across-below : {place : Place} {level q : ℕ} → place ≡ Across level → T (allBelow q (placeValues place)) → level < q
+unfolding placeValues
+across-below {place} {level} {q} e t = below-at q (level ∷ []) (subst (λ p. T (allBelow q (placeValues p))) e t) 0 (lit< tt)
 
 -- ---- rows
 
@@ -65,3 +89,21 @@ module _ (word : ℕ) (row : List ℕ) where
         ltb-true (getD row c 0) q
         (ap (λ b. b || ltb (getD row c 0) q) (sym (getD-bits (length row) word c h ∙ e))
         ∙ up-each (fitsIn q word row) (length row) (sym (row-up q word row) ∙ holds (unmarkedBelow q (bitsOf (length row) word) row) t) c h)
+
+unmarked-le : (q r : ℕ) → q ≤ r → (ms : List Bool) (xs : List ℕ) → T (unmarkedBelow q ms xs) → T (unmarkedBelow r ms xs)
+unfolding unmarkedBelow
+unmarked-le q r l [] xs t = tt
+unmarked-le q r l (m ∷ ms) [] t = tt
+unmarked-le q r l (true ∷ ms) (x ∷ xs) t = unmarked-le q r l ms xs t
+unmarked-le q r l (false ∷ ms) (x ∷ xs) t =
+    both (ltb x r) (unmarkedBelow r ms xs) (lt→ltb x r (le-trans (ltb→lt x q (both-left (ltb x q) (unmarkedBelow q ms xs) t)) l))
+    (unmarked-le q r l ms xs (both-right (ltb x q) (unmarkedBelow q ms xs) t))
+
+-- every symbol has a hex digit
+pub fit-hex : (p : ℕ) → T (known p) → (marks stripe : List ℕ) → T (symbolsFit (planOf p) marks stripe) → (r : ℕ) → r < planOf p .rows
+    → T (unmarkedBelow 16 (marksAt (planOf p) marks r) (rowAt (planOf p) stripe r))
+fit-hex p k marks stripe t r h =
+    unmarked-le (size (planOf p .field)) 16 (few p k) (marksAt (planOf p) marks r) (rowAt (planOf p) stripe r) (symbols-fit (planOf p) marks stripe t r h)
+  where
+    few : (p : ℕ) → T (known p) → size (planOf p .field) ≤ 16
+    few = unfold size gf2 gf16 plan1 plan2 plan3 planOf in of-known (λ p. size (planOf p .field) ≤ 16) (lit≤ tt) (lit≤ tt) (lit≤ tt)

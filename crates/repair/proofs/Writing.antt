@@ -1,5 +1,5 @@
 -- Buffers written from a place on: runs of stores, and the loops that make them. Assumes nothing.
-use mathlib.Core.Path.{_≡_, refl, sym, ap, ap₂, _∙_}
+use mathlib.Core.Path.{_≡_, refl, sym, ap, ap₂, _∙_, subst}
 use mathlib.Core.List.{List, [], _∷_, _++_, map, flatMap, append-nil, append-assoc}
 use Prim.Native.Nat.{ℕ, zero, suc, _+_, _≤_, _<_}
 use native.Mathlib.Nat.{add-zero, add-suc, suc-add, zero-add, add-assoc}
@@ -25,6 +25,9 @@ put-then {old} {at} {xs} {ys} p q = record {
   reached = q .reached ∙ ap (λ n. n + length ys) (p .reached) ∙ add-assoc at (length xs) (length ys) ∙ ap (λ n. at + n) (sym (length-append xs ys));
   written = q .written ∙ ap₂ (λ l i. sets l i ys) (p .written) (p .reached) ∙ sym (sets-append xs ys old at);
 }
+
+pub put-is : {old l : List ℕ} {at i : ℕ} {xs ys : List ℕ} → ys ≡ xs → Put old at xs i l → Put old at ys i l
+put-is {old} {l} {at} {i} e p = subst (λ zs. Put old at zs i l) (sym e) p
 
 pub put-one : {old l : List ℕ} {at i : ℕ} {xs : List ℕ} → Put old at xs i l → (v : ℕ) → Put old at (xs ++ (v ∷ [])) (i + 1) (set l i v)
 put-one p v = put-then {ys = v ∷ []} p record { reached = refl; written = refl }

@@ -2,18 +2,20 @@
 use super::buffer;
 use super::marks;
 use super::plan;
+use super::{Answer, Place, Report};
 ghost use mathlib.Core.Path.{_≡_};
 ghost use mathlib.Core.Bool.{false};
-ghost use mathlib.Core.List.{_++_, flatMap};
+ghost use mathlib.Core.List.{_∷_, _++_, flatMap};
 ghost use Prim.Native.Nat.{_+_, _*_, _/_, _%_, _^_, _≤_, _<_};
 ghost use lib.Dec.{T, eqb};
 ghost use lib.ListN.{length, take};
 ghost use Rattle.field.specs.Lists.{if_then_else_};
 ghost use Rattle.linear.specs.Marks.{bitsOf};
 ghost use Rattle.repair.specs.Plan.{planOf, known};
+ghost use Rattle.repair.specs.Answers.{placeValues};
 ghost use Rattle.repair.specs.Refusal.{allBelow, unmarkedBelow, symbolsFit};
 ghost use Rattle.repair.specs.Parts.{Put};
-ghost use Rattle.repair.specs.Text.{decimal, hex, «item» as itemOf, lineEnd, shown, «grid» as gridOf};
+ghost use Rattle.repair.specs.Text.{decimal, hex, «item» as itemOf, lineEnd, shown, «grid» as gridOf, placeText, summary};
 
 // ---- bytes. Each function writes from `at` on and gives the place behind what it wrote; the rest of `out` is unchanged.
 
@@ -65,6 +67,7 @@ fn put_line(word: u32, row: &[u8], out: &mut [u8], at: usize) -> usize
     requires { ⌜ (length (now row) ≤ 32) × (at + length (now row) + 1 ≤ length (now out)) ⌝ }
     requires { ⌜ T (unmarkedBelow 16 (bitsOf (length (now row)) word) (now row)) ⌝ }
     ensures { λ r. ⌜ Put (now (out .entry)) at (shown (bitsOf (length (now (row .entry))) word) (now (row .entry)) ++ lineEnd) r (now (out .exit)) ⌝ }
+    ensures { λ r. ⌜ r ≡ at + length (now (row .entry)) + 1 ⌝ }
 {
     for c in 0..row.len() {
         out[at + c] = digit(word, c, row[c]);
@@ -72,4 +75,82 @@ fn put_line(word: u32, row: &[u8], out: &mut [u8], at: usize) -> usize
     let end = at + row.len();
     out[end] = b'\n';
     end + 1
+}
+
+// All rows, a line each.
+fn put_grid(plan: usize, stripe: &[u8], marks: &[u32], out: &mut [u8], at: usize) -> usize
+    requires { ⌜ T (known plan) ⌝ }
+    requires { ⌜ length (now marks) ≡ planOf plan .rows ⌝ }
+    requires { ⌜ length (now stripe) ≡ planOf plan .rows * planOf plan .columns ⌝ }
+    requires { ⌜ T (symbolsFit (planOf plan) (now marks) (now stripe)) ⌝ }
+    requires { ⌜ at + 264 ≤ length (now out) ⌝ }
+    ensures { λ r. ⌜ Put (now (out .entry)) at (gridOf (planOf plan) (now (stripe .entry)) (now (marks .entry))) r (now (out .exit)) ⌝ }
+{
+    let columns = plan::columns(plan);
+    let mut next = at;
+    for r in 0..marks.len() {
+        let start = r * columns;
+        let end = start + columns;
+        next = put_line(marks[r], &stripe[start..end], out, next);
+    }
+    next
+}
+
+// ---- the first line
+
+// A space and a number below 100.
+fn put_count(n: usize, out: &mut [u8], at: usize) -> usize
+    requires { ⌜ (n < 100) × (at + 3 ≤ length (now out)) ⌝ }
+    ensures { λ r. ⌜ Put (now (out .entry)) at (itemOf " " n) r (now (out .exit)) ⌝ }
+    ensures { λ r. ⌜ r ≤ at + 3 ⌝ }
+{
+    put_item(b" ", n, out, at)
+}
+
+// The first of these counts, up to 3.
+fn put_counts(levels: usize, counts: &[usize], out: &mut [u8], at: usize) -> usize
+    requires { ⌜ (levels ≤ 3) × (levels ≤ length (now counts)) × T (allBelow 100 (now counts)) ⌝ }
+    requires { ⌜ at + 9 ≤ length (now out) ⌝ }
+    ensures { λ r. ⌜ Put (now (out .entry)) at (flatMap (itemOf " ") (take levels (now (counts .entry)))) r (now (out .exit)) ⌝ }
+    ensures { λ r. ⌜ r ≤ at + 9 ⌝ }
+{
+    let mut next = at;
+    for k in 0..levels {
+        next = put_count(counts[k], out, next);
+    }
+    next
+}
+
+// Level, rows left, and rows restored at each level of the plan.
+fn put_summary(plan: usize, report: Report, out: &mut [u8], at: usize) -> usize
+    requires { ⌜ T (allBelow 100 (report .level ∷ report .left ∷ report .rows)) ⌝ }
+    requires { ⌜ at + 32 ≤ length (now out) ⌝ }
+    ensures { λ r. ⌜ Put (now (out .entry)) at (summary plan report) r (now (out .exit)) ⌝ }
+    ensures { λ r. ⌜ r ≤ at + 32 ⌝ }
+{
+    let counts = report.rows;
+    let at_left = put_item(b" level ", report.level, out, at);
+    let at_rows = put_item(b" left ", report.left, out, at_left);
+    let at_counts = buffer::put(b" rows", out, at_rows);
+    let at_end = put_counts(plan::levels(plan), &counts, out, at_counts);
+    buffer::put(b"\n", out, at_end)
+}
+
+// The place of a Clash.
+fn put_place(place: Place, out: &mut [u8], at: usize) -> usize
+    requires { ⌜ T (allBelow 100 (placeValues place)) ⌝ }
+    requires { ⌜ at + 22 ≤ length (now out) ⌝ }
+    ensures { λ r. ⌜ Put (now (out .entry)) at (placeText place) r (now (out .exit)) ⌝ }
+    ensures { λ r. ⌜ r ≤ at + 22 ⌝ }
+{
+    match place {
+        Place::Row { row, level } => {
+            let next = put_item(b" level ", level, out, at);
+            put_item(b" place row ", row, out, next)
+        }
+        Place::Across { level } => {
+            let next = put_item(b" level ", level, out, at);
+            buffer::put(b" place across", out, next)
+        }
+    }
 }
