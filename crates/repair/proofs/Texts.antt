@@ -52,6 +52,13 @@ pub across-below : {place : Place} {level q : ℕ} → place ≡ Across level �
 unfolding placeValues
 across-below {place} {level} {q} e t = below-at q (level ∷ []) (subst (λ p. T (allBelow q (placeValues p))) e t) 0 (lit< tt)
 
+pub beside-below : (q level left : ℕ) (rows : List ℕ) → T (allBelow q (level ∷ left ∷ rows)) → (level < q) × (left < q) × T (allBelow q rows)
+unfolding all allBelow
+beside-below q level left rows t =
+    let u = both-right (ltb level q) (allBelow q (left ∷ rows)) t in
+    (ltb→lt level q (both-left (ltb level q) (allBelow q (left ∷ rows)) t), ltb→lt left q (both-left (ltb left q) (allBelow q rows) u),
+    both-right (ltb left q) (allBelow q rows) u)
+
 -- ---- rows
 
 pub length-shown : (ms : List Bool) (xs : List ℕ) → length ms ≡ length xs → length (shown ms xs) ≡ length xs

@@ -12,10 +12,10 @@ ghost use lib.ListN.{length, take};
 ghost use Rattle.field.specs.Lists.{if_then_else_};
 ghost use Rattle.linear.specs.Marks.{bitsOf};
 ghost use Rattle.repair.specs.Plan.{planOf, known};
-ghost use Rattle.repair.specs.Answers.{placeValues};
+ghost use Rattle.repair.specs.Answers.{answerNumber, placeValues, reportValues};
 ghost use Rattle.repair.specs.Refusal.{allBelow, unmarkedBelow, symbolsFit};
 ghost use Rattle.repair.specs.Parts.{Put};
-ghost use Rattle.repair.specs.Text.{decimal, hex, «item» as itemOf, lineEnd, shown, «grid» as gridOf, placeText, summary};
+ghost use Rattle.repair.specs.Text.{decimal, hex, «item» as itemOf, lineEnd, shown, «grid» as gridOf, placeText, summary, reportText};
 
 // ---- bytes. Each function writes from `at` on and gives the place behind what it wrote; the rest of `out` is unchanged.
 
@@ -121,6 +121,16 @@ fn put_counts(levels: usize, counts: &[usize], out: &mut [u8], at: usize) -> usi
     next
 }
 
+// Level and rows left.
+fn put_reached(level: usize, left: usize, out: &mut [u8], at: usize) -> usize
+    requires { ⌜ (level < 100) × (left < 100) × (at + 17 ≤ length (now out)) ⌝ }
+    ensures { λ r. ⌜ Put (now (out .entry)) at (itemOf " level " level ++ itemOf " left " left) r (now (out .exit)) ⌝ }
+    ensures { λ r. ⌜ r ≤ at + 17 ⌝ }
+{
+    let next = put_item(b" level ", level, out, at);
+    put_item(b" left ", left, out, next)
+}
+
 // Level, rows left, and rows restored at each level of the plan.
 fn put_summary(plan: usize, report: Report, out: &mut [u8], at: usize) -> usize
     requires { ⌜ T (allBelow 100 (report .level ∷ report .left ∷ report .rows)) ⌝ }
@@ -129,8 +139,7 @@ fn put_summary(plan: usize, report: Report, out: &mut [u8], at: usize) -> usize
     ensures { λ r. ⌜ r ≤ at + 32 ⌝ }
 {
     let counts = report.rows;
-    let at_left = put_item(b" level ", report.level, out, at);
-    let at_rows = put_item(b" left ", report.left, out, at_left);
+    let at_rows = put_reached(report.level, report.left, out, at);
     let at_counts = buffer::put(b" rows", out, at_rows);
     let at_end = put_counts(plan::levels(plan), &counts, out, at_counts);
     buffer::put(b"\n", out, at_end)
@@ -152,5 +161,58 @@ fn put_place(place: Place, out: &mut [u8], at: usize) -> usize
             let next = put_item(b" level ", level, out, at);
             buffer::put(b" place across", out, next)
         }
+    }
+}
+
+// What follows the number of Restored and of Stuck.
+fn put_end(plan: usize, report: Report, stripe: &[u8], marks: &[u32], out: &mut [u8], at: usize) -> usize
+    requires { ⌜ T (known plan) ⌝ }
+    requires { ⌜ length (now marks) ≡ planOf plan .rows ⌝ }
+    requires { ⌜ length (now stripe) ≡ planOf plan .rows * planOf plan .columns ⌝ }
+    requires { ⌜ T (symbolsFit (planOf plan) (now marks) (now stripe)) ⌝ }
+    requires { ⌜ T (allBelow 100 (report .level ∷ report .left ∷ report .rows)) × (at + 296 ≤ length (now out)) ⌝ }
+    ensures { λ r. ⌜ Put (now (out .entry)) at (summary plan report ++ gridOf (planOf plan) (now (stripe .entry)) (now (marks .entry))) r (now (out .exit)) ⌝ }
+{
+    let next = put_summary(plan, report, out, at);
+    put_grid(plan, stripe, marks, out, next)
+}
+
+// What follows the number of Clash.
+fn put_clash(place: Place, out: &mut [u8], at: usize) -> usize
+    requires { ⌜ T (allBelow 100 (placeValues place)) ⌝ }
+    requires { ⌜ at + 23 ≤ length (now out) ⌝ }
+    ensures { λ r. ⌜ Put (now (out .entry)) at (placeText place ++ lineEnd) r (now (out .exit)) ⌝ }
+{
+    let next = put_place(place, out, at);
+    buffer::put(b"\n", out, next)
+}
+
+// What follows an answer's number.
+fn put_report(plan: usize, report: Report, stripe: &[u8], marks: &[u32], out: &mut [u8], at: usize) -> usize
+    requires { ⌜ T (known plan) ⌝ }
+    requires { ⌜ length (now marks) ≡ planOf plan .rows ⌝ }
+    requires { ⌜ length (now stripe) ≡ planOf plan .rows * planOf plan .columns ⌝ }
+    requires { ⌜ T (symbolsFit (planOf plan) (now marks) (now stripe)) ⌝ }
+    requires { ⌜ T (allBelow 100 (reportValues report)) × (at + 296 ≤ length (now out)) ⌝ }
+    ensures { λ r. ⌜ Put (now (out .entry)) at (reportText plan report (report .answer) (now (stripe .entry)) (now (marks .entry))) r (now (out .exit)) ⌝ }
+{
+    let answer = report.answer;
+    match answer {
+        Answer::Restored => put_end(plan, report, stripe, marks, out, at),
+        Answer::Stuck => put_end(plan, report, stripe, marks, out, at),
+        Answer::Clash(place) => put_clash(place, out, at),
+        Answer::Refused(_) => buffer::put(b"\n", out, at),
+    }
+}
+
+// The number of an answer.
+fn answer_number(answer: Answer) -> usize
+    ensures { λ r. ⌜ r ≡ answerNumber answer ⌝ }
+{
+    match answer {
+        Answer::Restored => 0,
+        Answer::Stuck => 1,
+        Answer::Clash(_) => 2,
+        Answer::Refused(n) => n,
     }
 }
