@@ -1,1 +1,239 @@
 // Systems of equations over our fields, and filling the marked places of a vector.
+pub mod system;
+
+ghost use mathlib.Core.Path.{_≡_};
+ghost use Prim.Native.Nat.{ℕ, _+_, _*_, _^_, _<_, _≤_};
+ghost use lib.Dec.{eqb};
+ghost use lib.ListN.{length};
+ghost use Rattle.field.specs.Ours.{fieldOf, products};
+ghost use Rattle.linear.specs.Lists.{same};
+ghost use Rattle.linear.specs.Fill.{sumsOf};
+ghost use Rattle.linear.specs.System.{vec, ent, inner, Elements};
+ghost use Rattle.linear.specs.Marks.{mostChecks, mostColumns, rowsOf, fillOf, answerOf, vectorOf, Places, hidden, Copied, Gathered, scattered};
+
+// How many checks and columns `fill` takes at most, and the room that its system takes.
+pub const CHECKS: usize = 16;
+
+pub const COLUMNS: usize = 32;
+
+const ROOM: usize = 528;
+
+// The marked columns are dependent; they are not, and nothing fills; or the one vector that does is in place.
+pub enum Outcome {
+    Tied,
+    None,
+    One,
+}
+
+// Lists the marked columns, ascending, and gives how many there are.
+fn list_places(marks: u32, n: usize, places: &mut [usize]) -> usize
+    requires { ⌜ (marks < 2 ^ n) × (n ≤ length (now places)) ⌝ }
+    ensures { λ k. ⌜ (k ≤ n) × Places marks k (vec (now (places .exit))) ⌝ }
+{
+    let k = u32::count_ones(marks) as usize;
+    let mut rest = marks;
+    let mut c = 0;
+    let mut t = 0;
+    while t < k {
+        let zeros = u32::trailing_zeros(rest);
+        c += zeros as usize;
+        places[t] = c;
+        rest = rest >> zeros >> 1;
+        c += 1;
+        t += 1;
+    }
+    k
+}
+
+// Copies v to `shown`, with 0 under the marks.
+fn hide(marks: u32, v: &[u8], shown: &mut [u8])
+    requires { ⌜ length (now v) ≤ length (now shown) ⌝ }
+    ensures { λ _. ⌜ ((c : ℕ) → c < length (now (v .entry)) → vec (now (shown .exit)) c ≡ hidden marks (now (v .entry)) c) ⌝ }
+{
+    let mut rest = marks;
+    let mut c = 0;
+    while c < v.len() {
+        if rest % 2 == 1 {
+            shown[c] = 0;
+        } else {
+            shown[c] = v[c];
+        }
+        rest = rest / 2;
+        c += 1;
+    }
+}
+
+// The sum of check i over v: row i of the coefficients times v.
+fn row_sum(q: usize, table: &[u8; 256], checks: &[u8], i: usize, v: &[u8], n: usize) -> u8
+    requires { ⌜ now table ≡ products ⌝ }
+    requires { ⌜ (i * n + n ≤ length (now checks)) × (n ≤ length (now v)) ⌝ }
+    ensures { λ s. ⌜ s ≡ inner (fieldOf q) (ent (now (checks .entry)) n i) (vec (now (v .entry))) n ⌝ }
+{
+    let r = i * n;
+    let mut sum = 0;
+    let mut c = 0;
+    while c < n {
+        sum = sum ^ field::product(q, table, checks[r + c], v[c]);
+        c += 1;
+    }
+    sum
+}
+
+// Copies the coefficients of check i at the k places to row i of the system, and leaves the rest as it is.
+fn gather_row(q: usize, checks: &[u8], n: usize, i: usize, places: &[usize], k: usize, a: &mut [u8])
+    requires { ⌜ (i * n + n ≤ length (now checks)) × (i * (k + 1) + (k + 1) ≤ length (now a)) × (k ≤ length (now places)) ⌝ }
+    requires { ⌜ ((t : ℕ) → t < k → vec (now places) t < n) ⌝ }
+    requires { ⌜ Elements (fieldOf q) (vec (now checks)) × Elements (fieldOf q) (vec (now a)) ⌝ }
+    ensures { λ _. ⌜ Copied (now (checks .entry)) n i (vec (now (places .entry))) (now (a .entry)) (now (a .exit)) k k ⌝ }
+    ensures { λ _. ⌜ Elements (fieldOf q) (vec (now (a .exit))) ⌝ }
+{
+    let r = i * n;
+    let s = i * (k + 1);
+    let mut t = 0;
+    while t < k {
+        let p = places[t];
+        a[s + t] = checks[r + p];
+        t += 1;
+    }
+}
+
+// Gathers the system of the k places: for each check its coefficients there, and what the symbols of `shown` leave of its target.
+fn gather(
+    q: usize,
+    table: &[u8; 256],
+    checks: &[u8],
+    target: &[u8],
+    shown: &[u8],
+    n: usize,
+    places: &[usize],
+    k: usize,
+    a: &mut [u8],
+)
+    requires { ⌜ now table ≡ products ⌝ }
+    requires { ⌜ (length (now target) * n ≤ length (now checks)) × (length (now target) * (k + 1) ≤ length (now a)) ⌝ }
+    requires { ⌜ (n ≤ length (now shown)) × (k ≤ length (now places)) × ((t : ℕ) → t < k → vec (now places) t < n) ⌝ }
+    requires { ⌜ Elements (fieldOf q) (vec (now checks)) × Elements (fieldOf q) (vec (now target)) × Elements (fieldOf q) (vec (now a)) ⌝ }
+    ensures { λ _. ⌜ Gathered (fieldOf q) (now (checks .entry)) (now (target .entry)) (vec (now (shown .entry))) n k (vec (now (places .entry))) (ent (now (a .exit)) (k + 1)) (length (now (target .entry))) ⌝ }
+    ensures { λ _. ⌜ Elements (fieldOf q) (vec (now (a .exit))) ⌝ }
+{
+    let mut i = 0;
+    while i < target.len() {
+        gather_row(q, checks, n, i, places, k, a);
+        let sum = row_sum(q, table, checks, i, shown, n);
+        a[i * (k + 1) + k] = target[i] ^ sum;
+        i += 1;
+    }
+}
+
+// Whether v has the target sums.
+fn has_sums(q: usize, table: &[u8; 256], checks: &[u8], target: &[u8], v: &[u8]) -> bool
+    requires { ⌜ now table ≡ products ⌝ }
+    requires { ⌜ length (now checks) ≡ length (now target) * length (now v) ⌝ }
+    ensures { λ r. ⌜ r ≡ same (sumsOf (fieldOf q) (rowsOf (length (now (target .entry))) (length (now (v .entry))) (now (checks .entry))) (now (v .entry))) (now (target .entry)) ⌝ }
+{
+    let n = v.len();
+    let mut i = 0;
+    while i < target.len() {
+        if row_sum(q, table, checks, i, v, n) != target[i] {
+            return false;
+        }
+        i += 1;
+    }
+    true
+}
+
+// Writes x to the first k places.
+fn scatter(v: &mut [u8], places: &[usize], k: usize, x: &[u8])
+    requires { ⌜ (k ≤ length (now places)) × (k ≤ length (now x)) × ((t : ℕ) → t < k → vec (now places) t < length (now v)) ⌝ }
+    ensures { λ _. ⌜ now (v .exit) ≡ scattered (now (v .entry)) (vec (now (places .entry))) (vec (now (x .entry))) k ⌝ }
+{
+    let mut t = 0;
+    while t < k {
+        let p = places[t];
+        v[p] = x[t];
+        t += 1;
+    }
+}
+
+// Fills the marked places by the system of the marked columns.
+fn fill_marked(
+    q: usize,
+    table: &[u8; 256],
+    checks: &[u8],
+    target: &[u8],
+    v: &mut [u8],
+    marks: u32,
+) -> Outcome
+    requires { ⌜ now table ≡ products ⌝ }
+    requires { ⌜ (length (now target) ≤ mostChecks) × (length (now v) ≤ mostColumns) × (marks < 2 ^ length (now v)) ⌝ }
+    requires { ⌜ length (now checks) ≡ length (now target) * length (now v) ⌝ }
+    requires { ⌜ Elements (fieldOf q) (vec (now checks)) × Elements (fieldOf q) (vec (now target)) ⌝ }
+    ensures { λ r. ⌜ r ≡ answerOf (fillOf q (now (checks .entry)) (now (target .entry)) (now (v .entry)) marks) ⌝ }
+    ensures { λ _. ⌜ now (v .exit) ≡ vectorOf (fillOf q (now (checks .entry)) (now (target .entry)) (now (v .entry)) marks) (now (v .entry)) ⌝ }
+{
+    let n = v.len();
+    let mut places: [usize; COLUMNS] = [0; COLUMNS];
+    let mut shown: [u8; COLUMNS] = [0; COLUMNS];
+    let mut system: [u8; ROOM] = [0; ROOM];
+    let mut pivots: [usize; COLUMNS] = [0; COLUMNS];
+    let mut solution: [u8; COLUMNS] = [0; COLUMNS];
+    let mut dependency: [u8; COLUMNS] = [0; COLUMNS];
+    let k = list_places(marks, n, &mut places[..]);
+    hide(marks, &v[..], &mut shown[..]);
+    gather(
+        q,
+        table,
+        checks,
+        target,
+        &shown[..],
+        n,
+        &places[..],
+        k,
+        &mut system[..],
+    );
+    let s = system::solve(
+        q,
+        table,
+        &mut system[..],
+        target.len(),
+        k,
+        &mut pivots[..],
+        &mut solution[..],
+        &mut dependency[..],
+    );
+    if s.dependent {
+        return Outcome::Tied;
+    }
+    if !s.consistent {
+        return Outcome::None;
+    }
+    scatter(v, &places[..], k, &solution[..]);
+    Outcome::One
+}
+
+// Fills the marked places of v, in field `q`, so that its sums are the target: `checks` has a row of as many coefficients as v
+// has symbols for each sum, and bit c of `marks` marks column c. Writes v only where the answer is `One`, and never reads what
+// stands under a mark. Where nothing is marked, the sums are compared.
+pub fn fill(
+    q: usize,
+    table: &[u8; 256],
+    checks: &[u8],
+    target: &[u8],
+    v: &mut [u8],
+    marks: u32,
+) -> Outcome
+    requires { ⌜ now table ≡ products ⌝ }
+    requires { ⌜ (length (now target) ≤ mostChecks) × (length (now v) ≤ mostColumns) × (marks < 2 ^ length (now v)) ⌝ }
+    requires { ⌜ length (now checks) ≡ length (now target) * length (now v) ⌝ }
+    requires { ⌜ Elements (fieldOf q) (vec (now checks)) × Elements (fieldOf q) (vec (now target)) ⌝ }
+    ensures { λ r. ⌜ r ≡ answerOf (fillOf q (now (checks .entry)) (now (target .entry)) (now (v .entry)) marks) ⌝ }
+    ensures { λ _. ⌜ now (v .exit) ≡ vectorOf (fillOf q (now (checks .entry)) (now (target .entry)) (now (v .entry)) marks) (now (v .entry)) ⌝ }
+{
+    if marks != 0 {
+        return fill_marked(q, table, checks, target, v, marks);
+    }
+    if has_sums(q, table, checks, target, &v[..]) {
+        return Outcome::One;
+    }
+    Outcome::None
+}

@@ -1,6 +1,6 @@
 -- What is not refused: the tests in memory taken apart and put together, lent stripes and benches that are fit, fresh benches. Assumes nothing.
 use mathlib.Core.Path.{_≡_, refl, sym, subst}
-use mathlib.Core.Bool.{Bool, true, false, _&&_}
+use mathlib.Core.Bool.{Bool, true, false, not, _&&_}
 use mathlib.Core.List.{List, [], _∷_}
 use Prim.Native.Nat.{ℕ, zero, suc, _*_, _-_, _^_, _<_, _≤_, zero-le}
 use native.Mathlib.Nat.{suc-ne-zero, zero-lt-suc, le-of-suc-le-suc}
@@ -12,7 +12,7 @@ use Rattle.field.specs.Lists.{if_then_else_, upFrom}
 use Rattle.field.specs.Field.{size}
 use Rattle.field.proofs.Test.{both-left, both-right, both}
 use Rattle.field.proofs.Ring.{size-pos}
-use Rattle.linear.specs.Lists.{all, rest}
+use Rattle.linear.specs.Lists.{all, vanish}
 use Rattle.linear.specs.Marks.{bitsOf}
 use Rattle.linear.proofs.Tests.{all-in, in-all, up-in, in-up}
 use Rattle.repair.specs.Plan.{Plan, planOf, known, checksTo, rowAt, marksAt}
@@ -22,11 +22,24 @@ use Rattle.repair.specs.declared.Bench.{Bench}
 use Rattle.repair.proofs.Rows.{row-end, row-append}
 use Rattle.repair.proofs.Shape.{shape}
 
+-- ---- a choice by a test
+
+pub if-true : {A : Type 0} (b : Bool) (x y : A) → T b → (if b then x else y) ≡ x
+unfolding if_then_else_
+if-true true x y t = refl
+if-true false x y t = absurd t
+
+pub if-false : {A : Type 0} (b : Bool) (x y : A) → T (not b) → (if b then x else y) ≡ y
+unfolding if_then_else_
+if-false true x y t = absurd t
+if-false false x y t = refl
+
 -- ---- the order in memory
 
 pub eq→eqb : (m n : ℕ) → m ≡ n → T (eqb m n)
 eq→eqb m n e = subst (λ k. T (eqb m k)) e (eqb-refl m)
 
+-- a test in the order that is passed, and one that is not in the way
 pub pass : (n : ℕ) (b : Bool) (rest : ℕ) → (if b then rest else suc n) ≡ 0 → T b × (rest ≡ 0)
 unfolding if_then_else_
 pass n true rest e = (tt, e)
@@ -97,6 +110,7 @@ RowFits P marks symbols r = T (unmarkedBelow (size (P .field)) (marksAt P marks 
 abbrev pub SumsFit : Plan → (t : ℕ) → (sums : List ℕ) → ℕ → Type 0
 SumsFit P t sums r = T (allBelow (size (P .field)) (sumsAt P t sums r))
 
+-- a test of all rows says it of each, and back
 module _ (P : Plan) where
   pub marks-fit : (marks : List ℕ) → T (marksFit P marks) → (r : ℕ) → r < P .rows → getD marks r 0 < 2 ^ P .columns
   unfolding marksFit
@@ -224,24 +238,30 @@ module _ (b : Bench) (row : Bool) where
 
 -- ---- a fresh bench
 
-zeros-below : (q n : ℕ) → 0 < q → T (allBelow q (replicate n 0))
-unfolding allBelow all
-zeros-below q zero h = tt
-zeros-below q (suc n) h = both (ltb 0 q) (allBelow q (replicate n 0)) (lt→ltb 0 q h) (zeros-below q n h)
+module _ (p : ℕ → Bool) where
+  pub all-zeros : T (p 0) → (n : ℕ) → T (all p (replicate n 0))
+  unfolding all
+  all-zeros z zero = tt
+  all-zeros z (suc n) = both (p 0) (all p (replicate n 0)) z (all-zeros z n)
 
--- a part of a list of symbols is one
-below-take : (q n : ℕ) (l : List ℕ) → T (allBelow q l) → T (allBelow q (take n l))
-unfolding allBelow all
-below-take q zero l t = tt
-below-take q (suc n) [] t = tt
-below-take q (suc n) (x ∷ l) t =
-    both (ltb x q) (allBelow q (take n l)) (both-left (ltb x q) (allBelow q l) t) (below-take q n l (both-right (ltb x q) (allBelow q l) t))
+  pub all-take : (n : ℕ) (l : List ℕ) → T (all p l) → T (all p (take n l))
+  unfolding all
+  all-take zero l t = tt
+  all-take (suc n) [] t = tt
+  all-take (suc n) (x ∷ l) t = both (p x) (all p (take n l)) (both-left (p x) (all p l) t) (all-take n l (both-right (p x) (all p l) t))
 
-below-drop : (q n : ℕ) (l : List ℕ) → T (allBelow q l) → T (allBelow q (drop n l))
-unfolding allBelow all
-below-drop q zero l t = t
-below-drop q (suc n) [] t = tt
-below-drop q (suc n) (x ∷ l) t = below-drop q n l (both-right (ltb x q) (allBelow q l) t)
+  pub all-drop : (n : ℕ) (l : List ℕ) → T (all p l) → T (all p (drop n l))
+  unfolding all
+  all-drop zero l t = t
+  all-drop (suc n) [] t = tt
+  all-drop (suc n) (x ∷ l) t = all-drop n l (both-right (p x) (all p l) t)
+
+-- a fresh bench's sums are zero
+pub fresh-sums : (p : ℕ) (stripe marks : List ℕ) (r : ℕ) → T (vanish (sumsAt (planOf p) 1 (fresh p stripe marks .sums) r))
+unfolding fresh sumsAt vanish
+fresh-sums p stripe marks r =
+    all-take (λ x. eqb x 0) (length (checksTo (planOf p) 1)) (drop (r * room) (replicate 128 0))
+    (all-drop (λ x. eqb x 0) (r * room) (replicate 128 0) (all-zeros (λ x. eqb x 0) tt 128))
 
 module _ (p : ℕ) (stripe marks : List ℕ) (f : LentFit p stripe marks) where
   pub sized-fresh : Sized (fresh p stripe marks)
@@ -254,7 +274,7 @@ module _ (p : ℕ) (stripe marks : List ℕ) (f : LentFit p stripe marks) where
         sums = length-replicate {A = ℕ} 128 0;
       }
 
-  -- a lent mark word, and a lent row
+  -- mark words and rows as lent
   pub fresh-mark : (r : ℕ) → r < planOf p .rows → getD (fresh p stripe marks .marks) r 0 ≡ getD marks r 0
   unfolding fresh
   fresh-mark r h = List·getD-append marks (replicate (8 - length marks) 0) 0 r (omega (arith, f .words))
@@ -265,7 +285,7 @@ module _ (p : ℕ) (stripe marks : List ℕ) (f : LentFit p stripe marks) where
       row-append (planOf p) stripe (replicate (256 - length stripe) 0) r (omega (arith, f .long, row-end (planOf p .columns) h))
 
   pub fit-fresh : BenchFit (fresh p stripe marks)
-  unfolding fresh marksAt sumsAt
+  unfolding fresh marksAt sumsAt allBelow
   fit-fresh = record {
     plan-known = f .plan-known;
     level-pos = zero-lt-suc 0;
@@ -276,6 +296,7 @@ module _ (p : ℕ) (stripe marks : List ℕ) (f : LentFit p stripe marks) where
         (subst (λ w. T (unmarkedBelow (size (planOf p .field)) (bitsOf (planOf p .columns) w) (rowAt (planOf p) stripe r))) (sym (fresh-mark r h))
         (f .row-fits r h));
     sums-fits = λ r h.
-        below-take (size (planOf p .field)) (length (checksTo (planOf p) 1)) (drop (r * room) (replicate 128 0))
-        (below-drop (size (planOf p .field)) (r * room) (replicate 128 0) (zeros-below (size (planOf p .field)) 128 (size-pos (planOf p .field))));
+        let q = size (planOf p .field) in
+        all-take (λ x. ltb x q) (length (checksTo (planOf p) 1)) (drop (r * room) (replicate 128 0))
+        (all-drop (λ x. ltb x q) (r * room) (replicate 128 0) (all-zeros (λ x. ltb x q) (lt→ltb 0 q (size-pos (planOf p .field))) 128));
   }

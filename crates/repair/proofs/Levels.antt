@@ -25,6 +25,10 @@ module _ (P : Plan) where
       ∙ flat-append (λ (L : Level). L .checks) (take t (P .levels)) (getD (P .levels) t noLevel ∷ [])
       ∙ ap (λ l. checksTo P t ++ l) (append-nil (getD (P .levels) t noLevel .checks))
 
+  pub checks-first : 0 < length (P .levels) → checksTo P 1 ≡ levelOf P 1 .checks
+  unfolding checksTo flatMap
+  checks-first h = checks-suc 0 h
+
   -- the checks of a lower level stand before those of a higher one
   pub checks-grow : (t u : ℕ) → t ≤ u → (ds : List (List ℕ)) × (checksTo P u ≡ checksTo P t ++ ds)
   unfolding checksTo
@@ -61,5 +65,6 @@ module _ (P : Plan) where
       let full : length part ≡ m = length-take-le m (drop (r * room) sums) (simp length-drop (omega arith)) in
       keep-part at cs (omega arith) 0 (P .rows) m sums r narrow zero-le (omega arith)
       ∙ sets-eq (learnedAt cs r) part at (omega arith)
-      ∙ ap₂ (λ a b. a ++ learnedAt cs r ++ b) (take-take at m (drop (r * room) sums) (omega arith)) (drop-of-length-le part {i = at + length (learnedAt cs r)} (omega arith))
+      ∙ ap₂ (λ a b. a ++ learnedAt cs r ++ b) (take-take at m (drop (r * room) sums) (omega arith))
+      (drop-of-length-le part {i = at + length (learnedAt cs r)} (omega arith))
       ∙ append-nil (take at (drop (r * room) sums) ++ learnedAt cs r)

@@ -2,8 +2,8 @@
 use mathlib.Core.Path.{_≡_, refl, sym, ap, ap₂, _∙_}
 use mathlib.Core.Bool.{Bool, true, false, _&&_, _||_, or-true}
 use mathlib.Core.List.{List, [], _∷_}
-use Prim.Native.Nat.{ℕ, zero, suc, _+_, _*_, _-_, _^_, _≤_, _<_}
-use native.Mathlib.Nat.{suc-mul, mul-le-mul-right, le-trans, le-of-eq, add-sub-cancel-left}
+use Prim.Native.Nat.{ℕ, _+_, _*_, _-_, _^_, _≤_, _<_}
+use native.Mathlib.Nat.{suc-mul, mul-le-mul-right, le-trans, add-sub-cancel-left}
 use native.Mathlib.Numerals.{add-one}
 use native.Mathlib.Omega.{arith}
 use borrow.Author.Tests.{eqb-true}
@@ -11,13 +11,13 @@ use lib.Dec.{ltb}
 use lib.ListN.{length, getD, take, drop, length-drop}
 use lib.Seq.{take-all, length-take-le, getD-drop}
 use Rattle.field.specs.Lists.{if_then_else_, upFrom}
-use Rattle.field.specs.Field.{_⊕_, size, double, times, mul, gf2, gf16, gf32}
-use Rattle.field.specs.Power.{power}
+use Rattle.field.specs.Field.{size}
 use Rattle.linear.specs.Lists.{all}
 use Rattle.linear.specs.Marks.{bitsOf}
-use Rattle.repair.specs.Plan.{Plan, plan1, plan2, plan3, noPlan, planOf, rowAt, marksAt, checksTo}
-use Rattle.repair.specs.Refusal.{room, firstFailed, stripeFits, wordsFit, marksFit, allBelow, unmarkedBelow, symbolsFit, sumsAt, sumsFit}
+use Rattle.repair.specs.Plan.{Plan, known, planOf, rowAt, marksAt, checksTo}
+use Rattle.repair.specs.Refusal.{room, firstFailed, stripeFits, wordsFit, marksFit, allBelow, unmarkedBelow, symbolsFit, sumsAt, sumsFit, levelFits, inMemory, lentRefusal, benchRefusal}
 use Rattle.repair.specs.Tables.{FactsOf}
+use Rattle.repair.specs.declared.Bench.{Bench}
 use Rattle.repair.specs.declared.plan.Facts.{Facts}
 use Rattle.repair.proofs.Plans.{rows-most}
 use Rattle.repair.proofs.Tables.{sums-most}
@@ -38,15 +38,21 @@ module _ (n : ℕ) {b : Bool} (ts : List (ℕ × Bool)) where
   unfolding if_then_else_ firstFailed
   fails e = rw e
 
+-- where nothing is refused, each test passed
+pub passed : (n : ℕ) (b : Bool) (ts : List (ℕ × Bool)) → (n ≡ 0 → ⊥) → firstFailed ((n, b) ∷ ts) ≡ 0 → (b ≡ true) × (firstFailed ts ≡ 0)
+unfolding if_then_else_ firstFailed
+passed n true ts ne e = (refl, e)
+passed n false ts ne e = absurd (ne e)
+
 -- ---- lengths
 
-pub stripe-length : (P : Plan) (stripe marks : List ℕ) → (stripeFits P stripe && wordsFit P marks) ≡ true → P .rows * P .columns ≤ length stripe
+pub stripe-length : (P : Plan) (stripe marks : List ℕ) → (stripeFits P stripe && wordsFit P marks) ≡ true → length stripe ≡ P .rows * P .columns
 unfolding stripeFits
-stripe-length P stripe marks e = le-of-eq (sym (eqb-true _ _ (true-and _ _ e .0)))
+stripe-length P stripe marks e = eqb-true _ _ (true-and _ _ e .0)
 
-pub marks-length : (P : Plan) (stripe marks : List ℕ) → (stripeFits P stripe && wordsFit P marks) ≡ true → P .rows ≤ length marks
+pub marks-length : (P : Plan) (stripe marks : List ℕ) → (stripeFits P stripe && wordsFit P marks) ≡ true → length marks ≡ P .rows
 unfolding wordsFit
-marks-length P stripe marks e = le-of-eq (sym (eqb-true _ _ (true-and (stripeFits P stripe) _ e .1)))
+marks-length P stripe marks e = eqb-true _ _ (true-and (stripeFits P stripe) _ e .1)
 
 -- ---- marks
 
@@ -142,3 +148,41 @@ pub sums-part : (P : Plan) (t : ℕ) (sums : List ℕ) {count q : ℕ} → count
     → allBelow q (take (r * room + count - r * room) (drop (r * room) sums)) ≡ rowSumsFit P t sums r
 unfolding sumsAt
 sums-part P t sums en eq r = rw (en, eq, add-sub-cancel-left (r * room) (length (checksTo P t)))
+
+-- ---- what holds where nothing is refused
+
+pub record LentFits (p : ℕ) (stripe marks : List ℕ) : Type 0 where
+  pub plan : known p ≡ true
+  pub lengths : (stripeFits (planOf p) stripe && wordsFit (planOf p) marks) ≡ true
+  pub words : marksFit (planOf p) marks ≡ true
+  pub symbols : symbolsFit (planOf p) marks stripe ≡ true
+
+pub lent-fits : (p : ℕ) (stripe marks : List ℕ) → lentRefusal p stripe marks ≡ 0 → LentFits p stripe marks
+unfolding inMemory lentRefusal
+lent-fits p stripe marks e =
+    let t10 = passed 10 _ _ (λ z. omega arith) e in
+    let t11 = passed 11 _ _ (λ z. omega arith) (t10 .1) in
+    let t15 = passed 15 _ _ (λ z. omega arith) (t11 .1) in
+    let t12 = passed 12 _ _ (λ z. omega arith) (t15 .1) in
+    let t13 = passed 13 _ _ (λ z. omega arith) (t12 .1) in
+    record { plan = t10 .0; lengths = t11 .0; words = t12 .0; symbols = t13 .0 }
+
+pub record BenchFits (b : Bench) (row : Bool) : Type 0 where
+  pub plan : known (b .plan) ≡ true
+  pub level : levelFits (planOf (b .plan)) (b .level) ≡ true
+  pub words : marksFit (planOf (b .plan)) (b .marks) ≡ true
+  pub symbols : symbolsFit (planOf (b .plan)) (b .marks) (b .symbols) ≡ true
+  pub sums : sumsFit (planOf (b .plan)) (b .level) (b .sums) ≡ true
+  pub row-number : row ≡ true
+
+pub bench-fits : (b : Bench) (row : Bool) → benchRefusal b row ≡ 0 → BenchFits b row
+unfolding inMemory benchRefusal
+bench-fits b row e =
+    let t10 = passed 10 _ _ (λ z. omega arith) e in
+    let t11 = passed 11 _ _ (λ z. omega arith) (t10 .1) in
+    let t15 = passed 15 _ _ (λ z. omega arith) (t11 .1) in
+    let t12 = passed 12 _ _ (λ z. omega arith) (t15 .1) in
+    let t13 = passed 13 _ _ (λ z. omega arith) (t12 .1) in
+    let t14 = passed 14 _ _ (λ z. omega arith) (t13 .1) in
+    let both = true-and _ _ (t13 .0) in
+    record { plan = t10 .0; level = t15 .0; words = t12 .0; symbols = both .0; sums = both .1; row-number = t14 .0 }

@@ -35,7 +35,8 @@ use Rattle.repair.proofs.Shape.{shape, plan-field}
 
 -- ---- rows and sums of symbols
 
-unmarked-below : (q : ℕ) (ms : List Bool) (xs : List ℕ) → T (allBelow q xs) → T (unmarkedBelow q ms xs)
+-- symbols are symbols under any marks
+pub unmarked-below : (q : ℕ) (ms : List Bool) (xs : List ℕ) → T (allBelow q xs) → T (unmarkedBelow q ms xs)
 unfolding allBelow all unmarkedBelow
 unmarked-below q [] xs t = tt
 unmarked-below q (m ∷ ms) [] t = tt
@@ -97,6 +98,7 @@ Ones f (x ∷ xs) [] = ⊥
 Ones f (x ∷ xs) (v ∷ vs) = (f x ≡ one v) × Ones f xs vs
 
 module _ {A : Type 0} (f : A → Fill) where
+  -- a level that is learned has a filling for each check
   pub joined-ones : (xs : List A) (vs : List (List ℕ)) → joined (map f xs) ≡ learned vs → Ones f xs vs
   unfolding joined join
   joined-ones [] vs e = let q : [] ≡ vs = cc in subst (Ones f []) q tt
@@ -212,7 +214,7 @@ module _ (b : Bench) where
           )
 
       module _ (s : Sized b) where
-        -- where the row's symbols stand
+        -- the row's symbols and its marks stand inside the arrays
         pub row-place : r * P .columns + P .columns ≤ length (b .symbols)
         row-place = omega (arith, row-end (P .columns) inside, s .symbols, shape (b .plan) (f .plan-known) .symbols-le)
 
@@ -282,7 +284,8 @@ module _ (b : Bench) where
       unfolding raise
       raise-sums r inside =
           let sh = shape (b .plan) (f .plan-known) in
-          sums-learned P (b .level) cs (b .sums) r low count (omega (arith, checks-le P low, sh .sums-le)) (omega (arith, sh .rows-le, s .sums)) inside
+          sums-learned P (b .level) cs (b .sums) r low count (omega (arith, checks-le P low, sh .sums-le))
+          (omega (arith, sh .rows-le, s .sums)) inside
 
       pub fit-raise : ((r : ℕ) → r < P .rows → T (allBelow (size (P .field)) (learnedAt cs r))) → BenchFit (raise b cs)
       unfolding raise allBelow

@@ -8,7 +8,7 @@ use native.Mathlib.Omega.{arith}
 use lib.ListN.{length, getD, set, take, length-append}
 use Rattle.field.specs.Lists.{upFrom}
 use Rattle.field.proofs.Lists.{length-up, getD-map-below}
-use Rattle.repair.specs.Parts.{Put}
+use Rattle.repair.specs.Written.{Put}
 use Rattle.repair.proofs.Rows.{take-sets, sets-whole}
 use lib.Seq.{sets, length-sets, length-take-le, take-all, take-suc}
 

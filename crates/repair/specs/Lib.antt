@@ -7,5 +7,8 @@ pub mod Rounds
 pub mod Codeword
 pub mod File
 pub mod Text
+-- what the contracts of inner functions cite
 pub mod Tables
-pub mod Parts
+pub mod Learned
+pub mod Walk
+pub mod Written

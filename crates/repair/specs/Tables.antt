@@ -2,9 +2,9 @@
 use Prim.Native.Nat.{ℕ, _*_, _-_, _^_}
 use mathlib.Core.Path.{_≡_}
 use mathlib.Core.List.{List, _++_, map, flatMap}
-use lib.ListN.{length, replicate}
+use lib.ListN.{length, take, drop, replicate}
 use Rattle.field.specs.Lists.{upFrom}
-use Rattle.field.specs.Field.{Field, size}
+use Rattle.field.specs.Field.{Field, size, dot}
 use Rattle.field.specs.Ours.{fieldOf}
 use Rattle.repair.specs.Plan.{Plan, levelOf, checksTo}
 use Rattle.repair.specs.File.{fileLength}
@@ -50,3 +50,9 @@ weightTable P t = flat 16 (levelOf P t .weights)
 
 unfoldable pub placeTable : Plan → List ℕ
 placeTable P = padded 8 (P .checkPlaces)
+
+-- ---- sums
+
+-- the sums of `rows` rows under one check, which is as long as a row
+unfoldable pub rowSums : Field → (rows : ℕ) → List ℕ → List ℕ → List ℕ
+rowSums F rows symbols check = map (λ r. dot F check (take (length check) (drop (r * length check) symbols))) (upFrom 0 rows)

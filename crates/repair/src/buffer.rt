@@ -1,7 +1,7 @@
 // Bytes copied into a lent buffer.
 ghost use Prim.Native.Nat.{_+_, _≤_};
 ghost use lib.ListN.{length};
-ghost use Rattle.repair.specs.Parts.{Put};
+ghost use Rattle.repair.specs.Written.{Put};
 
 // Copies `bytes` into `out` from `at` on, and gives the place behind them. The rest of `out` is unchanged.
 pub fn put(bytes: &[u8], out: &mut [u8], at: usize) -> usize

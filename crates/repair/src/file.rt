@@ -18,7 +18,7 @@ ghost use Rattle.repair.specs.Refusal.{firstFailed, unasked};
 ghost use Rattle.repair.specs.Codeword.{outcomeOf};
 ghost use Rattle.repair.specs.File.{bytes4, headerOf, fileLength, blanked, fileOf, writeRefusal, writeFile, planIn, wordAt, marksIn, symbolsIn, fileRefusal};
 ghost use Rattle.repair.specs.File.{readRefusal, readStripe, readMarks};
-ghost use Rattle.repair.specs.Parts.{contentTests};
+ghost use Rattle.repair.specs.Written.{contentTests};
 
 // ---- words of four bytes, low byte first
 

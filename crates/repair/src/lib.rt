@@ -1,10 +1,20 @@
 // The repair library: what a bench is, and what each call answers.
+mod codeword;
+mod copies;
+mod level;
+mod mend;
 pub mod plan;
 mod refusal;
 mod buffer;
 mod marks;
-pub mod file;
-pub mod text;
+mod file;
+mod text;
+mod steps;
+mod sums;
+
+ghost use mathlib.Core.Path.{_≡_};
+ghost use Rattle.repair.specs.Steps.{started, levelStep};
+ghost use Rattle.repair.specs.Codeword.{tested};
 
 // A plan's number, the level t that was reached, symbols and mark words row after row, and each row's learned sums, 16 places a row.
 pub struct Bench {
@@ -73,4 +83,86 @@ pub enum Verdict {
     Yes,
     No,
     Refused(usize),
+}
+
+// A bench at level 1 that holds the stripe and the marks as lent, all sums zero; or, where they are refused, a bench of zeros.
+// Stripe and marks stay as they are.
+pub fn start(plan: usize, stripe: &[u8], marks: &[u32]) -> Started
+    ensures { λ r. ⌜ r ≡ started plan (now (stripe .entry)) (now (marks .entry)) ⌝ }
+{
+    let number = refusal::lent_refusal(plan, stripe, marks);
+    if number == 0 {
+        let symbols = copies::symbols_of(stripe);
+        let words = copies::words_of(marks);
+        let bench = Bench {
+            plan: plan,
+            level: 1,
+            symbols: symbols,
+            marks: words,
+            sums: [0; 128],
+        };
+        return Started {
+            bench: bench,
+            answer: Outcome::Done,
+        };
+    }
+    let bench = Bench {
+        plan: 0,
+        level: 0,
+        symbols: [0; 256],
+        marks: [0; 8],
+        sums: [0; 128],
+    };
+    Started {
+        bench: bench,
+        answer: Outcome::Refused(number),
+    }
+}
+
+// The level step: all rows' sums of the next level are learned and the level rises by one, or nothing changes.
+pub fn level_step(bench: Bench) -> Stepped
+    ensures { λ r. ⌜ r ≡ levelStep bench ⌝ }
+{
+    let plan = bench.plan;
+    let level = bench.level;
+    let number = refusal::bench_refusal(
+        plan,
+        level,
+        &bench.symbols,
+        &bench.marks,
+        &bench.sums,
+        true,
+    );
+    if number != 0 {
+        return Stepped {
+            bench: bench,
+            answer: Step::Refused(number),
+        };
+    }
+    if plan::levels(plan) <= level {
+        return Stepped {
+            bench: bench,
+            answer: Step::Top,
+        };
+    }
+    level::raise(bench)
+}
+
+// Whether a stripe is a codeword: every row's level-1 sums are zero, and so are the totals of every further level.
+pub fn is_codeword(plan: usize, stripe: &[u8]) -> Verdict
+    ensures { λ r. ⌜ r ≡ tested plan (now (stripe .entry)) ⌝ }
+{
+    let number = codeword::test_refusal(plan, stripe);
+    if number != 0 {
+        return Verdict::Refused(number);
+    }
+    let table = field::products();
+    let checks = plan::row_checks(plan);
+    if !codeword::rows_hold(plan, &table, &checks, stripe) {
+        return Verdict::No;
+    }
+    if !codeword::levels_hold(plan, &table, &checks, stripe) {
+        return Verdict::No;
+    }
+    Verdict::Yes
 }

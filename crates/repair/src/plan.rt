@@ -1,11 +1,11 @@
 // Facts of a plan by its number, and the tables of its checks. A number that is no plan's has the plan with nothing in it.
+use crate::copies;
 ghost use mathlib.Core.Path.{_≡_};
-ghost use Prim.Native.Nat.{_≤_};
 ghost use lib.ListN.{length};
 ghost use Rattle.repair.specs.Plan.{planOf, known, levelOf, checksTo};
 ghost use Rattle.repair.specs.Codeword.{«carried» as carriedBy};
 ghost use Rattle.repair.specs.File.{fileLength};
-ghost use Rattle.repair.specs.Tables.{FactsOf, FieldNumber, padded, checkTable, weightTable, placeTable};
+ghost use Rattle.repair.specs.Tables.{FactsOf, FieldNumber, checkTable, weightTable, placeTable};
 
 // A plan's numbers. A stripe has so many `symbols`; a mark word is below `words`; `sums` has how many sums a row has at levels 1 to t, and `totals` how many weighted
 // totals level t has, both for t from 0 to 3.
@@ -190,23 +190,11 @@ pub fn row_checks(plan: usize) -> [u8; 512]
     ensures { λ r. ⌜ r ≡ checkTable (planOf plan) ⌝ }
 {
     match plan {
-        1 => table_of(&CHECKS_1),
+        1 => copies::table_of(&CHECKS_1),
         2 => CHECKS_2,
-        3 => table_of(&CHECKS_3),
+        3 => copies::table_of(&CHECKS_3),
         _ => [0; 512],
     }
-}
-
-// These coefficients, and zeros behind them.
-fn table_of(coefficients: &[u8]) -> [u8; 512]
-    requires { ⌜ length (now coefficients) ≤ 512 ⌝ }
-    ensures { λ r. ⌜ r ≡ padded 512 (now (coefficients .entry)) ⌝ }
-{
-    let mut table = [0u8; 512];
-    for i in 0..coefficients.len() {
-        table[i] = coefficients[i];
-    }
-    table
 }
 
 // The weights of a level, one total behind the other, and zeros behind them.

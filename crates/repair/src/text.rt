@@ -14,7 +14,7 @@ ghost use Rattle.linear.specs.Marks.{bitsOf};
 ghost use Rattle.repair.specs.Plan.{planOf, known};
 ghost use Rattle.repair.specs.Answers.{answerNumber, placeValues, reportValues};
 ghost use Rattle.repair.specs.Refusal.{allBelow, unmarkedBelow, symbolsFit};
-ghost use Rattle.repair.specs.Parts.{Put};
+ghost use Rattle.repair.specs.Written.{Put};
 ghost use Rattle.repair.specs.Text.{decimal, hex, «item» as itemOf, lineEnd, shown, «grid» as gridOf, placeText, summary, reportText};
 
 // ---- bytes. Each function writes from `at` on and gives the place behind what it wrote; the rest of `out` is unchanged.

@@ -1,5 +1,5 @@
 use Rattle.repair.proofs.Refusals.{passes, fails, none-fails}
-use Rattle.repair.specs.Parts.{contentTests}
+use Rattle.repair.specs.Written.{contentTests}
 use Rattle.repair.specs.Plan.{planOf}
 use borrow.Author.Tests.{not-true, not-false}
 use mathlib.Core.Path.{_≡_, sym, _∙_}

@@ -1,6 +1,6 @@
 use Rattle.repair.proofs.Refusals.{passes, fails}
 use Rattle.repair.specs.File.{bytes2, headerOf, fileLength, planIn, marksIn, symbolsIn, fileRefusal}
-use Rattle.repair.specs.Parts.{contentTests}
+use Rattle.repair.specs.Written.{contentTests}
 use Rattle.repair.specs.Refusal.{firstFailed, inFile}
 use Rattle.repair.specs.Plan.{planOf, known}
 use Rattle.linear.specs.Lists.{same}

@@ -4,7 +4,7 @@ use mathlib.Core.List.{List}
 use denote.Ref.{now}
 use lib.ListN.{length, take}
 use Rattle.repair.proofs.Files.{Whole, whole-start, whole-rows, whole-marks, whole-front, whole-symbols, whole-cut}
-use Rattle.repair.specs.Parts.{contentTests}
+use Rattle.repair.specs.Written.{contentTests}
 use Rattle.repair.specs.Refusal.{firstFailed}
 use Rattle.repair.specs.Plan.{planOf}
 use native.Mathlib.Nat.{le-refl}

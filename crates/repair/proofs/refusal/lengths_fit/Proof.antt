@@ -1,9 +1,7 @@
 -- `refusal::lengths_fit` meets its contract. Assumes nothing.
-use mathlib.Core.Path.{sym, ap, ap₂, _∙_}
-use mathlib.Core.Bool.{_&&_}
+use mathlib.Core.Path.{sym, _∙_}
 use borrow.Author.Needs.{needs}
 use borrow.Author.Tests.{eq-eqb, ne-eqb}
-use lib.Dec.{eqb}
 use Rattle.repair.specs.Refusal.{stripeFits, wordsFit}
 use Rattle.repair.proofs.refusal.lengths_fit.Statement.{statement}
 use Rattle.repair.proofs.refusal.lengths_fit.Tie as tie

@@ -1,6 +1,7 @@
 -- `refusal::lent_refusal` meets its contract: the tests in their order. Assumes nothing.
 use mathlib.Core.Path.{_≡_, refl, sym, _∙_}
 use mathlib.Core.Bool.{true, _&&_}
+use native.Mathlib.Nat.{le-of-eq}
 use borrow.Author.Needs.{needs}
 use borrow.Author.Tests.{not-true, not-false}
 use denote.Ref.{now}
@@ -35,7 +36,7 @@ unfolding unasked inMemory lentRefusal
 returns-2 c = sym (passes 10 _ (is-known (c .before .before)) ∙ fails 11 _ (sym (c .before .lengths-fit .ensures) ∙ not-true _ (c .if2 .taken)))
 
 marks-fit-requires : tie.Need-marks-fit-requires
-marks-fit-requires c κs = marks-length _ _ _ (fit c)
+marks-fit-requires c κs = le-of-eq (sym (marks-length _ _ _ (fit c)))
 
 returns-3 : tie.Need-returns-3
 unfolding unasked inMemory lentRefusal
@@ -45,7 +46,8 @@ returns-3 c =
     ∙ fails 12 _ (sym (c .before .marks-fit .ensures) ∙ not-true _ (c .if3 .taken)))
 
 symbols-fit-requires : tie.Need-symbols-fit-requires
-symbols-fit-requires c κs = (marks-length _ _ _ (fit (c .before .before)), stripe-length _ _ _ (fit (c .before .before)))
+symbols-fit-requires c κs =
+    (le-of-eq (sym (marks-length _ _ _ (fit (c .before .before)))), le-of-eq (sym (stripe-length _ _ _ (fit (c .before .before)))))
 
 returns-4 : tie.Need-returns-4
 unfolding unasked inMemory lentRefusal

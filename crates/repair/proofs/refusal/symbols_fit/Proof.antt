@@ -1,15 +1,13 @@
 -- `refusal::symbols_fit` meets its contract: the first test has all symbols below q; in the loop each row that was passed fits. Assumes nothing.
-use mathlib.Core.Path.{_≡_, sym, ap, _∙_}
-use Prim.Native.Nat.{_+_, _*_, _-_, _≤_}
-use native.Mathlib.Nat.{zero-mul, add-sub-cancel-left}
+use mathlib.Core.Path.{_≡_, sym, _∙_}
+use Prim.Native.Nat.{_*_, _-_}
+use native.Mathlib.Nat.{zero-mul}
 use native.Mathlib.Omega.{arith}
 use borrow.Author.Needs.{needs}
 use borrow.Author.Tests.{not-true, not-false}
 use denote.Ref.{now}
-use lib.ListN.{length, length-take}
 use lib.Seq.{length-take-le}
 use Rattle.repair.specs.Plan.{planOf}
-use Rattle.repair.specs.Refusal.{symbolsFit}
 use Rattle.field.proofs.Ring.{size-pos}
 use Rattle.repair.proofs.Plans.{columns-most}
 use Rattle.repair.proofs.Scan.{Passing, passing-none, passing-more, passing-all, up-false}

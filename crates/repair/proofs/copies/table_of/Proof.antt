@@ -1,14 +1,12 @@
--- `plan::table_of` meets its contract: after i turns the first i are copied. Assumes nothing.
+-- `copies::table_of` meets its contract: after i turns the first i are copied. Assumes nothing.
 use mathlib.Core.Path.{_≡_, refl}
 use Prim.Native.Nat.{_-_}
 use lib.ListN.{length}
 use Rattle.repair.proofs.Padded.{Padding, padding-starts, padding-turns, padding-ends}
 use native.Mathlib.Omega.{arith}
 use borrow.Author.Needs.{needs}
-use Rattle.repair.proofs.plan.table_of.Statement.{statement}
-use Rattle.repair.proofs.plan.table_of.Tie as tie
-use Rattle.repair.proofs.plan.table_of.Reads as reads
-use Rattle.repair.proofs.plan.table_of.Lts as lts
+use Rattle.repair.proofs.copies.table_of.Statement.{statement}
+use Rattle.repair.proofs.copies.table_of.Tie as tie
 
 abbrev Inv-loop : tie.InvT-loop
 Inv-loop coefficients table₀ i₀ i-end table i = (i-end ≡ length coefficients) × Padding 512 coefficients i table

@@ -1,0 +1,222 @@
+-- Vectors and stripes that agree where unmarked: place by place, row by row, under more marks and under none. Assumes nothing.
+use mathlib.Core.Path.{_≡_, refl, sym, ap, ap₂, _∙_, subst, subst₂}
+use mathlib.Core.Bool.{Bool, true, false}
+use mathlib.Core.List.{List, [], _∷_, _++_, flatMap}
+use Prim.Native.Nat.{ℕ, zero, suc, _+_, _*_, _/_, _%_, _^_, _<_, suc-le-suc}
+use native.Mathlib.Nat.{suc-inj, suc-mul, zero-mul, zero-add, zero-lt-suc, mod-lt, div-lt-iff-lt-mul, div-add-mod'}
+use native.Mathlib.Numerals.{add-one}
+use native.Mathlib.Omega.{arith}
+use lib.Arith.{lt-one}
+use lib.Dec.{T, T-not, eqb, ltb}
+use lib.Count.{ones, onesIn}
+use lib.ListN.{length, drop, getD, length-append, List·getD-append}
+use lib.Pow.{pow-pos, shr-lt}
+use lib.Seq.{getD-take, getD-drop, getD-append-add}
+use Rattle.field.specs.Lists.{if_then_else_, upFrom}
+use Rattle.field.specs.Field.{Field}
+use Rattle.field.proofs.Sum.{of-bits, bit}
+use Rattle.field.proofs.Test.{both-left, both-right, both}
+use Rattle.linear.specs.Lists.{all, only, vanish, first, rest}
+use Rattle.linear.specs.Marks.{bitsOf}
+use Rattle.linear.proofs.Choices.{Alike, Inside}
+use Rattle.linear.proofs.Filling.{Independent, independent-of}
+use Rattle.repair.specs.Plan.{Plan, planOf, rowAt, marksAt, marksOf}
+use Rattle.repair.specs.Refusal.{allBelow, unmarkedBelow}
+use Rattle.repair.proofs.Sound.{marks-length}
+use Rattle.demands.specs.Words.{Agree}
+use Rattle.demands.proofs.Marked.{marked, bits-step, marked-bits, agrees-weight, weightless-vanish}
+
+-- ---- vectors
+
+pub alike-refl : (ms : List Bool) (v : List ℕ) → Alike ms v v
+alike-refl [] v = tt
+alike-refl (true ∷ ms) v = alike-refl ms (rest v)
+alike-refl (false ∷ ms) v = (refl, alike-refl ms (rest v))
+
+pub alike-sym : (ms : List Bool) (v w : List ℕ) → Alike ms v w → Alike ms w v
+alike-sym [] v w a = tt
+alike-sym (true ∷ ms) v w a = alike-sym ms (rest v) (rest w) a
+alike-sym (false ∷ ms) v w a = (sym (a .0), alike-sym ms (rest v) (rest w) (a .1))
+
+pub alike-trans : (ms : List Bool) (u v w : List ℕ) → Alike ms u v → Alike ms v w → Alike ms u w
+alike-trans [] u v w a b = tt
+alike-trans (true ∷ ms) u v w a b = alike-trans ms (rest u) (rest v) (rest w) a b
+alike-trans (false ∷ ms) u v w a b = (a .0 ∙ b .0, alike-trans ms (rest u) (rest v) (rest w) (a .1) (b .1))
+
+-- more marks ask for less
+pub alike-inside : (ms ns : List Bool) (v w : List ℕ) → Inside ms ns → Alike ms v w → Alike ns v w
+alike-inside [] [] v w i a = tt
+alike-inside [] (n ∷ ns) v w i a = absurd i
+alike-inside (m ∷ ms) [] v w i a = absurd i
+alike-inside (true ∷ ms) (true ∷ ns) v w i a = alike-inside ms ns (rest v) (rest w) (i .1) a
+alike-inside (true ∷ ms) (false ∷ ns) v w i a = absurd (i .0 tt)
+alike-inside (false ∷ ms) (true ∷ ns) v w i a = alike-inside ms ns (rest v) (rest w) (i .1) (a .1)
+alike-inside (false ∷ ms) (false ∷ ns) v w i a = (a .0, alike-inside ms ns (rest v) (rest w) (i .1) (a .1))
+
+-- vectors that agree everywhere are equal
+pub alike-unmarked : (ms : List Bool) (v w : List ℕ) → marked ms ≡ 0 → length v ≡ length ms → length w ≡ length ms → Alike ms v w → v ≡ w
+unfolding if_then_else_ only first rest
+alike-unmarked [] [] [] z l k a = refl
+alike-unmarked [] [] (y ∷ w) z l k a = absurd (omega arith)
+alike-unmarked [] (x ∷ v) w z l k a = absurd (omega arith)
+alike-unmarked (true ∷ ms) v w z l k a = absurd (omega arith)
+alike-unmarked (false ∷ ms) [] w z l k a = absurd (omega arith)
+alike-unmarked (false ∷ ms) (x ∷ v) [] z l k a = absurd (omega arith)
+alike-unmarked (false ∷ ms) (x ∷ v) (y ∷ w) z l k a = ap₂ _∷_ (a .0) (alike-unmarked ms v w z (suc-inj l) (suc-inj k) (a .1))
+
+-- where no symbol is marked, each is below q
+pub unmarked-all : (q : ℕ) (ms : List Bool) (v : List ℕ) → marked ms ≡ 0 → length v ≡ length ms → T (unmarkedBelow q ms v) → T (allBelow q v)
+unfolding if_then_else_ only all allBelow unmarkedBelow
+unmarked-all q [] [] z l t = tt
+unmarked-all q [] (x ∷ v) z l t = absurd (omega arith)
+unmarked-all q (true ∷ ms) v z l t = absurd (omega arith)
+unmarked-all q (false ∷ ms) [] z l t = tt
+unmarked-all q (false ∷ ms) (x ∷ v) z l t =
+    both (ltb x q) (allBelow q v) (both-left (ltb x q) (unmarkedBelow q ms v) t)
+    (unmarked-all q ms v z (suc-inj l) (both-right (ltb x q) (unmarkedBelow q ms v) t))
+
+-- where no column is marked, the marked columns are independent
+pub unmarked-independent : (F : Field) (checks : List (List ℕ)) (ms : List Bool) → marked ms ≡ 0 → Independent F checks ms
+unmarked-independent F checks ms z =
+    independent-of F checks ms λ w d.
+    T-not (vanish w) (d .nonzero) (weightless-vanish w (omega (arith, agrees-weight F ms w (d .agrees))))
+
+-- ---- place by place
+
+getD-first : (v : List ℕ) → getD v 0 0 ≡ first v
+unfolding first
+getD-first [] = refl
+getD-first (x ∷ v) = refl
+
+getD-rest : (v : List ℕ) (i : ℕ) → getD v (suc i) 0 ≡ getD (rest v) i 0
+unfolding rest
+getD-rest [] i = refl
+getD-rest (x ∷ v) i = refl
+
+pub alike-at : (ms : List Bool) (v w : List ℕ) → Alike ms v w → (i : ℕ) → getD ms i true ≡ false → getD v i 0 ≡ getD w i 0
+alike-at [] v w a i e = absurd (subst T e tt)
+alike-at (true ∷ ms) v w a zero e = absurd (subst T e tt)
+alike-at (false ∷ ms) v w a zero e = getD-first v ∙ a .0 ∙ sym (getD-first w)
+alike-at (true ∷ ms) v w a (suc i) e = getD-rest v i ∙ alike-at ms (rest v) (rest w) a i e ∙ sym (getD-rest w i)
+alike-at (false ∷ ms) v w a (suc i) e = getD-rest v i ∙ alike-at ms (rest v) (rest w) (a .1) i e ∙ sym (getD-rest w i)
+
+pub at-alike : (ms : List Bool) (v w : List ℕ) → ((i : ℕ) → getD ms i true ≡ false → getD v i 0 ≡ getD w i 0) → Alike ms v w
+at-alike [] v w h = tt
+at-alike (true ∷ ms) v w h = at-alike ms (rest v) (rest w) (λ i e. sym (getD-rest v i) ∙ h (suc i) e ∙ getD-rest w i)
+at-alike (false ∷ ms) v w h = (
+  sym (getD-first v) ∙ h 0 refl ∙ getD-first w,
+  at-alike ms (rest v) (rest w) (λ i e. sym (getD-rest v i) ∙ h (suc i) e ∙ getD-rest w i),
+)
+
+-- ---- row by row
+
+-- past the end every place counts as marked
+unmarked-lt : (ms : List Bool) (i : ℕ) → getD ms i true ≡ false → i < length ms
+unmarked-lt [] i e = absurd (subst T e tt)
+unmarked-lt (m ∷ ms) zero e = zero-lt-suc (length ms)
+unmarked-lt (m ∷ ms) (suc i) e = suc-le-suc (unmarked-lt ms i e)
+
+-- rows of N marks, one behind the other
+module _ (N : ℕ) (f : ℕ → List Bool) (wide : (r : ℕ) → length (f r) ≡ N) where
+  flat-at : (k n j c : ℕ) → j < n → c < N → getD (flatMap f (upFrom k n)) (j * N + c) true ≡ getD (f (k + j)) c true
+  unfolding flatMap upFrom
+  flat-at k zero j c h l = absurd (omega arith)
+  flat-at k (suc n) zero c h l =
+      ap (λ i. getD (f k ++ flatMap f (upFrom (suc k) n)) i true) (omega (arith, zero-mul N))
+      ∙ List·getD-append (f k) (flatMap f (upFrom (suc k) n)) true c (omega (arith, wide k)) ∙ ap (λ r. getD (f r) c true) (omega arith)
+  flat-at k (suc n) (suc j) c h l =
+      ap (λ i. getD (f k ++ flatMap f (upFrom (suc k) n)) i true) (omega (arith, suc-mul j N, wide k))
+      ∙ getD-append-add (f k) (flatMap f (upFrom (suc k) n)) (j * N + c) true ∙ flat-at (suc k) n j c (omega arith) l
+      ∙ ap (λ r. getD (f r) c true) (omega arith)
+
+  flat-length : (k n : ℕ) → length (flatMap f (upFrom k n)) ≡ n * N
+  unfolding flatMap upFrom
+  flat-length k zero = sym (zero-mul N)
+  flat-length k (suc n) = length-append (f k) (flatMap f (upFrom (suc k) n)) ∙ omega (arith, wide k, flat-length (suc k) n, suc-mul n N)
+
+module _ (p : ℕ) (marks X Y : List ℕ) where
+  abbrev P : Plan
+  P = planOf p
+
+  row-at : (Z : List ℕ) (r c : ℕ) → c < P .columns → getD (rowAt P Z r) c 0 ≡ getD Z (r * P .columns + c) 0
+  unfolding rowAt
+  row-at Z r c l = getD-take (P .columns) (drop (r * P .columns) Z) c 0 l ∙ getD-drop (r * P .columns) Z c 0
+
+  -- stripes agree where they agree in every row
+  pub agree-rows : Agree p marks X Y → (r : ℕ) → r < P .rows → Alike (marksAt P marks r) (rowAt P X r) (rowAt P Y r)
+  unfolding marksOf
+  agree-rows a r h =
+      at-alike (marksAt P marks r) (rowAt P X r) (rowAt P Y r) (λ c e.
+      let l : c < P .columns = subst (λ n. c < n) (marks-length P marks r) (unmarked-lt (marksAt P marks r) c e) in
+      row-at X r c l
+      ∙ a (r * P .columns + c)
+      (flat-at (P .columns) (marksAt P marks) (marks-length P marks) 0 (P .rows) r c h l ∙ ap (λ k. getD (marksAt P marks k) c true) (zero-add r) ∙ e)
+      ∙ sym (row-at Y r c l))
+
+  pub rows-agree : ((r : ℕ) → r < P .rows → Alike (marksAt P marks r) (rowAt P X r) (rowAt P Y r)) → Agree p marks X Y
+  unfolding marksOf
+  rows-agree h i e =
+      let N = P .columns in
+      let r = i / N in
+      let c = i % N in
+      let l : i < P .rows * N =
+      subst (λ n. i < n) (flat-length N (marksAt P marks) (marks-length P marks) 0 (P .rows)) (unmarked-lt (marksOf P marks) i e) in
+      let z : 0 < N = positive N (P .rows) i l in
+      let lr : r < P .rows = div-lt-iff-lt-mul z .1 l in
+      let lc : c < N = mod-lt i z in
+      let q : r * N + c ≡ i = div-add-mod' i N in
+      ap (λ k. getD X k 0) (sym q) ∙ sym (row-at X r c lc)
+      ∙ alike-at (marksAt P marks r) (rowAt P X r) (rowAt P Y r) (h r lr) c
+      (ap (λ k. getD (marksAt P marks k) c true) (sym (zero-add r)) ∙ sym (flat-at N (marksAt P marks) (marks-length P marks) 0 (P .rows) r c lr lc)
+      ∙ ap (λ k. getD (marksOf P marks) k true) q ∙ e)
+      ∙ row-at Y r c lc ∙ ap (λ k. getD Y k 0) q
+    where
+      positive : (N R i : ℕ) → i < R * N → 0 < N
+      positive zero R i l = absurd (omega arith)
+      positive (suc N) R i l = zero-lt-suc N
+
+-- ---- mark words
+
+pub inside-refl : (ms : List Bool) → Inside ms ms
+inside-refl [] = tt
+inside-refl (m ∷ ms) = (λ t. t, inside-refl ms)
+
+pub inside-trans : (ls ms ns : List Bool) → Inside ls ms → Inside ms ns → Inside ls ns
+inside-trans [] [] ns i j = j
+inside-trans [] (m ∷ ms) ns i j = absurd i
+inside-trans (l ∷ ls) [] ns i j = absurd i
+inside-trans (l ∷ ls) (m ∷ ms) [] i j = absurd j
+inside-trans (l ∷ ls) (m ∷ ms) (n ∷ ns) i j = (λ t. j .0 (i .0 t), inside-trans ls ms ns (i .1) (j .1))
+
+-- the word without marks lies inside each
+pub clear-inside : (n w : ℕ) → Inside (bitsOf n 0) (bitsOf n w)
+unfolding bitsOf upFrom
+clear-inside zero w = tt
+clear-inside (suc n) w = subst₂ Inside (sym (bits-step n 0)) (sym (bits-step n w)) (λ t. absurd t, clear-inside n (w / 2))
+
+-- and words that lie inside each other are equal
+pub inside-same : (n v w : ℕ) → v < 2 ^ n → w < 2 ^ n → Inside (bitsOf n v) (bitsOf n w) → Inside (bitsOf n w) (bitsOf n v) → v ≡ w
+inside-same zero v w h k i j = lt-one h ∙ sym (lt-one k)
+inside-same (suc n) v w h k i j =
+    let i′ = subst₂ Inside (bits-step n v) (bits-step n w) i in
+    let j′ = subst₂ Inside (bits-step n w) (bits-step n v) j in
+    let e = inside-same n (v / 2) (w / 2) (half v h) (half w k) (i′ .1) (j′ .1) in
+    let d = last (v % 2) (w % 2) (bit v) (bit w) (i′ .0) (j′ .0) in
+    omega arith
+  where
+    half : (u : ℕ) → u < 2 ^ suc n → u / 2 < 2 ^ n
+    half u l = shr-lt n 1 (subst (λ i. u < 2 ^ i) (sym (add-one n)) l)
+
+    last : (a b : ℕ) → a < 2 → b < 2 → (T (eqb a 1) → T (eqb b 1)) → (T (eqb b 1) → T (eqb a 1)) → a ≡ b
+    last a b la lb =
+        of-bits (λ a. (T (eqb a 1) → T (eqb b 1)) → (T (eqb b 1) → T (eqb a 1)) → a ≡ b)
+        (of-bits (λ b. (⊥ → T (eqb b 1)) → (T (eqb b 1) → ⊥) → 0 ≡ b) (λ f g. refl) (λ f g. absurd (g tt)) b lb)
+        (of-bits (λ b. (Unit {0} → T (eqb b 1)) → (T (eqb b 1) → Unit {0}) → 1 ≡ b) (λ f g. absurd (f tt)) (λ f g. refl) b lb) a la
+
+-- no marks in a word that lies inside the one without
+pub inside-clear : (n w : ℕ) → w < 2 ^ n → Inside (bitsOf n w) (bitsOf n 0) → w ≡ 0
+inside-clear n w h i = inside-same n w 0 h (pow-pos n) i (clear-inside n w)
+
+pub clear-unmarked : (n : ℕ) → marked (bitsOf n 0) ≡ 0
+unfolding ones onesIn
+clear-unmarked n = marked-bits n 0 (pow-pos n)

@@ -1,0 +1,108 @@
+-- What a codeword is, row by row and level by level. Assumes nothing.
+use mathlib.Core.Path.{_≡_, refl, sym, ap, ap₂, _∙_, subst}
+use mathlib.Core.Bool.{Bool}
+use mathlib.Core.List.{List, [], _∷_, map}
+use Prim.Native.Nat.{ℕ, zero, suc, _*_, _<_}
+use native.Mathlib.Nat.{suc-inj, le-of-suc-le-suc, not-suc-le-zero}
+use native.Mathlib.Numerals.{one-add}
+use native.Mathlib.Omega.{arith}
+use lib.Dec.{T, eqb, ltb, lt→ltb, eqb→eq}
+use lib.ListN.{length, drop, getD, length-map, length-drop}
+use lib.Seq.{getD-drop}
+use Rattle.field.specs.Field.{Field, size, dot}
+use Rattle.field.proofs.Test.{both-left, both-right, both}
+use Rattle.field.proofs.Lists.{getD-map-below}
+use Rattle.field.proofs.Laws.{IsField, dot-lt}
+use Rattle.linear.specs.Lists.{all, zeros, vanish}
+use Rattle.linear.specs.Fill.{sumsOf}
+use Rattle.linear.proofs.Tests.{In, all-in, vanish→zeros}
+use Rattle.repair.specs.Plan.{Plan, noLevel, planOf, levelOf, rowAt}
+use Rattle.repair.specs.Refusal.{allBelow}
+use Rattle.repair.specs.Steps.{across}
+use Rattle.repair.specs.Codeword.{rowsHold, totalsHold, isCodeword}
+use Rattle.repair.proofs.Rows.{row-end, row-length, learnedAt}
+use Rattle.repair.proofs.Fit.{all-rows, all-take, all-drop}
+use Rattle.demands.specs.Words.{Codeword}
+
+-- ---- lists of zeros
+
+pub zeros-map : {A B : Type 0} (f : A → B) (l : List A) → zeros (map f l) ≡ zeros l
+unfolding zeros
+zeros-map f [] = refl
+zeros-map f (x ∷ l) = ap (λ k. 0 ∷ k) (zeros-map f l)
+
+-- zeros as many as zeros
+pub vanish-same : (a b : List ℕ) → length a ≡ length b → T (vanish a) → T (vanish b) → a ≡ b
+unfolding vanish all
+vanish-same [] [] l s t = refl
+vanish-same [] (y ∷ b) l s t = absurd (omega arith)
+vanish-same (x ∷ a) [] l s t = absurd (omega arith)
+vanish-same (x ∷ a) (y ∷ b) l s t =
+    ap₂ _∷_ (eqb→eq x 0 (both-left (eqb x 0) (vanish a) s) ∙ sym (eqb→eq y 0 (both-left (eqb y 0) (vanish b) t)))
+    (vanish-same a b (suc-inj l) (both-right (eqb x 0) (vanish a) s) (both-right (eqb y 0) (vanish b) t))
+
+pub all-at : {A : Type 0} (p : A → Bool) (d : A) (l : List A) → T (all p l) → (i : ℕ) → i < length l → T (p (getD l i d))
+unfolding all
+all-at p d [] t i h = absurd (not-suc-le-zero h)
+all-at p d (x ∷ l) t zero h = both-left (p x) (all p l) t
+all-at p d (x ∷ l) t (suc i) h = all-at p d l (both-right (p x) (all p l) t) i (le-of-suc-le-suc h)
+
+-- ---- sums of rows
+
+module _ (F : Field) where
+  pub sums-count : (cs : List (List ℕ)) (v : List ℕ) → length (sumsOf F cs v) ≡ length cs
+  unfolding sumsOf
+  sums-count cs v = length-map cs (λ c. dot F c v)
+
+  pub sums-below : IsField F → (cs : List (List ℕ)) (v : List ℕ) → T (allBelow (size F) (sumsOf F cs v))
+  unfolding sumsOf allBelow all
+  sums-below K [] v = tt
+  sums-below K (c ∷ cs) v =
+      both (ltb (dot F c v) (size F)) (allBelow (size F) (sumsOf F cs v)) (lt→ltb (dot F c v) (size F) (dot-lt F K c v)) (sums-below K cs v)
+
+-- row r's share of the rows' sums under checks is its own sums
+pub across-row : (P : Plan) (X : List ℕ) (cs : List (List ℕ)) (r : ℕ) → r < P .rows
+    → learnedAt (map (across P X) cs) r ≡ sumsOf (P .field) cs (rowAt P X r)
+unfolding across sumsOf
+across-row P X [] r h = refl
+across-row P X (c ∷ cs) r h = ap₂ _∷_ (getD-map-below (λ r. dot (P .field) c (rowAt P X r)) (P .rows) r 0 h) (across-row P X cs r h)
+
+-- ---- codewords
+
+module _ (p : ℕ) (X : List ℕ) (word : Codeword p X) where
+  abbrev P : Plan
+  P = planOf p
+
+  pub word-row : (r : ℕ) → r < P .rows → length (rowAt P X r) ≡ P .columns
+  word-row r h = row-length P X r (omega (arith, row-end (P .columns) h, word .long))
+
+  pub word-below : (r : ℕ) → r < P .rows → T (allBelow (size (P .field)) (rowAt P X r))
+  unfolding rowAt allBelow
+  word-below r h =
+      all-take (λ x. ltb x (size (P .field))) (P .columns) (drop (r * P .columns) X)
+      (all-drop (λ x. ltb x (size (P .field))) (r * P .columns) X (word .symbols))
+
+  -- level-1 sums are zero
+  pub word-sums : (r : ℕ) → r < P .rows → T (vanish (sumsOf (P .field) (levelOf P 1 .checks) (rowAt P X r)))
+  unfolding isCodeword rowsHold
+  word-sums =
+      all-rows (λ r. vanish (sumsOf (P .field) (levelOf P 1 .checks) (rowAt P X r))) (P .rows)
+      (both-left (rowsHold P X) (all (totalsHold P X) (drop 1 (P .levels))) (word .holds))
+
+  -- and so are the totals of each level from 2 on
+  word-level : (t : ℕ) → suc t < length (P .levels) → T (totalsHold P X (levelOf P (suc (suc t))))
+  unfolding isCodeword levelOf
+  word-level t h =
+      subst (λ L. T (totalsHold P X L)) (getD-drop 1 (P .levels) t noLevel ∙ ap (λ i. getD (P .levels) i noLevel) (one-add t))
+      (all-at (totalsHold P X) noLevel (drop 1 (P .levels))
+      (both-right (rowsHold P X) (all (totalsHold P X) (drop 1 (P .levels))) (word .holds)) t (simp length-drop (omega arith)))
+
+  pub word-totals : (t : ℕ) → 0 < t → t < length (P .levels) → {c : List ℕ} → In c (levelOf P (suc t) .checks)
+      → sumsOf (P .field) (levelOf P (suc t) .weights) (across P X c) ≡ zeros (levelOf P (suc t) .weights)
+  unfolding totalsHold sumsOf
+  word-totals zero z h m = absurd (omega arith)
+  word-totals (suc t) z h {c} m =
+      let L = levelOf P (suc (suc t)) in
+      vanish→zeros (sumsOf (P .field) (L .weights) (across P X c))
+      (all-in (λ c. vanish (sumsOf (P .field) (L .weights) (across P X c))) (L .checks) (word-level t h) m)
+      ∙ zeros-map (λ w. dot (P .field) w (across P X c)) (L .weights)

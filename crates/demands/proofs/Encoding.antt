@@ -1,0 +1,165 @@
+-- The second demand on encoding and extraction. Assumes nothing.
+use mathlib.Core.Path.{_≡_, refl, sym, ap, _∙_}
+use mathlib.Core.Logic.{_⊎_, inl, inr}
+use mathlib.Core.Bool.{_&&_}
+use mathlib.Core.List.{List}
+use Prim.Native.Nat.{ℕ, zero, suc, _*_, _^_, _<_}
+use native.Mathlib.Nat.{eq-or-lt-of-le}
+use native.Mathlib.Omega.{arith}
+use lib.Dec.{T, T-not, leb, leb→le, nleb→lt, eqb, ltb, eqb→eq, ltb→lt, lt→ltb}
+use lib.ListN.{length, drop, getD}
+use Rattle.field.specs.Lists.{upFrom}
+use Rattle.field.specs.Field.{size}
+use Rattle.field.proofs.Test.{both-left, below, at}
+use Rattle.field.proofs.Ring.{size-pos}
+use Rattle.linear.proofs.Tests.{either}
+use Rattle.linear.proofs.Filling.{independent-inside}
+use Rattle.repair.specs.Plan.{Plan, wordOf, plan1, plan2, plan3, known, planOf, levelOf, rowAt, marksAt, marksOf}
+use Rattle.repair.specs.Steps.{lossy}
+use Rattle.repair.specs.Refusal.{unasked, stripeFits, allBelow}
+use Rattle.repair.specs.Codeword.{isCodeword, checkPlacesOf, carried, placed, encoded, encodeRefusal, encodeStripe, extracted, extractRefusal, extractData}
+use Rattle.repair.proofs.Shape.{of-known}
+use Rattle.repair.proofs.Fit.{passed, if-true, all-take, all-drop, fit-lent}
+use Rattle.repair.proofs.Sound.{unmarked-below, marks-length}
+use Rattle.demands.specs.Words.{Codeword, Agree, Fit}
+use Rattle.demands.specs.Second.{IsEncoded, EncodingMeans, ExtractionMeans, CodewordsAreEncodings}
+use Rattle.demands.proofs.Lists.{flat-length}
+use Rattle.demands.proofs.Alike.{alike-at, at-alike, inside-refl}
+use Rattle.demands.proofs.Data.{placed-length, placed-all, taken-length, taken-all, taken-placed, alike-taken, taken-alike}
+use Rattle.demands.proofs.Held.{rowTied, levelTied, LevelFree}
+use Rattle.demands.proofs.Order.{row-free-more}
+use Rattle.demands.proofs.Second.{restores}
+use Rattle.demands.proofs.Counts.{Clears, lossy-inside}
+use Rattle.demands.proofs.Systems.{mendLevel, pending, row-square, level-square, mend-level-bounds}
+use Rattle.demands.proofs.Existence.{codeword-holds}
+
+-- ---- the check places
+
+-- a mark word for each row, and no mark at column N or above
+record PlacesFit (P : Plan) : Type 0 where
+  words : length (P .checkPlaces) ≡ P .rows
+  lows : T (below (P .rows) (λ r. ltb (getD (P .checkPlaces) r 0) (2 ^ P .columns)))
+
+places-fit : (p : ℕ) → T (known p) → PlacesFit (planOf p)
+unfolding upFrom wordOf plan1 plan2 plan3 planOf
+places-fit =
+    of-known (λ p. PlacesFit (planOf p)) record { words = refl; lows = tt } record { words = refl; lows = tt } record { words = refl; lows = tt }
+
+places-count : (P : Plan) → length (checkPlacesOf P) ≡ P .rows * P .columns
+unfolding marksOf checkPlacesOf
+places-count P = flat-length (marksAt P (P .checkPlaces)) (P .columns) 0 (P .rows) (λ r l. marks-length P (P .checkPlaces) r)
+
+-- a row is filled at its level, so the rows still marked are those whose weights are independent at the next
+places-clear : (p : ℕ) → Clears p (planOf p .checkPlaces)
+unfolding marksAt lossy
+places-clear p t M pos le rows level =
+    elim (eq-or-lt-of-le le) [ inl e ↦ at-top e | inr low ↦ absurd (T-not (levelTied p t M) (free t pos low waits) (level low)) ]
+  where
+    waits : (r : ℕ) → r < planOf p .rows → (getD M r 0 ≡ 0) ⊎ T (ltb t (mendLevel p r))
+    waits r h =
+        elim (rows r h) [
+          | inl z ↦ inl z
+          | inr s ↦ elim (either (leb (mendLevel p r) t)) [
+            | inl l ↦
+                absurd (T-not (rowTied p t M r)
+                (row-free-more p (mendLevel p r) t M (planOf p .checkPlaces) r (leb→le (mendLevel p r) t l)
+                (rw (s .0) (inside-refl (marksAt (planOf p) (planOf p .checkPlaces) r))) (row-square p r h .independent)) (s .1))
+            | inr l ↦ inr (lt→ltb t (mendLevel p r) (nleb→lt (mendLevel p r) t l))
+          ]
+        ]
+
+    at-top : t ≡ length (planOf p .levels) → (r : ℕ) → r < planOf p .rows → getD M r 0 ≡ 0
+    at-top e r h = elim (waits r h) [ inl z ↦ z | inr l ↦ absurd (omega (arith, ltb→lt t (mendLevel p r) l, mend-level-bounds p r h .1)) ]
+
+    free : (t : ℕ) → 0 < t → t < length (planOf p .levels) → ((r : ℕ) → r < planOf p .rows → (getD M r 0 ≡ 0) ⊎ T (ltb t (mendLevel p r)))
+        → LevelFree p t M
+    free zero pos low waits = absurd (omega arith)
+    free (suc i) pos low waits =
+        independent-inside (planOf p .field) (levelOf (planOf p) (suc (suc i)) .weights) (lossy (planOf p) M) (pending p (suc i))
+        (lossy-inside M (λ r. ltb (suc i) (mendLevel p r)) 0 (planOf p .rows) (λ r l. waits r (omega arith)))
+        (level-square p i low .independent)
+
+-- ---- data of the right number and symbols
+
+module _ (p : ℕ) (kn : T (known p)) (ds : List ℕ) (count : length ds ≡ carried (planOf p)) (symbols : T (allBelow (size (planOf p .field)) ds)) where
+  abbrev P : Plan
+  P = planOf p
+
+  abbrev D : List ℕ
+  D = placed (checkPlacesOf P) ds
+
+  long : length D ≡ P .rows * P .columns
+  long = placed-length (checkPlacesOf P) ds ∙ places-count P
+
+  fit : Fit p D (P .checkPlaces)
+  unfolding rowAt allBelow
+  fit = fit-lent p D (P .checkPlaces) record {
+    plan-known = kn;
+    long = long;
+    words = places-fit p kn .words;
+    mark-lt = λ r h.
+        ltb→lt (getD (P .checkPlaces) r 0) (2 ^ P .columns)
+        (at (P .rows) (λ r. ltb (getD (P .checkPlaces) r 0) (2 ^ P .columns)) (places-fit p kn .lows) r h);
+    row-fits = λ r h.
+        unmarked-below (size (P .field)) (marksAt P (P .checkPlaces) r) (rowAt P D r)
+        (all-take (λ x. ltb x (size (P .field))) (P .columns) (drop (r * P .columns) D)
+        (all-drop (λ x. ltb x (size (P .field))) (r * P .columns) D
+        (placed-all (λ x. ltb x (size (P .field))) (lt→ltb 0 (size (P .field)) (size-pos (P .field))) (checkPlacesOf P) ds symbols)));
+  }
+
+  -- a stripe holds the data exactly if it agrees with D outside the check places
+  data-agrees : (X : List ℕ) → Codeword p X → extracted P X ≡ ds → Agree p (P .checkPlaces) X D
+  unfolding carried extracted checkPlacesOf
+  data-agrees X word e =
+      alike-at (checkPlacesOf P) X D
+      (taken-alike (checkPlacesOf P) X D (word .long ∙ sym (places-count P)) (placed-length (checkPlacesOf P) ds)
+      (e ∙ sym (taken-placed (checkPlacesOf P) ds count)))
+
+  agrees-data : (X : List ℕ) → Codeword p X → Agree p (P .checkPlaces) X D → extracted P X ≡ ds
+  unfolding carried extracted checkPlacesOf
+  agrees-data X word a =
+      alike-taken (checkPlacesOf P) X D (word .long ∙ sym (places-count P)) (placed-length (checkPlacesOf P) ds) (at-alike (checkPlacesOf P) X D a)
+      ∙ taken-placed (checkPlacesOf P) ds count
+
+  -- mending D gives the codeword that holds the data
+  pub encodes : (X : List ℕ) → Codeword p X → extracted P X ≡ ds → encoded p ds ≡ X
+  unfolding encoded
+  encodes X word e = restores p X D (P .checkPlaces) word fit (data-agrees X word e) (places-clear p) .1
+
+  pub is-encoded : IsEncoded p ds (encoded p ds)
+  is-encoded =
+      let h = codeword-holds p D fit in
+      let holds = agrees-data (h .0) (h .1) (h .2) in
+      let same : encoded p ds ≡ h .0 = encodes (h .0) (h .1) holds in
+      record { codeword = rw same (h .1); holds = rw same holds; only = λ X word e. sym (encodes X word e) }
+
+-- ---- what is not refused
+
+pub encoding-means : EncodingMeans
+unfolding unasked encodeRefusal encodeStripe
+encoding-means p ds stripe e =
+    let P = planOf p in
+    let lengths = eqb (length ds) (carried P) && stripeFits P stripe in
+    let h = passed (known p) lengths unasked unasked (allBelow (size (P .field)) ds) unasked unasked e in
+    rw (if-true (eqb (encodeRefusal p ds stripe) 0) (encoded p ds) stripe (rw e tt))
+    (is-encoded p (h .plan) ds (eqb→eq (length ds) (carried P) (both-left (eqb (length ds) (carried P)) (stripeFits P stripe) (h .lengths))) (h .symbols))
+
+extracts : (p : ℕ) (X room : List ℕ) → extractRefusal p X room ≡ 0 → extractData p X room ≡ extracted (planOf p) X
+unfolding extractData
+extracts p X room e = if-true (eqb (extractRefusal p X room) 0) (extracted (planOf p) X) room (rw e tt)
+
+pub extraction-means : ExtractionMeans
+extraction-means p ds stripe room e f = extracts p (encodeStripe p ds stripe) room f ∙ encoding-means p ds stripe e .holds
+
+pub codewords-are-encodings : CodewordsAreEncodings
+unfolding unasked stripeFits allBelow carried extracted extractRefusal
+codewords-are-encodings p X room e =
+    let P = planOf p in
+    let lengths = stripeFits P X && eqb (length room) (carried P) in
+    let h = passed (known p) lengths unasked unasked (allBelow (size (P .field)) X) unasked (isCodeword P X) e in
+    let long : length X ≡ P .rows * P .columns =
+    eqb→eq (length X) (P .rows * P .columns) (both-left (stripeFits P X) (eqb (length room) (carried P)) (h .lengths)) in
+    ap (encoded p) (extracts p X room e)
+    ∙ encodes p (h .plan) (extracted P X) (taken-length (checkPlacesOf P) X (long ∙ sym (places-count P)))
+    (taken-all (λ x. ltb x (size (P .field))) (checkPlacesOf P) X (h .symbols)) X
+    record { long = long; symbols = h .symbols; holds = h .codeword } refl

@@ -1,0 +1,354 @@
+-- A bench held to a codeword that agrees with its unmarked symbols: no step is Clash, a filled row is the codeword's, learned sums are
+-- the codeword's. Assumes nothing.
+use mathlib.Core.Path.{_≡_, refl, sym, ap, ap₂, _∙_, subst, subst₂}
+use mathlib.Core.Logic.{inl, inr}
+use mathlib.Core.Bool.{Bool, true, false, not}
+use mathlib.Core.List.{List, [], _∷_, _++_, map, List·Memᴰ·head, List·Memᴰ·tail}
+use Prim.Native.Nat.{ℕ, zero, suc, _+_, _^_, _<_, _≤_}
+use native.Mathlib.Nat.{zero-add}
+use native.Mathlib.Omega.{arith}
+use lib.Arith.{le→nltb}
+use lib.Dec.{T, eqb, ltb, eqb→eq, ltb→lt, lt→ltb, nltb→le}
+use lib.ListN.{length, getD, length-map}
+use Rattle.field.specs.Lists.{if_then_else_, upFrom}
+use Rattle.field.specs.Field.{dot}
+use Rattle.linear.specs.Lists.{vanish, first, rest}
+use Rattle.linear.specs.Marks.{bitsOf}
+use Rattle.linear.specs.Fill.{sumsOf, dependent, Fill, tied, one, fill}
+use Rattle.linear.proofs.Tests.{In, either}
+use Rattle.linear.proofs.Choices.{Alike}
+use Rattle.linear.proofs.Vectors.{sums-append}
+use Rattle.linear.proofs.Filling.{fill-true}
+use Rattle.repair.specs.Plan.{Plan, Level, noLevel, known, planOf, levelOf, checksTo, rowAt, marksAt}
+use Rattle.repair.specs.Refusal.{allBelow, room, sumsAt}
+use Rattle.repair.specs.Steps.{fresh, stepped, rowFill, putRow, rowStepBy, rowStep, lossy, across, blocked, learned, join, joined, levelFill, raise, levelStepBy, levelStep}
+use Rattle.repair.specs.declared.Bench.{Bench}
+use Rattle.repair.specs.declared.Stepped.{Stepped}
+use Rattle.repair.specs.declared.Step.the-variants.{Top}
+use Rattle.repair.proofs.Rows.{of-rows, row-end, row-length}
+use Rattle.repair.proofs.Levels.{checks-first, checks-suc, checks-le, sums-length}
+use Rattle.repair.proofs.Shape.{shape, plan-field}
+use Rattle.repair.proofs.Fit.{if-true, if-false, lent-fit, fresh-mark, fresh-row, fresh-sums}
+use Rattle.repair.proofs.Sound.{Sound, sound-fresh, marks-length, across-below, totalFill, row-outside, sized-put, sized-raise, row-step, level-step, row-place, put-mark-other, put-row, put-row-other, fit-put, raise-sums, fit-raise}
+use Rattle.demands.specs.Words.{Codeword, Agree, Fit, Move, onRow, onLevel, after, walk}
+use Rattle.demands.proofs.Alike.{alike-refl, alike-sym, alike-unmarked, agree-rows, clear-unmarked}
+use Rattle.demands.proofs.Codewords.{vanish-same, all-at, sums-count, sums-below, across-row, word-row, word-below, word-sums, word-totals}
+
+-- the stripe Y has the learned sums
+abbrev pub Has : ℕ → Bench → (Y : List ℕ) → Type 0
+Has p b Y = (r : ℕ) → r < planOf p .rows
+    → sumsAt (planOf p) (b .level) (b .sums) r ≡ sumsOf (planOf p .field) (checksTo (planOf p) (b .level)) (rowAt (planOf p) Y r)
+
+-- the codeword X agrees with what is unmarked, and the learned sums are its own
+pub record Held (p : ℕ) (X : List ℕ) (b : Bench) : Type 0 where
+  pub plan : b .plan ≡ p
+  pub sound : Sound b
+  pub codeword : Codeword p X
+  pub alike : (r : ℕ) → r < planOf p .rows → Alike (marksAt (planOf p) (b .marks) r) (rowAt (planOf p) (b .symbols) r) (rowAt (planOf p) X r)
+  pub has : Has p b X
+
+-- what holds for the bench's own plan holds for the plan that it is
+pub own-plan : {p : ℕ} {X : List ℕ} {b : Bench} (S : ℕ → Type 0) → Held p X b → (Held (b .plan) X b → S (b .plan)) → S p
+own-plan {X = X} {b} S h f = subst S (h .plan) (f (subst (λ q. Held q X b) (sym (h .plan)) h))
+
+-- ---- what may be filled, and what learned
+
+-- row r's marked columns are dependent under the checks of levels 1 to t
+abbrev pub rowTied : (p t : ℕ) → (marks : List ℕ) → ℕ → Bool
+rowTied p t marks r = dependent (planOf p .field) (checksTo (planOf p) t) (marksAt (planOf p) marks r)
+
+-- the marked rows' columns are dependent under the weights of level t + 1
+abbrev pub levelTied : (p t : ℕ) → (marks : List ℕ) → Bool
+levelTied p t marks = dependent (planOf p .field) (levelOf (planOf p) (suc t) .weights) (lossy (planOf p) marks)
+
+abbrev pub RowFree : (p t : ℕ) → (marks : List ℕ) → ℕ → Type 0
+RowFree p t marks r = T (not (rowTied p t marks r))
+
+abbrev pub LevelFree : (p t : ℕ) → (marks : List ℕ) → Type 0
+LevelFree p t marks = T (not (levelTied p t marks))
+
+-- X's sums of all rows at level t + 1
+abbrev pub wordSums : (p t : ℕ) → List ℕ → List (List ℕ)
+wordSums p t X = map (across (planOf p) X) (levelOf (planOf p) (suc t) .checks)
+
+-- ---- a fresh bench
+
+module _ (p : ℕ) (X stripe marks : List ℕ) (fit : Fit p stripe marks) (word : Codeword p X) (agree : Agree p marks X stripe) where
+  pub held-fresh : Held p X (fresh p stripe marks)
+  unfolding fresh marksAt
+  held-fresh =
+      let lent = lent-fit p stripe marks fit in
+      record {
+        plan = refl;
+        sound = sound-fresh p stripe marks fit;
+        codeword = word;
+        alike = λ r l.
+            subst₂ (λ w v. Alike (bitsOf (planOf p .columns) w) v (rowAt (planOf p) X r)) (sym (fresh-mark p stripe marks lent r l))
+            (sym (fresh-row p stripe marks lent r l))
+            (alike-sym (marksAt (planOf p) marks r) (rowAt (planOf p) X r) (rowAt (planOf p) stripe r) (agree-rows p marks X stripe agree r l));
+        has = λ r l.
+            let sh = shape p (lent .plan-known) in
+            let C = checksTo (planOf p) 1 in
+            vanish-same (sumsAt (planOf p) 1 (fresh p stripe marks .sums) r) (sumsOf (planOf p .field) C (rowAt (planOf p) X r))
+            (sums-length (planOf p) 1 (fresh p stripe marks .sums) r (omega (arith, checks-le (planOf p) (sh .levels-pos), sh .sums-le))
+            (omega (arith, row-end room l, sh .rows-le)) ∙ sym (sums-count (planOf p .field) C (rowAt (planOf p) X r)))
+            (fresh-sums p stripe marks r)
+            (subst (λ cs. T (vanish (sumsOf (planOf p .field) cs (rowAt (planOf p) X r)))) (sym (checks-first (planOf p) (sh .levels-pos)))
+            (word-sums p X word r l));
+      }
+
+-- ---- what is found for a row and for a level
+
+-- fillings that are tied together, or none is
+joined-same : (D : Bool) (f : List ℕ → Fill) (g : List ℕ → List ℕ) (xs : List (List ℕ))
+    → ((x : List ℕ) → In x xs → f x ≡ (if D then tied else one (g x))) → 0 < length xs
+    → joined (map f xs) ≡ (if D then blocked else learned (map g xs))
+unfolding if_then_else_ joined join
+joined-same true f g [] h z = absurd (omega arith)
+joined-same true f g (x ∷ xs) h z = ap (λ a. join a (joined (map f xs))) (h x (List·Memᴰ·head refl))
+joined-same false f g xs h z = ones xs h
+  where
+    ones : (xs : List (List ℕ)) → ((x : List ℕ) → In x xs → f x ≡ one (g x)) → joined (map f xs) ≡ learned (map g xs)
+    ones [] h = refl
+    ones (x ∷ xs) h = ap₂ join (h x (List·Memᴰ·head refl)) (ones xs (λ y m. h y (List·Memᴰ·tail m)))
+
+-- vectors over the rows that agree in each row that passes the test
+alike-up : (d : ℕ → Bool) (f g : ℕ → ℕ) (k n : ℕ) → ((r : ℕ) → r < k + n → T (d r) → f r ≡ g r)
+    → Alike (map (λ r. not (d r)) (upFrom k n)) (map f (upFrom k n)) (map g (upFrom k n))
+unfolding upFrom first rest
+alike-up d f g k zero h = tt
+alike-up d f g k (suc n) h = go (d k) (h k (omega arith)) (alike-up d f g (suc k) n (λ r l. h r (omega arith)))
+  where
+    go : (c : Bool) → (T c → f k ≡ g k)
+        → Alike (map (λ r. not (d r)) (upFrom (suc k) n)) (map f (upFrom (suc k) n)) (map g (upFrom (suc k) n))
+        → Alike (not c ∷ map (λ r. not (d r)) (upFrom (suc k) n)) (f k ∷ map f (upFrom (suc k) n)) (g k ∷ map g (upFrom (suc k) n))
+    go true e a = (e tt, a)
+    go false e a = a
+
+module _ (X : List ℕ) (b : Bench) (h : Held (b .plan) X b) where
+  abbrev P : Plan
+  P = planOf (b .plan)
+
+  abbrev L : Level
+  L = levelOf P (suc (b .level))
+
+  -- an unmarked row is the codeword's
+  own-unmarked : (r : ℕ) → r < P .rows → getD (b .marks) r 0 ≡ 0 → rowAt P (b .symbols) r ≡ rowAt P X r
+  unfolding marksAt
+  own-unmarked r l e =
+      let f = h .sound .fit in
+      alike-unmarked (marksAt P (b .marks) r) (rowAt P (b .symbols) r) (rowAt P X r) (rw e (clear-unmarked (P .columns)))
+      (row-length P (b .symbols) r (row-place b f r l (h .sound .sized)) ∙ sym (marks-length P (b .marks) r))
+      (word-row (b .plan) X (h .codeword) r l ∙ sym (marks-length P (b .marks) r)) (h .alike r l)
+
+  -- the row's filling is the codeword's, or its columns are dependent
+  own-row-finds : (r : ℕ) → r < P .rows
+      → rowFill b r ≡ (if rowTied (b .plan) (b .level) (b .marks) r then tied else one (rowAt P X r))
+  unfolding rowFill allBelow
+  own-row-finds r l =
+      let C = checksTo P (b .level) in
+      let ms = marksAt P (b .marks) r in
+      ap (λ target. fill (P .field) C target ms (rowAt P (b .symbols) r)) (h .has r l)
+      ∙ fill-true (P .field) C ms (rowAt P (b .symbols) r) (rowAt P X r) (h .alike r l)
+      (word-row (b .plan) X (h .codeword) r l ∙ sym (marks-length P (b .marks) r)) (word-below (b .plan) X (h .codeword) r l)
+
+  -- and so for the rows' sums under each check of the next level
+  own-level-finds : b .level < length (P .levels)
+      → levelFill b ≡ (if levelTied (b .plan) (b .level) (b .marks) then blocked else learned (wordSums (b .plan) (b .level) X))
+  unfolding levelFill across lossy allBelow levelOf
+  own-level-finds low =
+      joined-same (levelTied (b .plan) (b .level) (b .marks)) (totalFill b L) (across P X) (L .checks) finds
+      (ltb→lt 0 (length (L .checks))
+      (all-at (λ (L : Level). ltb 0 (length (L .checks))) noLevel (P .levels)
+      (shape (b .plan) (h .sound .fit .plan-known) .some-checks) (b .level) low))
+    where
+      finds : (c : List ℕ) → In c (L .checks)
+          → totalFill b L c ≡ (if levelTied (b .plan) (b .level) (b .marks) then tied else one (across P X c))
+      finds c m =
+          ap (λ target. fill (P .field) (L .weights) target (lossy P (b .marks)) (across P (b .symbols) c))
+          (sym (word-totals (b .plan) X (h .codeword) (b .level) (h .sound .fit .level-pos) low m))
+          ∙ fill-true (P .field) (L .weights) (lossy P (b .marks)) (across P (b .symbols) c) (across P X c)
+          (alike-up (λ r. eqb (getD (b .marks) r 0) 0) (λ r. dot (P .field) c (rowAt P (b .symbols) r)) (λ r. dot (P .field) c (rowAt P X r)) 0
+          (P .rows)
+          (λ r l t. ap (dot (P .field) c) (own-unmarked r (subst (λ n. r < n) (zero-add (P .rows)) l) (eqb→eq (getD (b .marks) r 0) 0 t))))
+          (length-map (upFrom 0 (P .rows)) (λ r. dot (P .field) c (rowAt P X r))
+          ∙ sym (length-map (upFrom 0 (P .rows)) (λ r. not (eqb (getD (b .marks) r 0) 0))))
+          (across-below P (plan-field (b .plan) (h .sound .fit .plan-known)) X c)
+
+  own-put : (r : ℕ) → r < P .rows → Held (b .plan) X (putRow b r (rowAt P X r))
+  unfolding putRow marksAt
+  own-put r l =
+      let f = h .sound .fit in
+      let s = h .sound .sized in
+      let long = word-row (b .plan) X (h .codeword) r l in
+      let c = putRow b r (rowAt P X r) in
+      record {
+        plan = refl;
+        sound = record {
+          fit = fit-put b f r l s (rowAt P X r) long (word-below (b .plan) X (h .codeword) r l);
+          sized = sized-put b s r (rowAt P X r);
+        };
+        codeword = h .codeword;
+        alike =
+            of-rows (λ k. Alike (marksAt P (c .marks) k) (rowAt P (c .symbols) k) (rowAt P X k)) r
+            (rw (put-row b f r l s (rowAt P X r) long) (alike-refl (marksAt P (c .marks) r) (rowAt P X r)))
+            (λ k g ne. rw (put-mark-other b f r l s (rowAt P X r) long k ne, put-row-other b f r l s (rowAt P X r) long k ne) (h .alike k g));
+        has = h .has;
+      }
+
+  own-raise : b .level < length (P .levels) → Held (b .plan) X (raise b (wordSums (b .plan) (b .level) X))
+  unfolding raise
+  own-raise low =
+      let f = h .sound .fit in
+      let s = h .sound .sized in
+      let cs = wordSums (b .plan) (b .level) X in
+      let count = length-map (L .checks) (across P X) in
+      record {
+        plan = refl;
+        sound = record {
+          fit = fit-raise b f s low cs count (λ r l.
+              rw (across-row P X (L .checks) r l) (sums-below (P .field) (plan-field (b .plan) (f .plan-known)) (L .checks) (rowAt P X r)));
+          sized = sized-raise b s cs;
+        };
+        codeword = h .codeword;
+        alike = h .alike;
+        has = λ r l.
+            raise-sums b f s low cs count r l ∙ ap₂ _++_ (h .has r l) (across-row P X (L .checks) r l)
+            ∙ sym (sums-append (P .field) (checksTo P (b .level)) (L .checks) (rowAt P X r))
+            ∙ ap (λ cs. sumsOf (P .field) cs (rowAt P X r)) (sym (checks-suc P (b .level) low));
+      }
+
+-- the same for the plan that the bench's is
+module _ (p : ℕ) (X : List ℕ) (b : Bench) (h : Held p X b) where
+  abbrev Q : Plan
+  Q = planOf p
+
+  pub held-known : T (known p)
+  held-known = subst (λ q. T (known q)) (h .plan) (h .sound .fit .plan-known)
+
+  pub held-level : b .level ≤ length (Q .levels)
+  held-level = subst (λ q. b .level ≤ length (planOf q .levels)) (h .plan) (h .sound .fit .level-le)
+
+  pub held-mark-lt : (r : ℕ) → r < Q .rows → getD (b .marks) r 0 < 2 ^ Q .columns
+  held-mark-lt r = own-plan (λ p. r < planOf p .rows → getD (b .marks) r 0 < 2 ^ planOf p .columns) h (λ g. g .sound .fit .mark-lt r)
+
+  pub held-words : Q .rows ≤ length (b .marks)
+  held-words = omega (arith, shape p held-known .rows-le, h .sound .sized .marks)
+
+  -- an unmarked row is the codeword's
+  pub held-unmarked : (r : ℕ) → r < Q .rows → getD (b .marks) r 0 ≡ 0 → rowAt Q (b .symbols) r ≡ rowAt Q X r
+  held-unmarked r =
+      own-plan (λ p. r < planOf p .rows → getD (b .marks) r 0 ≡ 0 → rowAt (planOf p) (b .symbols) r ≡ rowAt (planOf p) X r) h
+      (λ g. own-unmarked X b g r)
+
+  pub row-finds : (r : ℕ) → r < Q .rows → rowFill b r ≡ (if rowTied p (b .level) (b .marks) r then tied else one (rowAt Q X r))
+  row-finds r =
+      own-plan (λ p. r < planOf p .rows → rowFill b r ≡ (if rowTied p (b .level) (b .marks) r then tied else one (rowAt (planOf p) X r))) h
+      (λ g. own-row-finds X b g r)
+
+  pub level-finds : b .level < length (Q .levels)
+      → levelFill b ≡ (if levelTied p (b .level) (b .marks) then blocked else learned (wordSums p (b .level) X))
+  level-finds =
+      own-plan (λ p. b .level < length (planOf p .levels)
+      → levelFill b ≡ (if levelTied p (b .level) (b .marks) then blocked else learned (wordSums p (b .level) X))) h
+      (λ g. own-level-finds X b g)
+
+  pub held-put : (r : ℕ) → r < Q .rows → Held p X (putRow b r (rowAt Q X r))
+  held-put r = own-plan (λ p. r < planOf p .rows → Held p X (putRow b r (rowAt (planOf p) X r))) h (λ g. own-put X b g r)
+
+  pub held-raise : b .level < length (Q .levels) → Held p X (raise b (wordSums p (b .level) X))
+  held-raise = own-plan (λ p. b .level < length (planOf p .levels) → Held p X (raise b (wordSums p (b .level) X))) h (λ g. own-raise X b g)
+
+  -- ---- what each step makes of the bench
+
+  abbrev tiedHere : ℕ → Bool
+  tiedHere = rowTied p (b .level) (b .marks)
+
+  abbrev tiedAcross : Bool
+  tiedAcross = levelTied p (b .level) (b .marks)
+
+  -- no row step is Clash
+  pub row-makes : (r : ℕ) → r < Q .rows → rowStep b r ≡ rowStepBy b r (if tiedHere r then tied else one (rowAt Q X r))
+  row-makes r l =
+      row-step b (h .sound .fit) r (subst (λ q. r < planOf q .rows) (sym (h .plan)) l) ∙ ap (rowStepBy b r) (row-finds r l)
+
+  -- no level step is Clash
+  pub level-makes : b .level < length (Q .levels) → levelStep b ≡ levelStepBy b (if tiedAcross then blocked else learned (wordSums p (b .level) X))
+  level-makes low =
+      level-step b (h .sound .fit)
+      ∙ ap (λ q. if ltb (b .level) (length (planOf q .levels)) then levelStepBy b (levelFill b) else stepped b Top) (h .plan)
+      ∙ if-true (ltb (b .level) (length (Q .levels))) (levelStepBy b (levelFill b)) (stepped b Top) (lt→ltb (b .level) (length (Q .levels)) low)
+      ∙ ap (levelStepBy b) (level-finds low)
+
+  pub level-top : length (Q .levels) ≤ b .level → levelStep b ≡ stepped b Top
+  level-top high =
+      level-step b (h .sound .fit)
+      ∙ ap (λ q. if ltb (b .level) (length (planOf q .levels)) then levelStepBy b (levelFill b) else stepped b Top) (h .plan)
+      ∙ if-false (ltb (b .level) (length (Q .levels))) (levelStepBy b (levelFill b)) (stepped b Top) (le→nltb (b .level) (length (Q .levels)) high)
+
+  pub row-fills : (r : ℕ) → r < Q .rows → RowFree p (b .level) (b .marks) r → rowStep b r .bench ≡ putRow b r (rowAt Q X r)
+  unfolding rowStepBy stepped
+  row-fills r l i =
+      ap (λ (s : Stepped). s .bench) (row-makes r l ∙ ap (rowStepBy b r) (if-false (tiedHere r) tied (one (rowAt Q X r)) i))
+
+  pub row-stays : (r : ℕ) → r < Q .rows → T (tiedHere r) → rowStep b r .bench ≡ b
+  unfolding rowStepBy stepped
+  row-stays r l t = ap (λ (s : Stepped). s .bench) (row-makes r l ∙ ap (rowStepBy b r) (if-true (tiedHere r) tied (one (rowAt Q X r)) t))
+
+  pub level-learns : b .level < length (Q .levels) → LevelFree p (b .level) (b .marks) → levelStep b .bench ≡ raise b (wordSums p (b .level) X)
+  unfolding levelStepBy stepped
+  level-learns low i =
+      ap (λ (s : Stepped). s .bench)
+      (level-makes low ∙ ap (levelStepBy b) (if-false tiedAcross blocked (learned (wordSums p (b .level) X)) i))
+
+  pub level-stays : b .level < length (Q .levels) → T tiedAcross → levelStep b .bench ≡ b
+  unfolding levelStepBy stepped
+  level-stays low t =
+      ap (λ (s : Stepped). s .bench)
+      (level-makes low ∙ ap (levelStepBy b) (if-true tiedAcross blocked (learned (wordSums p (b .level) X)) t))
+
+-- what a step may make of a held bench
+pub data Made (p : ℕ) (X : List ℕ) (b : Bench) : Bench → Type 0 where
+  stays : Made p X b b
+  fills : (r : ℕ) → r < planOf p .rows → RowFree p (b .level) (b .marks) r → Made p X b (putRow b r (rowAt (planOf p) X r))
+  learns : b .level < length (planOf p .levels) → LevelFree p (b .level) (b .marks) → Made p X b (raise b (wordSums p (b .level) X))
+
+module _ (p : ℕ) (X : List ℕ) where
+  pub makes : (b : Bench) → Held p X b → (m : Move) → Made p X b (after b m)
+  unfolding stepped
+  makes b h (onRow r) =
+      elim (either (ltb r (planOf p .rows))) [
+        | inl t ↦
+            let l = ltb→lt r (planOf p .rows) t in
+            elim (either (rowTied p (b .level) (b .marks) r)) [
+              | inl d ↦ subst (Made p X b) (sym (row-stays p X b h r l d)) stays
+              | inr i ↦ subst (Made p X b) (sym (row-fills p X b h r l i)) (fills r l i)
+            ]
+        | inr t ↦
+            let high = subst (λ q. planOf q .rows ≤ r) (sym (h .plan)) (nltb→le r (planOf p .rows) t) in
+            subst (Made p X b) (sym (row-outside b r high)) stays
+      ]
+  makes b h onLevel =
+      elim (either (ltb (b .level) (length (planOf p .levels)))) [
+        | inl t ↦
+            let low = ltb→lt (b .level) (length (planOf p .levels)) t in
+            elim (either (levelTied p (b .level) (b .marks))) [
+              | inl d ↦ subst (Made p X b) (sym (level-stays p X b h low d)) stays
+              | inr i ↦ subst (Made p X b) (sym (level-learns p X b h low i)) (learns low i)
+            ]
+        | inr t ↦
+            let high = nltb→le (b .level) (length (planOf p .levels)) t in
+            subst (Made p X b) (sym (ap (λ (s : Stepped). s .bench) (level-top p X b h high))) stays
+      ]
+
+  pub held-made : (b c : Bench) → Held p X b → Made p X b c → Held p X c
+  held-made b c h stays = h
+  held-made b c h (fills r l i) = held-put p X b h r l
+  held-made b c h (learns low i) = held-raise p X b h low
+
+  pub held-after : (b : Bench) → Held p X b → (m : Move) → Held p X (after b m)
+  held-after b h m = held-made b (after b m) h (makes b h m)
+
+  pub held-walk : (ms : List Move) (b : Bench) → Held p X b → Held p X (walk ms b)
+  held-walk [] b h = h
+  held-walk (m ∷ ms) b h = held-walk ms (after b m) (held-after b h m)

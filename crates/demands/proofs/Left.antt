@@ -1,0 +1,237 @@
+-- What mending leaves behind where its rounds end, and what its answer says of where they ended. Assumes nothing.
+use mathlib.Core.Path.{_≡_, refl, sym, ap, ap₂, _∙_, subst}
+use mathlib.Core.Logic.{inl, inr}
+use mathlib.Core.Bool.{Bool, true, false, not}
+use mathlib.Core.List.{List, [], _∷_, map}
+use Prim.Native.Nat.{ℕ, zero, suc, _+_, _*_, _<_, _≤_, zero-le}
+use native.Mathlib.Nat.{zero-mul, suc-mul, zero-lt-suc, le-of-suc-le-suc, eq-or-lt-of-le, le-of-eq}
+use native.Mathlib.Omega.{arith}
+use borrow.Author.Tests.{eqb-true}
+use lib.Dec.{T, T-not, eqb, ltb, eqb→eq}
+use lib.ListN.{length, take, drop, getD, replicate, take-append-drop, drop-of-length-le}
+use lib.Seq.{take-add, take-length, length-take-le, getD-take}
+use Rattle.field.specs.Lists.{if_then_else_, upFrom}
+use Rattle.field.specs.Field.{size}
+use Rattle.field.proofs.Test.{both}
+use Rattle.linear.specs.Lists.{all, only, zeros}
+use Rattle.linear.specs.Fill.{sumsOf, Fill, tied, none, one}
+use Rattle.linear.proofs.Tests.{all-append}
+use Rattle.linear.proofs.Filling.{Means, no-dependency, fill-means}
+use Rattle.repair.specs.Plan.{Plan, Level, planOf, levelOf, checksTo, rowAt, marksAt}
+use Rattle.repair.specs.Refusal.{allBelow, lentRefusal}
+use Rattle.repair.specs.Steps.{lossy, across, Learned, blocked, failing, learned, join, joined, levelFill}
+use Rattle.repair.specs.Rounds.{Standing, mended, rowsLeft, bare, turnReport, turnStripe, turnMarks, mendReport, mendStripe, mendMarks}
+use Rattle.repair.specs.Codeword.{rowsHold, totalsHold, isCodeword}
+use Rattle.repair.specs.declared.Bench.{Bench}
+use Rattle.repair.specs.declared.Answer.{Answer}
+use Rattle.repair.specs.declared.Answer.the-variants.{Refused}
+use Rattle.repair.proofs.Rows.{row-end, row-length, row-append, rows-ext}
+use Rattle.repair.proofs.Shape.{shape}
+use Rattle.repair.proofs.Fit.{if-true, RowFits, lent-fit}
+use Rattle.repair.proofs.Sound.{marks-length, totalFill}
+use Rattle.demands.specs.Words.{Codeword, Agree, Fit}
+use Rattle.demands.specs.Second.{IsRestored}
+use Rattle.demands.proofs.Marked.{marked}
+use Rattle.demands.proofs.Alike.{alike-sym, unmarked-all, unmarked-independent, clear-unmarked, rows-agree}
+use Rattle.demands.proofs.Held.{Has, rowTied, held-unmarked}
+use Rattle.demands.proofs.Reached.{reached-level}
+use Rattle.demands.proofs.Rounds.{Ended}
+
+-- ---- lists
+
+-- the rows of a list's first part are its own
+row-take : (P : Plan) (l : List ℕ) (n r : ℕ) → n ≤ length l → r * P .columns + P .columns ≤ n → rowAt P (take n l) r ≡ rowAt P l r
+row-take P l n r h k =
+    sym (row-append P (take n l) (drop n l) r (subst (λ m. r * P .columns + P .columns ≤ m) (sym (length-take-le n l h)) k))
+    ∙ ap (λ l. rowAt P l r) (take-append-drop n l)
+
+-- where each row holds symbols, so do all
+rows-below : (q N R : ℕ) (l : List ℕ) → ((r : ℕ) → r < R → T (allBelow q (take N (drop (r * N) l)))) → T (allBelow q (take (R * N) l))
+unfolding allBelow all
+rows-below q N zero l h = subst (λ n. T (allBelow q (take n l))) (sym (zero-mul N)) tt
+rows-below q N (suc R) l h =
+    subst (λ x. T (allBelow q x)) (sym (ap (λ n. take n l) (suc-mul R N) ∙ take-add (R * N) N l))
+    (all-append (λ x. ltb x q) (take (R * N) l) (take N (drop (R * N) l)) (rows-below q N R l (λ r k. h r (omega arith))) (h R (omega arith)))
+
+zeros-take : (n : ℕ) (l : List ℕ) → n ≤ length l → ((r : ℕ) → r < n → getD l r 0 ≡ 0) → take n l ≡ replicate n 0
+zeros-take zero l h z = refl
+zeros-take (suc n) [] h z = absurd (omega arith)
+zeros-take (suc n) (x ∷ l) h z = ap₂ _∷_ (z 0 (zero-lt-suc n)) (zeros-take n l (le-of-suc-le-suc h) (λ r k. z (suc r) (omega arith)))
+
+-- where no row has marks, each mark word is 0
+pub lossy-none : (marks : List ℕ) (k n : ℕ) → marked (map (λ r. not (eqb (getD marks r 0) 0)) (upFrom k n)) ≡ 0
+    → (r : ℕ) → k ≤ r → r < k + n → getD marks r 0 ≡ 0
+unfolding if_then_else_ upFrom only
+lossy-none marks k zero e r h l = absurd (omega arith)
+lossy-none marks k (suc n) e r h l = go (eqb (getD marks k 0) 0) refl e (lossy-none marks (suc k) n)
+  where
+    go : (z : Bool) → eqb (getD marks k 0) 0 ≡ z → marked (not z ∷ map (λ r. not (eqb (getD marks r 0) 0)) (upFrom (suc k) n)) ≡ 0
+        → (marked (map (λ r. not (eqb (getD marks r 0) 0)) (upFrom (suc k) n)) ≡ 0 → (r : ℕ) → suc k ≤ r → r < suc k + n → getD marks r 0 ≡ 0)
+        → getD marks r 0 ≡ 0
+    go true q e ih =
+        elim (eq-or-lt-of-le h) [
+          | inl g ↦ subst (λ j. getD marks j 0 ≡ 0) g (eqb→eq (getD marks k 0) 0 (subst T (sym q) tt))
+          | inr g ↦ ih e r g (omega arith)
+        ]
+    go false q e ih = absurd (omega arith)
+
+pub none-lossy : (marks : List ℕ) (k n : ℕ) → ((r : ℕ) → r < k + n → getD marks r 0 ≡ 0)
+    → marked (map (λ r. not (eqb (getD marks r 0) 0)) (upFrom k n)) ≡ 0
+unfolding if_then_else_ upFrom only
+none-lossy marks k zero h = refl
+none-lossy marks k (suc n) h =
+    ap (λ w. marked (not (eqb w 0) ∷ map (λ r. not (eqb (getD marks r 0) 0)) (upFrom (suc k) n))) (h k (omega arith))
+    ∙ none-lossy marks (suc k) n (λ r l. h r (omega arith))
+
+-- a level is Blocked only where a filling is tied
+joined-free : {A : Type 0} (f : A → Fill) → ((x : A) → f x ≡ tied → ⊥) → (xs : List A) → joined (map f xs) ≡ blocked → ⊥
+unfolding joined join
+joined-free f free [] e = let z : _≡_ {A = ℕ} 0 1 = cc in omega arith
+joined-free f free (x ∷ xs) e = go (f x) refl (joined (map f xs)) refl e (joined-free f free xs)
+  where
+    go : (a : Fill) → f x ≡ a → (l : Learned) → joined (map f xs) ≡ l → join a l ≡ blocked → (joined (map f xs) ≡ blocked → ⊥) → ⊥
+    go tied p l q e ih = free x p
+    go none p blocked q e ih = ih q
+    go none p failing q e ih = let z : _≡_ {A = ℕ} 0 1 = cc in omega arith
+    go none p (learned cs) q e ih = let z : _≡_ {A = ℕ} 0 1 = cc in omega arith
+    go (one v) p blocked q e ih = ih q
+    go (one v) p failing q e ih = let z : _≡_ {A = ℕ} 0 1 = cc in omega arith
+    go (one v) p (learned cs) q e ih = let z : _≡_ {A = ℕ} 0 1 = cc in omega arith
+
+-- ---- what is left behind where the rounds end
+
+module _ (p : ℕ) (stripe marks : List ℕ) (fit : Fit p stripe marks) (m : Standing) (e : Ended p stripe marks fit m) where
+  abbrev P : Plan
+  P = planOf p
+
+  abbrev b : Bench
+  b = m .bench
+
+  abbrev Y : List ℕ
+  Y = take (length stripe) (b .symbols)
+
+  long : length stripe ≡ P .rows * P .columns
+  long = lent-fit p stripe marks fit .long
+
+  words : length marks ≡ P .rows
+  words = lent-fit p stripe marks fit .words
+
+  enough : P .rows * P .columns ≤ length (b .symbols)
+  enough = omega (arith, shape p (lent-fit p stripe marks fit .plan-known) .symbols-le, e .reached .sound .sized .symbols)
+
+  enough-words : P .rows ≤ length (b .marks)
+  enough-words = omega (arith, shape p (lent-fit p stripe marks fit .plan-known) .rows-le, e .reached .sound .sized .marks)
+
+  row-left : (r : ℕ) → r < P .rows → rowAt P Y r ≡ rowAt P (b .symbols) r
+  row-left r l = row-take P (b .symbols) (length stripe) r (omega (arith, long, enough)) (omega (arith, long, row-end (P .columns) l))
+
+  -- a codeword that agrees has each symbol that is now unmarked
+  pub agrees-left : (X : List ℕ) → Codeword p X → Agree p marks X stripe → Agree p (take (length marks) (b .marks)) X Y
+  unfolding marksAt
+  agrees-left X word agree =
+      let h = e .reached .held X word agree in
+      rows-agree p (take (length marks) (b .marks)) X Y (λ r l.
+      rw (row-left r l, getD-take (length marks) (b .marks) r 0 (omega (arith, words)))
+      (alike-sym (marksAt P (b .marks) r) (rowAt P (b .symbols) r) (rowAt P X r) (h .alike r l)))
+
+  -- where no row has marks
+  module _ (none-left : rowsLeft b ≡ 0) where
+    clear : (r : ℕ) → r < P .rows → getD (b .marks) r 0 ≡ 0
+    unfolding rowsLeft lossy
+    clear r l =
+        lossy-none (b .marks) 0 (planOf (b .plan) .rows) none-left r zero-le
+        (subst (λ q. r < 0 + planOf q .rows) (sym (e .reached .plan)) (omega arith))
+
+    unmarked : (r : ℕ) → r < P .rows → marked (marksAt P (b .marks) r) ≡ 0
+    unfolding marksAt
+    unmarked r l = rw (clear r l) (clear-unmarked (P .columns))
+
+    -- the last level was learned
+    at-top : b .level ≡ length (P .levels)
+    unfolding rowsLeft levelFill
+    at-top =
+        elim (eq-or-lt-of-le (reached-level p stripe marks b (e .reached))) [
+          | inl q ↦ q
+          | inr low ↦ absurd (joined-free (totalFill b L) free (L .checks) (e .stopped low))
+        ]
+      where
+        L : Level
+        L = levelOf (planOf (b .plan)) (suc (b .level))
+
+        free : (c : List ℕ) → totalFill b L c ≡ tied → ⊥
+        free c q =
+            let F = planOf (b .plan) .field in
+            let ms = lossy (planOf (b .plan)) (b .marks) in
+            let v = across (planOf (b .plan)) (b .symbols) c in
+            let d = subst (Means F (L .weights) (zeros (L .weights)) ms v) q (fill-means F (L .weights) (zeros (L .weights)) ms v) in
+            no-dependency F (L .weights) ms (unmarked-independent F (L .weights) ms none-left) (d .1)
+
+    has : Has p b Y
+    has r l =
+        elim (e .settled r l) [
+          | inl t ↦ absurd (T-not (rowTied p (b .level) (b .marks) r)
+              (unmarked-independent (P .field) (checksTo P (b .level)) (marksAt P (b .marks) r) (unmarked r l)) t)
+          | inr s ↦ s .1 ∙ ap (sumsOf (P .field) (checksTo P (b .level))) (sym (row-left r l))
+        ]
+
+    row-symbols : (r : ℕ) → r < P .rows → T (allBelow (size (P .field)) (rowAt P (b .symbols) r))
+    row-symbols r l =
+        unmarked-all (size (P .field)) (marksAt P (b .marks) r) (rowAt P (b .symbols) r) (unmarked r l)
+        (row-length P (b .symbols) r (omega (arith, enough, row-end (P .columns) l)) ∙ sym (marks-length P (b .marks) r))
+        (subst (λ q. (r : ℕ) → r < planOf q .rows → RowFits (planOf q) (b .marks) (b .symbols) r) (e .reached .plan)
+        (e .reached .sound .fit .row-fits) r l)
+
+    codeword-left : Codeword p Y
+    unfolding rowAt isCodeword
+    codeword-left =
+        let met = e .reached .meets Y has in
+        record {
+          long = length-take-le (length stripe) (b .symbols) (omega (arith, long, enough)) ∙ long;
+          symbols =
+              subst (λ n. T (allBelow (size (P .field)) (take n (b .symbols)))) (sym long)
+              (rows-below (size (P .field)) (P .columns) (P .rows) (b .symbols) row-symbols);
+          holds =
+              both (rowsHold P Y) (all (totalsHold P Y) (drop 1 (P .levels))) (met .rows)
+              (subst (λ ls. T (all (totalsHold P Y) (drop 1 ls))) (ap (λ t. take t (P .levels)) at-top ∙ take-length (P .levels)) (met .totals));
+        }
+
+    pub is-restored : (mendStripe p stripe marks ≡ Y) → mendMarks p stripe marks ≡ take (length marks) (b .marks) → IsRestored p stripe marks
+    unfolding rowAt
+    is-restored s t = record {
+      codeword = rw s codeword-left;
+      agrees = rw s (rows-agree p marks Y stripe (λ r l.
+          rw (row-left r l) (alike-sym (marksAt P marks r) (rowAt P stripe r) (rowAt P (b .symbols) r) (e .reached .same r l))));
+      only = λ X word agree.
+          rows-ext (P .columns) (P .rows) X Y (λ r l. sym (held-unmarked p X b (e .reached .held X word agree) r l (clear r l)) ∙ sym (row-left r l))
+          (drop-of-length-le X (le-of-eq (word .long)) ∙ sym (drop-of-length-le Y (le-of-eq (codeword-left .long)))) ∙ sym s;
+      clear = t ∙ ap (λ n. take n (b .marks)) words ∙ zeros-take (P .rows) (b .marks) enough-words clear;
+    }
+
+-- ---- from the answer to where the rounds end
+
+module _ (p : ℕ) (stripe marks : List ℕ) where
+  -- an answer that is no refusal
+  pub not-refused : (a : Answer) → mendReport p stripe marks .answer ≡ a → ((n : ℕ) → Refused n ≡ a → ⊥) → Fit p stripe marks
+  unfolding if_then_else_ mendReport bare
+  not-refused a e other = go (eqb (lentRefusal p stripe marks) 0) refl e
+    where
+      go : (z : Bool) → eqb (lentRefusal p stripe marks) 0 ≡ z
+          → (if z then turnReport (mended p stripe marks) else bare (Refused (lentRefusal p stripe marks))) .answer ≡ a → Fit p stripe marks
+      go true q e = eqb-true (lentRefusal p stripe marks) 0 q
+      go false q e = absurd (other (lentRefusal p stripe marks) e)
+
+  module _ (fit : Fit p stripe marks) where
+    lent : T (eqb (lentRefusal p stripe marks) 0)
+    lent = rw fit tt
+
+    pub report-turn : mendReport p stripe marks ≡ turnReport (mended p stripe marks)
+    unfolding mendReport
+    report-turn = if-true (eqb (lentRefusal p stripe marks) 0) (turnReport (mended p stripe marks)) (bare (Refused (lentRefusal p stripe marks))) lent
+
+    pub stripe-turn : mendStripe p stripe marks ≡ turnStripe (mended p stripe marks) stripe
+    unfolding mendStripe
+    stripe-turn = if-true (eqb (lentRefusal p stripe marks) 0) (turnStripe (mended p stripe marks) stripe) stripe lent
+
+    pub marks-turn : mendMarks p stripe marks ≡ turnMarks (mended p stripe marks) marks
+    unfolding mendMarks
+    marks-turn = if-true (eqb (lentRefusal p stripe marks) 0) (turnMarks (mended p stripe marks) marks) marks lent

@@ -1,0 +1,33 @@
+-- Why the demands hold. The theorems stand in Second, Counts, Encoding and Third, the plans' parameters in Parameters and Distance, and samples
+-- that meet the premises in Samples.
+pub mod Lists
+pub mod Marked
+pub mod Binary
+-- a bench and a codeword that agrees with it
+pub mod Alike
+pub mod Few
+pub mod Codewords
+pub mod Held
+-- the order of steps
+pub mod Order
+pub mod Whole
+-- the rounds
+pub mod Reached
+pub mod Rounds
+pub mod Left
+-- square systems, and a codeword for any data
+pub mod Matrix
+pub mod Square
+pub mod Systems
+pub mod Build
+pub mod Existence
+-- the demands
+pub mod Second
+pub mod Counts
+pub mod Data
+pub mod Encoding
+pub mod Third
+pub mod Samples
+-- the parameters
+pub mod Parameters
+pub mod Distance

@@ -1,0 +1,100 @@
+-- Lists: their members and tests, and rows of one length that stand one behind the other. Assumes nothing.
+use mathlib.Core.Path.{_≡_, refl, sym, ap, ap₂, _∙_, subst}
+use mathlib.Core.Logic.{inl, inr}
+use mathlib.Core.Bool.{Bool}
+use mathlib.Core.List.{List, [], _∷_, _++_, map, flatMap, Memᴰ·append-left, Memᴰ·append-right}
+use mathlib.Core.List.{List·Memᴰ·not-nil, List·Memᴰ·cases-cons}
+use Prim.Native.Nat.{ℕ, zero, suc, _+_, _*_, _<_, zero-le}
+use native.Mathlib.Nat.{suc-inj, suc-mul, zero-mul}
+use native.Mathlib.Omega.{arith}
+use lib.Dec.{T}
+use lib.ListN.{length, take, drop, getD, length-append}
+use lib.Seq.{take-at, drop-append-add}
+use Rattle.field.specs.Lists.{upFrom}
+use Rattle.field.proofs.Test.{both-left, both-right, both}
+use Rattle.field.proofs.Words.{Each}
+use Rattle.linear.specs.Lists.{all, first, rest}
+use Rattle.linear.proofs.Tests.{In, all-append, in-up}
+
+-- ---- members
+
+pub in-below : {n i : ℕ} → i < n → In i (upFrom 0 n)
+in-below {n} {i} h = in-up 0 n i zero-le (omega arith)
+
+pub in-flat : {A B : Type 0} (f : A → List B) {x : A} {y : B} (l : List A) → In x l → In y (f x) → In y (flatMap f l)
+unfolding flatMap
+in-flat f [] m n = absurd (List·Memᴰ·not-nil m)
+in-flat f {y = y} (z ∷ l) m n =
+    elim (List·Memᴰ·cases-cons m) [
+      | inl e ↦ Memᴰ·append-left (flatMap f l) (subst (λ z. In y (f z)) e n)
+      | inr h ↦ Memᴰ·append-right (f z) (in-flat f l h n)
+    ]
+
+pub each-in : (P : ℕ → Type 0) (xs : List ℕ) → Each P xs → {x : ℕ} → In x xs → P x
+each-in P [] h m = absurd (List·Memᴰ·not-nil m)
+each-in P (y ∷ xs) h m = elim (List·Memᴰ·cases-cons m) [ inl e ↦ subst P (sym e) (h .0) | inr n ↦ each-in P xs (h .1) n ]
+
+-- what maps to equal lists agrees on each member
+pub map-in : {A : Type 0} (f g : A → ℕ) (l : List A) → map f l ≡ map g l → {x : A} → In x l → f x ≡ g x
+unfolding first rest
+map-in f g [] e m = absurd (List·Memᴰ·not-nil m)
+map-in f g (y ∷ l) e m = elim (List·Memᴰ·cases-cons m) [ inl h ↦ ap f h ∙ ap first e ∙ sym (ap g h) | inr n ↦ map-in f g l (ap rest e) n ]
+
+-- ---- tests
+
+pub all-map : {A B : Type 0} (q : B → Bool) (f : A → B) → ((x : A) → T (q (f x))) → (l : List A) → T (all q (map f l))
+unfolding all
+all-map q f h [] = tt
+all-map q f h (x ∷ l) = both (q (f x)) (all q (map f l)) (h x) (all-map q f h l)
+
+-- what all pass, and the default too, passes wherever it is read
+pub all-getD : {A : Type 0} (q : A → Bool) (d : A) → T (q d) → (l : List A) → T (all q l) → (i : ℕ) → T (q (getD l i d))
+unfolding all
+all-getD q d z [] t i = z
+all-getD q d z (x ∷ l) t zero = both-left (q x) (all q l) t
+all-getD q d z (x ∷ l) t (suc i) = all-getD q d z l (both-right (q x) (all q l) t) i
+
+-- what passes at every place passes as a whole
+pub at-all : {A : Type 0} (q : A → Bool) (d : A) (l : List A) → ((i : ℕ) → i < length l → T (q (getD l i d))) → T (all q l)
+unfolding all
+at-all q d [] h = tt
+at-all q d (x ∷ l) h = both (q x) (all q l) (h 0 (omega arith)) (at-all q d l (λ i m. h (suc i) (omega arith)))
+
+-- ---- lists in two parts, the first as long
+
+pub append-same : {b d : List ℕ} (a c : List ℕ) → a ++ b ≡ c ++ d → length a ≡ length c → (a ≡ c) × (b ≡ d)
+unfolding first rest
+append-same [] [] e l = (refl, e)
+append-same [] (y ∷ c) e l = absurd (omega arith)
+append-same (x ∷ a) [] e l = absurd (omega arith)
+append-same (x ∷ a) (y ∷ c) e l = let r = append-same a c (ap rest e) (suc-inj l) in (ap₂ _∷_ (ap first e) (r .0), r .1)
+
+-- ---- n rows from row k on, one behind the other
+
+module _ {A : Type 0} (f : ℕ → List A) where
+  pub flat-all : (q : A → Bool) (k n : ℕ) → ((r : ℕ) → r < k + n → T (all q (f r))) → T (all q (flatMap f (upFrom k n)))
+  unfolding flatMap upFrom all
+  flat-all q k zero t = tt
+  flat-all q k (suc n) t =
+      all-append q (f k) (flatMap f (upFrom (suc k) n)) (t k (omega arith)) (flat-all q (suc k) n (λ r l. t r (omega arith)))
+
+  module _ (N : ℕ) where
+    pub flat-length : (k n : ℕ) → ((r : ℕ) → r < k + n → length (f r) ≡ N) → length (flatMap f (upFrom k n)) ≡ n * N
+    unfolding flatMap upFrom
+    flat-length k zero wide = sym (zero-mul N)
+    flat-length k (suc n) wide =
+        length-append (f k) (flatMap f (upFrom (suc k) n))
+        ∙ omega (arith, wide k (omega arith), flat-length (suc k) n (λ r l. wide r (omega arith)), suc-mul n N)
+
+    pub flat-row : (k n : ℕ) → ((r : ℕ) → r < k + n → length (f r) ≡ N) → (j : ℕ) → j < n
+        → take N (drop (j * N) (flatMap f (upFrom k n))) ≡ f (k + j)
+    unfolding flatMap upFrom
+    flat-row k zero wide j h = absurd (omega arith)
+    flat-row k (suc n) wide zero h =
+        ap (λ i. take N (drop i (f k ++ flatMap f (upFrom (suc k) n)))) (zero-mul N)
+        ∙ take-at (f k) (flatMap f (upFrom (suc k) n)) N (wide k (omega arith)) ∙ ap f (omega arith)
+    flat-row k (suc n) wide (suc j) h =
+        let e : suc j * N ≡ length (f k) + j * N = omega (arith, suc-mul j N, wide k (omega arith)) in
+        ap (λ i. take N (drop i (f k ++ flatMap f (upFrom (suc k) n)))) e
+        ∙ ap (take N) (drop-append-add (f k) (flatMap f (upFrom (suc k) n)) (j * N))
+        ∙ flat-row (suc k) n (λ r l. wide r (omega arith)) j (omega arith) ∙ ap f (omega arith)

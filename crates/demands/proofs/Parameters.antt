@@ -1,0 +1,140 @@
+-- The plans' parameters: symbols carried, the distance of a row code and of the whole code. Assumes nothing.
+use mathlib.Core.Path.{_≡_, refl, _∙_}
+use mathlib.Core.Logic.{inl, inr}
+use mathlib.Core.List.{List, _∷_, flatMap}
+use Prim.Native.Nat.{ℕ, zero, suc, _+_, _<_}
+use native.Mathlib.Omega.{arith}
+use lib.Dec.{T}
+use lib.ListN.{length, replicate}
+use Rattle.field.specs.Lists.{if_then_else_, upFrom}
+use Rattle.field.specs.Field.{_⊕_, size, double, times, mul, dot, gf2, gf16, gf32}
+use Rattle.field.specs.Power.{power}
+use Rattle.field.proofs.Words.{weight}
+use Rattle.linear.specs.Lists.{all, vanish}
+use Rattle.linear.specs.Fill.{sumsOf}
+use Rattle.linear.proofs.Tests.{either}
+use Rattle.linear.proofs.Filling.{no-dependency}
+use Rattle.repair.specs.Plan.{ones, bitChecks, locations1, plan1, locations2, powers2, plan2, locations3, powers3, plan3, known, planOf}
+use Rattle.repair.specs.Plan.{levelOf, checksTo, rowAt}
+use Rattle.repair.specs.Refusal.{allBelow}
+use Rattle.repair.specs.Steps.{across}
+use Rattle.repair.specs.Codeword.{rowsHold, totalsHold, isCodeword, carried}
+use Rattle.repair.proofs.Samples.{rowOf, sizes}
+use Rattle.repair.proofs.Shape.{of-known, shape}
+use Rattle.repair.proofs.Levels.{checks-first}
+use Rattle.demands.specs.Words.{Codeword, counts, rowDistance, distance}
+use Rattle.demands.proofs.Marked.{support, support-length, support-marked, support-agrees}
+use Rattle.demands.proofs.Few.{count, few-independent}
+use Rattle.demands.proofs.Square.{symbols-fit}
+
+-- ---- statements
+
+-- k: the symbols that a plan carries
+unfoldable pub symbolsCarried : ℕ → ℕ
+symbolsCarried zero = 0
+symbolsCarried (suc zero) = 15
+symbolsCarried (suc (suc zero)) = 198
+symbolsCarried (suc (suc (suc zero))) = 98
+symbolsCarried (suc (suc (suc (suc p)))) = 0
+
+abbrev pub CarriedMet : Type 0
+CarriedMet = (p : ℕ) → T (known p) → carried (planOf p) ≡ symbolsCarried p
+
+-- a row of symbols whose level-1 sums are zero
+pub record RowWord (p : ℕ) (w : List ℕ) : Type 0 where
+  pub long : length w ≡ planOf p .columns
+  pub symbols : T (allBelow (size (planOf p .field)) w)
+  pub holds : T (vanish (sumsOf (planOf p .field) (levelOf (planOf p) 1 .checks) w))
+
+-- none but zero has fewer symbols that are not 0 than d0, and one has as many
+abbrev pub RowDistance : Type 0
+RowDistance = (p : ℕ) (w : List ℕ) → RowWord p w → weight w < rowDistance p → T (vanish w)
+
+abbrev pub RowDistanceMet : Type 0
+RowDistanceMet = (p : ℕ) → T (known p) → (w : List ℕ) × RowWord p w × (weight w ≡ rowDistance p)
+
+-- the same of stripes and d
+abbrev pub Distance : Type 0
+Distance = (p : ℕ) (X : List ℕ) → Codeword p X → weight X < distance p → T (vanish X)
+
+abbrev pub DistanceMet : Type 0
+DistanceMet = (p : ℕ) → T (known p) → (X : List ℕ) × Codeword p X × (weight X ≡ distance p)
+
+-- ---- symbols carried
+
+pub carried-met : CarriedMet
+unfolding planOf symbolsCarried
+carried-met = of-known (λ p. carried (planOf p) ≡ symbolsCarried p) (sizes .0) (sizes .1) (sizes .2)
+
+-- ---- lightest words, found by another program
+
+lightRow1 : List ℕ
+lightRow1 = rowOf 2 7 0x03
+
+lightRow2 : List ℕ
+lightRow2 = rowOf 2 32 0x80040003
+
+lightRow3 : List ℕ
+lightRow3 = rowOf 16 15 0x981
+
+pub row-distance-met : RowDistanceMet
+unfolding if_then_else_ upFrom _⊕_ size double times mul dot gf2 gf16 gf32 power weight all vanish sumsOf
+    ones bitChecks locations1 plan1 locations2 powers2 plan2 locations3 powers3 plan3 planOf levelOf allBelow rowOf
+    rowDistance lightRow1 lightRow2 lightRow3
+row-distance-met =
+    of-known (λ p. (w : List ℕ) × RowWord p w × (weight w ≡ rowDistance p))
+    (lightRow1, record { long = refl; symbols = tt; holds = tt }, refl)
+    (lightRow2, record { long = refl; symbols = tt; holds = tt }, refl)
+    (lightRow3, record { long = refl; symbols = tt; holds = tt }, refl)
+
+-- the same row twice, and rows of zeros: every total of that row's sums with weights 1 is zero
+twice : (q n R : ℕ) → ℕ → List ℕ
+twice q n R w = flatMap (rowOf q n) (w ∷ w ∷ replicate R 0)
+
+pub distance-met : DistanceMet
+unfolding if_then_else_ upFrom _⊕_ size double times mul dot gf2 gf16 gf32 power flatMap weight all vanish sumsOf
+    ones bitChecks locations1 plan1 locations2 powers2 plan2 locations3 powers3 plan3 planOf levelOf rowAt allBelow
+    across rowsHold totalsHold isCodeword rowOf distance twice
+distance-met =
+    of-known (λ p. (X : List ℕ) × Codeword p X × (weight X ≡ distance p))
+    (twice 2 7 1 0x03, record { long = refl; symbols = tt; holds = tt }, refl)
+    (twice 2 32 6 0x80040003, record { long = refl; symbols = tt; holds = tt }, refl)
+    (twice 16 15 6 0xfb51, record { long = refl; symbols = tt; holds = tt }, refl)
+
+-- ---- no word is lighter
+
+-- unknown numbers have no distances
+pub known-by-distance : (p : ℕ) → 0 < rowDistance p + distance p → T (known p)
+unfolding known rowDistance distance
+known-by-distance zero h = absurd (omega arith)
+known-by-distance (suc zero) h = tt
+known-by-distance (suc (suc zero)) h = tt
+known-by-distance (suc (suc (suc zero))) h = tt
+known-by-distance (suc (suc (suc (suc p)))) h = absurd (omega arith)
+
+-- d0 is the first of the published mark numbers
+row-count : (p : ℕ) → rowDistance p ≡ count p 0 .0
+unfolding counts rowDistance
+row-count zero = refl
+row-count (suc zero) = refl
+row-count (suc (suc zero)) = refl
+row-count (suc (suc (suc zero))) = refl
+row-count (suc (suc (suc (suc p)))) = refl
+
+pub row-distance : RowDistance
+unfolding allBelow
+row-distance p w h light =
+    let F = planOf p .field in
+    let kn : T (known p) = known-by-distance p (omega arith) in
+    elim (either (vanish w)) [
+      | inl t ↦ t
+      | inr n ↦
+          absurd
+          (no-dependency F (checksTo (planOf p) 1) (support w)
+          (few-independent p 0 (support w) (support-length w ∙ h .long) (rw (support-marked w, ← row-count p) light))
+          record {
+            agrees = support-agrees F w (symbols-fit F w (h .symbols));
+            nonzero = n;
+            vanishes = rw (checks-first (planOf p) (shape p kn .levels-pos)) (h .holds);
+          })
+    ]

@@ -1,0 +1,126 @@
+-- The premises can be met: stripes of the bench sheet, by computation. Assumes nothing.
+use mathlib.Core.Path.{_≡_, refl, sym, ap, subst}
+use mathlib.Core.Bool.{Bool, true, false, _&&_}
+use mathlib.Core.List.{List, [], _∷_, _++_, map, flatMap}
+use Prim.Native.Nat.{ℕ, zero, suc}
+use native.Mathlib.Omega.{arith}
+use lib.Dec.{T, eqb, eqb→eq}
+use lib.ListN.{getD, replicate, set}
+use Rattle.field.specs.Lists.{if_then_else_, upFrom}
+use Rattle.field.specs.Field.{_⊕_, size, double, times, mul, dot, gf2}
+use Rattle.field.proofs.Test.{both-left, both-right}
+use Rattle.linear.specs.Lists.{any, all, only, same, zeros, vanish, first, rest}
+use Rattle.linear.specs.Marks.{bitsOf}
+use Rattle.linear.specs.Fill.{sumsOf, options, before, choices, loose, dependent, fillings, fillBy, fill}
+use Rattle.linear.proofs.Choices.{Alike}
+use Rattle.repair.specs.Plan.{ones, bitChecks, locations1, plan1, known, planOf, noLevel, levelOf, checksTo, rowAt, marksAt, marksOf}
+use Rattle.repair.specs.Refusal.{firstFailed, unasked, inMemory, stripeFits, wordsFit, marksFit, allBelow, unmarkedBelow, symbolsFit, sumsAt, sumsFit, levelFits, lentRefusal, benchRefusal}
+use Rattle.repair.specs.Steps.{fresh, stepped, unlessRefused, rowFill, putRow, rowStepBy, rowStep, lossy, across, join, joined, levelFill, keepSums, raise, levelStepBy, levelStep}
+use Rattle.repair.specs.Rounds.{mendReport}
+use Rattle.repair.specs.Codeword.{rowsHold, totalsHold, isCodeword}
+use Rattle.repair.specs.declared.Bench.{Bench}
+use Rattle.repair.specs.declared.Answer.{Answer}
+use Rattle.repair.specs.declared.Answer.the-variants.{Restored, Stuck, Clash}
+use Rattle.repair.specs.declared.Place.the-variants.{Row}
+use Rattle.repair.proofs.Sheet.{Case, restored, stuck, clashed, blank, unchanged, blankRestored, row1, exampleStripe, exampleMarks, exampleAfter, cases, done, sheet}
+use Rattle.repair.proofs.Sound.{row-outside}
+use Rattle.demands.specs.Words.{Codeword, Move, onRow, onLevel, walk, Quiet, rounds}
+use Rattle.demands.specs.Third.{Premise}
+use Rattle.demands.proofs.Alike.{alike-at}
+use Rattle.demands.proofs.Third.{rounds-suffice}
+
+-- the test of stripes that agree
+alikeTest : List Bool → List ℕ → List ℕ → Bool
+alikeTest [] v w = true
+alikeTest (true ∷ ms) v w = alikeTest ms (rest v) (rest w)
+alikeTest (false ∷ ms) v w = eqb (first v) (first w) && alikeTest ms (rest v) (rest w)
+
+are-alike : (ms : List Bool) (v w : List ℕ) → T (alikeTest ms v w) → Alike ms v w
+unfolding alikeTest
+are-alike [] v w t = tt
+are-alike (true ∷ ms) v w t = are-alike ms (rest v) (rest w) t
+are-alike (false ∷ ms) v w t = (
+  eqb→eq (first v) (first w) (both-left (eqb (first v) (first w)) (alikeTest ms (rest v) (rest w)) t),
+  are-alike ms (rest v) (rest w) (both-right (eqb (first v) (first w)) (alikeTest ms (rest v) (rest w)) t),
+)
+
+-- ---- the third demand's premise: the example's stripe, 1?00000 ?0?0?10 00?0000
+
+pub example-word : Codeword 1 exampleAfter
+unfolding if_then_else_ upFrom _⊕_ size double times mul dot gf2 all vanish sumsOf ones bitChecks locations1 plan1 planOf noLevel levelOf rowAt
+    allBelow across rowsHold totalsHold isCodeword exampleAfter
+example-word = record { long = refl; symbols = tt; holds = tt }
+
+pub example : Premise 1 exampleStripe exampleMarks
+unfolding if_then_else_ upFrom flatMap size gf2 all first rest bitsOf plan1 known planOf rowAt marksAt marksOf
+    firstFailed unasked inMemory stripeFits wordsFit marksFit unmarkedBelow symbolsFit lentRefusal exampleStripe exampleMarks exampleAfter alikeTest
+example = record {
+  fit = refl;
+  true-stripe = exampleAfter;
+  codeword = example-word;
+  agrees =
+      let ms = marksOf (planOf 1) exampleMarks in alike-at ms exampleAfter exampleStripe (are-alike ms exampleAfter exampleStripe tt);
+}
+
+-- two sequences of steps that end quiet: the rounds, and a shorter one in another order
+pub rounds-quiet : Quiet (walk (rounds (planOf 1) 2) (fresh 1 exampleStripe exampleMarks))
+unfolding plan1 planOf
+rounds-quiet = rounds-suffice 1 exampleStripe exampleMarks example
+
+abbrev otherOrder : List Move
+otherOrder = onRow 2 ∷ onRow 0 ∷ onLevel ∷ onRow 1 ∷ []
+
+-- the bench that both end with: all rows restored, level 2, and the level-2 sums of rows 0 and 1 are 3
+unfoldable pub exampleEnd : Bench
+exampleEnd =
+    let sums : List ℕ = (0 ∷ 1 ∷ 1 ∷ 0 ∷ []) ++ replicate 12 0 in
+    record { plan = 1; level = 2; symbols = exampleAfter ++ replicate 235 0; marks = replicate 8 0; sums = sums ++ sums ++ replicate 96 0 }
+
+other-ends : walk otherOrder (fresh 1 exampleStripe exampleMarks) ≡ exampleEnd
+unfolding if_then_else_ upFrom _⊕_ size double times mul dot gf2 flatMap
+    any all only same zeros vanish first rest bitsOf sumsOf options before choices loose dependent fillings fillBy fill
+    ones bitChecks locations1 plan1 known planOf noLevel levelOf checksTo rowAt marksAt
+    firstFailed unasked inMemory marksFit allBelow unmarkedBelow symbolsFit sumsAt sumsFit levelFits benchRefusal
+    fresh stepped unlessRefused rowFill putRow rowStepBy rowStep lossy across join joined levelFill keepSums raise levelStepBy levelStep
+    exampleStripe exampleMarks exampleAfter exampleEnd
+other-ends = refl
+
+end-quiet : Quiet exampleEnd
+unfolding if_then_else_ upFrom _⊕_ size double times mul dot gf2 flatMap
+    any all only same zeros vanish first rest bitsOf sumsOf options before choices loose dependent fillings fillBy fill
+    ones bitChecks locations1 plan1 known planOf noLevel levelOf checksTo rowAt marksAt
+    firstFailed unasked inMemory marksFit allBelow unmarkedBelow symbolsFit sumsAt sumsFit levelFits benchRefusal
+    stepped unlessRefused rowFill putRow rowStepBy rowStep levelStep exampleAfter exampleEnd
+end-quiet (onRow zero) = refl
+end-quiet (onRow (suc zero)) = refl
+end-quiet (onRow (suc (suc zero))) = refl
+end-quiet (onRow (suc (suc (suc r)))) = row-outside exampleEnd (suc (suc (suc r))) (omega arith)
+end-quiet onLevel = refl
+
+pub other-quiet : Quiet (walk otherOrder (fresh 1 exampleStripe exampleMarks))
+other-quiet = subst Quiet (sym other-ends) end-quiet
+
+-- ---- the second demand's: an answer of each kind, out of the bench sheet's table
+
+module _ (i : ℕ) where
+  -- what mending answers in case i
+  abbrev answers : List Case → Answer
+  answers cs = getD (map (λ (c : Case). c .report .answer) cs) i Stuck
+
+pub is-restored : mendReport 1 exampleStripe exampleMarks .answer ≡ Restored
+unfolding restored stuck clashed unchanged blankRestored cases done
+is-restored = ap (answers 1) (sheet .0)
+
+pub is-stuck : mendReport 1 blank (row1 (0 ∷ 1 ∷ 3 ∷ 6 ∷ [])) .answer ≡ Stuck
+unfolding restored stuck clashed unchanged blankRestored cases done
+is-stuck = ap (answers 3) (sheet .0)
+
+-- and a codeword that agrees with what is Stuck
+pub blank-word : Codeword 1 blank
+unfolding if_then_else_ upFrom _⊕_ size double times mul dot gf2 all vanish sumsOf ones bitChecks locations1 plan1 planOf noLevel levelOf rowAt
+    allBelow across rowsHold totalsHold isCodeword blank
+blank-word = record { long = refl; symbols = tt; holds = tt }
+
+pub is-clash : mendReport 1 (set blank 0 1) (0 ∷ 0 ∷ 0 ∷ []) .answer ≡ Clash (Row 0 1)
+unfolding restored stuck clashed unchanged blankRestored cases done
+is-clash = ap (answers 7) (sheet .0)

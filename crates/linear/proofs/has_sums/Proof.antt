@@ -1,0 +1,72 @@
+use mathlib.Core.Path.{refl}
+use native.Mathlib.Nat.{le-refl}
+use Rattle.linear.proofs.Flat.{sums-at, sums-are, eq-same, ne-same}
+use mathlib.Core.Path.{sym, ap, _∙_}
+use borrow.Author.Count.{below-more}
+use Rattle.linear.proofs.Rows.{row-fits}
+use Rattle.linear.specs.System.{vec, ent, inner}
+use Rattle.field.proofs.Fields.{our-field}
+use Rattle.field.specs.Ours.{fieldOf}
+use lib.ListN.{length}
+use mathlib.Core.Path.{_≡_}
+use Prim.Native.Nat.{ℕ, _-_, _≤_, _<_}
+-- `has_sums` meets its contract. Assumes nothing.
+use native.Mathlib.Omega.{arith}
+use borrow.Author.Needs.{needs}
+use Rattle.linear.proofs.has_sums.Statement.{statement}
+use Rattle.linear.proofs.has_sums.Tie as tie
+use Rattle.linear.proofs.has_sums.Reads as reads
+use Rattle.linear.proofs.has_sums.Lts as lts
+use Rattle.linear.proofs.row_sum.Reads as row-sum-reads
+
+abbrev Inv-loop : tie.InvT-loop
+Inv-loop q table checks target v n i₀ i = (i ≤ length target) × ((x : ℕ) → x < i → inner (fieldOf q) (ent checks n x) (vec v) n ≡ vec target x)
+
+abbrev μ-loop : tie.MeasureT-loop
+μ-loop q table checks target v n i₀ i = length target - i
+
+loop-holds : tie.Need-loop-holds Inv-loop μ-loop
+loop-holds c = (omega arith, λ x l. absurd (omega arith))
+
+row-sum-requires : tie.Need-row-sum-requires Inv-loop μ-loop
+row-sum-requires c κs = let s = c .before .before .before .before .before in
+    let fit = row-fits (length (s .args .target .now)) (length (s .args .v .now)) (c .before .loop .i) (omega arith) in
+    (s .pre .0, (omega (arith, s .pre .1), le-refl _))
+
+shared-slice-read-if1 : tie.Need-shared-slice-read-if1 Inv-loop μ-loop
+shared-slice-read-if1 c = search needs
+
+returns : tie.Need-returns Inv-loop μ-loop
+returns c = let s = c .before .before .before .before .before .before .before .before in
+    ne-same _ _ (λ e. c .if1 .taken (c .before .before .row-sum .ensures
+    ∙ sym (sums-at _ (our-field (s .args .q)) _ _ (s .args .checks .now) (s .args .v .now) (le-refl _) (c .before .before .before .before .loop .i) (omega arith))
+    ∙ ap (λ l. vec l (c .before .before .before .before .loop .i)) e))
+
+add-i : tie.Need-add-i Inv-loop μ-loop
+add-i c = search needs
+
+loop-less : tie.Need-loop-less Inv-loop μ-loop
+loop-less c = search needs
+
+loop-again : tie.Need-loop-again Inv-loop μ-loop
+loop-again c = (omega arith, below-more _ _ (c .before .before .before .before .loop .inv .1) (sym (c .before .before .row-sum .ensures) ∙ c .if1 .left))
+
+returns-2 : tie.Need-returns-2 Inv-loop μ-loop
+returns-2 c = let s = c .before .before .before .before .before in
+    eq-same _ _ (sums-are _ (our-field (s .args .q)) _ _ (s .args .checks .now) (s .args .v .now) (s .args .target .now) (le-refl _) refl
+    (λ i l. c .before .loop .inv .1 i (omega arith)))
+
+pub has-sums-spec : {M : Type 1} → statement M
+has-sums-spec =
+    tie.close
+    (tie.spec
+    Inv-loop
+    μ-loop
+    loop-holds
+    row-sum-requires
+    shared-slice-read-if1
+    returns
+    add-i
+    loop-less
+    loop-again
+    returns-2)

@@ -1,0 +1,80 @@
+use mathlib.Core.Path.{refl}
+use Rattle.linear.proofs.Turns.{Clearing, clearing-start, clearing-skip, clearing-turn, clearing-end}
+use Rattle.linear.proofs.Rows.{row-fits}
+use Rattle.field.specs.Ours.{fieldOf}
+use mathlib.Core.Logic.{⊎-elim}
+use mathlib.Core.Path.{_∙_}
+use Prim.Native.Nat.{_-_}
+-- `system::clear_column` meets its contract. Assumes nothing.
+use native.Mathlib.Omega.{arith}
+use borrow.Author.Needs.{needs}
+use Rattle.linear.proofs.system.clear_column.Statement.{statement}
+use Rattle.linear.proofs.system.clear_column.Tie as tie
+use Rattle.linear.proofs.system.clear_column.Reads as reads
+use Rattle.linear.proofs.system.clear_column.Lts as lts
+use Rattle.linear.proofs.system.add_row.Reads as add-row-reads
+
+abbrev Inv-loop : tie.InvT-loop
+Inv-loop q table a₀ m w p c i₀ a i = Clearing (fieldOf q) a₀ a w p c i
+
+abbrev μ-loop : tie.MeasureT-loop
+μ-loop q table a₀ m w p c i₀ a i = m - i
+
+loop-holds : tie.Need-loop-holds Inv-loop μ-loop
+loop-holds c = clearing-start _ _ _ _ _ (c .before .pre .1 .1 .0)
+
+mul-f : tie.Need-mul-f Inv-loop μ-loop
+mul-f c = let s = c .before .before .before .before in omega (arith, row-fits (s .args .m) (s .args .w) (c .before .before .loop .i) (omega arith))
+
+add-f : tie.Need-add-f Inv-loop μ-loop
+add-f c = let s = c .before .before .before .before in omega (arith, row-fits (s .args .m) (s .args .w) (c .before .before .loop .i) (omega arith))
+
+slice-read-f : tie.Need-slice-read-f Inv-loop μ-loop
+slice-read-f c = let s = c .before .before .before .before .before in omega (arith, c .before .before .before .loop .inv .size, row-fits (s .args .m) (s .args .w) (c .before .before .before .loop .i) (omega arith))
+
+add-row-requires : tie.Need-add-row-requires Inv-loop μ-loop
+add-row-requires c κs = let s = c .before .before .before .before .before .before in
+    let inv = c .before .before .before .before .loop .inv in
+    let here = row-fits (s .args .m) (s .args .w) (c .before .before .before .before .loop .i) (omega arith) in
+    let there = row-fits (s .args .m) (s .args .w) (s .args .p) (omega arith) in (
+      s .pre .0,
+      (
+        (omega (arith, inv .size, here), omega (arith, inv .size, there), omega arith),
+        (inv .elements, λ j l. inv .kept j (omega arith) ∙ s .pre .1 .1 .1 j l),
+      ),
+    )
+
+add-i : tie.Need-add-i Inv-loop μ-loop
+add-i c = search needs
+
+loop-less : tie.Need-loop-less Inv-loop μ-loop
+loop-less c = search needs
+
+loop-again : tie.Need-loop-again Inv-loop μ-loop
+loop-again c = let inv = c .before .before .loop .inv in
+    ⊎-elim
+    (λ w. rw (w .6) (clearing-turn _ _ _ _ _ _ _ _ _ (omega arith) inv (w .0 .taken) refl (w .3 .ensures .0) (w .3 .kept .1 .1 .0) (w .3 .ensures .1)))
+    (λ w. rw (w .1) (clearing-skip _ _ _ _ _ _ _ inv (w .0 .left))) (c .if1 .came)
+
+same-length : tie.Need-same-length Inv-loop μ-loop
+same-length c = c .before .loop .inv .size
+
+returns : tie.Need-returns Inv-loop μ-loop
+returns c = (clearing-end _ _ _ _ _ _ _ _ (c .before .loop .inv) (search needs), c .before .loop .inv .elements)
+
+pub clear-column-spec : {M : Type 1} → statement M
+clear-column-spec =
+    tie.close
+    (tie.spec
+    Inv-loop
+    μ-loop
+    loop-holds
+    mul-f
+    add-f
+    slice-read-f
+    add-row-requires
+    add-i
+    loop-less
+    loop-again
+    same-length
+    returns)

@@ -1,0 +1,95 @@
+use lib.ListN.{length-set}
+use mathlib.Core.Path.{refl}
+use Rattle.linear.proofs.Turns.{reading-turn}
+use Rattle.linear.proofs.Elimination.{read-start}
+use Rattle.linear.proofs.Rows.{row-fits}
+use Rattle.linear.specs.System.{vec, ent, ReadOff}
+use Rattle.field.proofs.Fields.{our-field}
+use Rattle.field.specs.Ours.{fieldOf}
+use lib.ListN.{length}
+use mathlib.Core.Path.{_≡_, _∙_}
+use Prim.Native.Nat.{_+_, _-_, _≤_}
+-- `system::read_off` meets its contract. Assumes nothing.
+use native.Mathlib.Omega.{arith}
+use borrow.Author.Needs.{needs}
+use Rattle.linear.proofs.system.read_off.Statement.{statement}
+use Rattle.linear.proofs.system.read_off.Tie as tie
+use Rattle.linear.proofs.system.read_off.Reads as reads
+use Rattle.linear.proofs.system.read_off.Lts as lts
+use Rattle.linear.proofs.system.wipe.Reads as wipe-reads
+
+abbrev Inv-loop : tie.InvT-loop
+Inv-loop q a m k pivots r u z₀ w t₀ z t = (t ≤ r) × (length z ≡ length z₀) × ReadOff (fieldOf q) (ent a w) m k (vec pivots) u t (vec z)
+
+abbrev μ-loop : tie.MeasureT-loop
+μ-loop q a m k pivots r u z₀ w t₀ z t = r - t
+
+add-w : tie.Need-add-w Inv-loop μ-loop
+add-w c = search needs
+
+wipe-requires : tie.Need-wipe-requires Inv-loop μ-loop
+wipe-requires c κs = search needs
+
+loop-holds : tie.Need-loop-holds Inv-loop μ-loop
+loop-holds c = (omega arith, refl, read-start _ (our-field (c .before .before .before .before .before .before .before .args .q)) _ _ _ _ _ _ (c .before .before .wipe .ensures))
+
+mul-p : tie.Need-mul-p Inv-loop μ-loop
+mul-p c = search needs
+
+shared-slice-read-p : tie.Need-shared-slice-read-p Inv-loop μ-loop
+shared-slice-read-p c = search needs
+
+mul-z : tie.Need-mul-z Inv-loop μ-loop
+mul-z c = let s = c .before .before .before .before .before .before .before .before .before .before in omega (arith, row-fits (s .args .m) (s .args .k + 1) (c .before .before .loop .t) (omega (arith, s .pre .1 .1 .rows)))
+
+add-z : tie.Need-add-z Inv-loop μ-loop
+add-z c = let s = c .before .before .before .before .before .before .before .before .before .before in omega (arith, row-fits (s .args .m) (s .args .k + 1) (c .before .before .loop .t) (omega (arith, s .pre .1 .1 .rows)))
+
+shared-slice-read-z : tie.Need-shared-slice-read-z Inv-loop μ-loop
+shared-slice-read-z c = let s = c .before .before .before .before .before .before .before .before .before .before .before in omega (arith, row-fits (s .args .m) (s .args .k + 1) (c .before .before .before .loop .t) (omega (arith, s .pre .1 .1 .rows)))
+
+slice-write-z : tie.Need-slice-write-z Inv-loop μ-loop
+slice-write-z c = let s = c .before .before .before .before .before .before .before .before .before .before .before in
+    omega (arith, s .pre .1 .1 .col (c .before .before .before .loop .t) (omega arith), c .before .before .before .loop .inv .1, c .before .before .before .before .before .before .wipe .kept .0)
+
+add-t : tie.Need-add-t Inv-loop μ-loop
+add-t c = search needs
+
+loop-less : tie.Need-loop-less Inv-loop μ-loop
+loop-less c = search needs
+
+loop-again : tie.Need-loop-again Inv-loop μ-loop
+loop-again c = let s = c .before .before .before .before .before .before .before .before .before .before .before in
+    let inv = c .before .before .before .loop .inv in (
+      omega arith,
+      simp length-set (inv .1),
+      reading-turn _ (our-field (s .args .q)) (s .args .a .now) (s .args .pivots .now) _ _ _ _ (s .pre .1 .0) (s .pre .1 .1) (c .before .before .before .loop .z) _
+          (omega (arith, inv .1, c .before .before .before .before .before .before .wipe .kept .0)) (omega arith) (inv .2),
+    )
+
+same-length : tie.Need-same-length Inv-loop μ-loop
+same-length c = search needs
+
+returns : tie.Need-returns Inv-loop μ-loop
+returns c = let e : c .before .loop .t ≡ c .before .before .before .before .before .before .before .before .before .args .r = omega arith in rw e at (c .before .loop .inv .2)
+
+pub read-off-spec : {M : Type 1} → statement M
+read-off-spec =
+    tie.close
+    (tie.spec
+    Inv-loop
+    μ-loop
+    add-w
+    wipe-requires
+    loop-holds
+    mul-p
+    shared-slice-read-p
+    mul-z
+    add-z
+    shared-slice-read-z
+    slice-write-z
+    add-t
+    loop-less
+    loop-again
+    same-length
+    returns)

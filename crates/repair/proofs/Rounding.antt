@@ -1,0 +1,193 @@
+-- The rounds, level by level: the code's invariant, with a start, a turn for each finding, and its ends. Assumes nothing.
+use mathlib.Core.Path.{_≡_, refl, sym, ap, ap₂, _∙_, subst}
+use mathlib.Core.Bool.{Bool, true, false, not}
+use mathlib.Core.List.{List, [], _∷_, _++_, map}
+use Prim.Native.Nat.{ℕ, zero, suc, pred, _+_, _*_, _-_, _<_, _≤_}
+use native.Mathlib.Nat.{suc-mul, zero-add, add-suc, add-comm}
+use native.Mathlib.Numerals.{add-one, sub-one}
+use native.Mathlib.Omega.{arith}
+use borrow.Author.Tests.{eq-eqb, ne-eqb, lt-ltb, le-ltb}
+use lib.Dec.{eqb, ltb}
+use lib.ListN.{length, getD, set, replicate, length-set}
+use lib.Seq.{getD-set-other}
+use Rattle.field.specs.Lists.{if_then_else_, upFrom}
+use Rattle.linear.specs.Lists.{only}
+use Rattle.repair.specs.Plan.{Plan, planOf}
+use Rattle.repair.specs.Refusal.{unasked, lentRefusal, benchRefusal}
+use Rattle.repair.specs.Steps.{fresh, lossy, Learned, blocked, failing, learned, levelFill, raise}
+use Rattle.repair.specs.Rounds.{Standing, Turn, on, end, clash, turns, mended, rowsLeft, endReport, bare}
+use Rattle.repair.specs.Tables.{padded}
+use Rattle.repair.specs.Learned.{benchOf, learningOf, sumsAfter}
+use Rattle.repair.specs.Walk.{Arrays, standingOf, more, Walked, Ended}
+use Rattle.repair.specs.declared.Bench.{Bench}
+use Rattle.repair.specs.declared.Report.{Report}
+use Rattle.repair.specs.declared.Place.the-variants.{Row, Across}
+use Rattle.repair.specs.declared.Answer.the-variants.{Restored, Stuck, Clash}
+use Rattle.repair.specs.declared.level.Learning.{Learning}
+use Rattle.repair.specs.declared.level.Learning.the-variants.{Blocked, Failing, Learned as AllLearned}
+use Rattle.repair.proofs.Shape.{shape}
+use Rattle.repair.proofs.Leaving.{lossyAt}
+use Rattle.repair.proofs.Fit.{BenchFit, fit-bench}
+use Rattle.repair.proofs.Sound.{Sound, sound-fresh, sound-raise}
+use Rattle.repair.proofs.Turns.{turn-top, turn-blocked, turn-failing, turn-learned}
+use Rattle.repair.proofs.Walking.{sound-of}
+
+-- ---- the report
+
+module _ (p t left : ℕ) (marks restored : List ℕ) (e : left ≡ length (only (λ m. m) (map (lossyAt marks) (upFrom 0 (planOf p .rows))))) where
+  pub report-restored : left ≡ 0
+      → record { answer = Restored; level = t; rows = restored; left = left } ≡ endReport (standingOf (benchOf p t [] marks []) 0 restored)
+  unfolding endReport rowsLeft lossy if_then_else_
+  report-restored z = rw (← e, eq-eqb left 0 z)
+
+  pub report-stuck : (left ≡ 0 → ⊥)
+      → record { answer = Stuck; level = t; rows = restored; left = left } ≡ endReport (standingOf (benchOf p t [] marks []) 0 restored)
+  unfolding endReport rowsLeft lossy if_then_else_
+  report-stuck ne = rw (← e, ne-eqb left 0 ne)
+
+-- ---- the invariant
+
+-- at level t, before its round: the turns of the rounds to come lead where all turns do, and no row was restored at level t or above
+pub record Rounding (p : ℕ) (stripe words symbols marks sums restored : List ℕ) (t : ℕ) : Type 0 where
+  pub low : 1 ≤ t
+  pub high : t ≤ length (planOf p .levels)
+  pub sound : Sound (benchOf p t symbols marks sums)
+  pub three : length restored ≡ 3
+  pub none-yet : (i : ℕ) → t ≤ suc i → getD restored i 0 ≡ 0
+  pub turned : mended p stripe words ≡ turns (suc (length (planOf p .levels) - t) * suc (planOf p .rows)) (standingOf (benchOf p t symbols marks sums) 0 restored)
+
+module _ (p : ℕ) (stripe words : List ℕ) where
+  pub rounding-starts : lentRefusal p stripe words ≡ 0 → (symbols marks : List ℕ) → symbols ≡ padded 256 stripe → marks ≡ padded 8 words
+      → Rounding p stripe words symbols marks (replicate 128 0) (replicate 3 0) 1
+  unfolding mended fresh padded
+  rounding-starts fit symbols marks es em =
+      let s = sound-fresh p stripe words fit in
+      record {
+        low = omega arith;
+        high = s .fit .level-le;
+        sound = rw (es, em) s;
+        three = refl;
+        none-yet = λ i h. zeros i;
+        turned = rw (es, em) (ap (λ n. turns (n * suc (planOf p .rows)) (standingOf (fresh p stripe words) 0 (replicate 3 0))) (all-levels (s .fit .level-le)));
+      }
+    where
+      zeros : (i : ℕ) → getD {A = ℕ} (replicate 3 0) i 0 ≡ 0
+      zeros zero = refl
+      zeros (suc zero) = refl
+      zeros (suc (suc zero)) = refl
+      zeros (suc (suc (suc i))) = refl
+
+      all-levels : 1 ≤ length (planOf p .levels) → length (planOf p .levels) ≡ suc (length (planOf p .levels) - 1)
+      all-levels h = omega arith
+
+  -- ---- a round's rows are walked
+
+  module _ (symbols marks sums restored : List ℕ) (t : ℕ) (R : Rounding p stripe words symbols marks sums restored t)
+      (symbols′ marks′ : List ℕ) (row filled : ℕ) (W : Walked (benchOf p t symbols marks sums) (benchOf p t symbols′ marks′ sums) row filled) where
+    -- the turns that are left behind the level step
+    abbrev rest : ℕ
+    rest = (length (planOf p .levels) - t) * suc (planOf p .rows)
+
+    walked : mended p stripe words ≡ (if ltb row (planOf p .rows) then clash (Row row t) else turns (suc rest) (standingOf (benchOf p t symbols′ marks′ sums) (planOf p .rows) (more t filled restored)))
+    walked =
+        R .turned
+        ∙ ap (λ n. turns n (standingOf (benchOf p t symbols marks sums) 0 restored))
+        (suc-mul (length (planOf p .levels) - t) (suc (planOf p .rows)) ∙ add-comm rest (suc (planOf p .rows)) ∙ turns-split)
+        ∙ W .turned (suc rest) restored (omega (arith, R .three, R .low, R .high, levels-few))
+      where
+        turns-split : suc (planOf p .rows) + rest ≡ planOf p .rows + suc rest
+        turns-split = omega arith
+
+        levels-few : length (planOf p .levels) ≤ 3
+        levels-few = shape p (R .sound .fit .plan-known) .levels-le
+
+    pub rounded-clash : row < planOf p .rows → (r : Report) → r ≡ bare (Clash (Row row t)) → Ended (mended p stripe words) r symbols′ marks′
+    unfolding if_then_else_
+    rounded-clash h r e =
+        subst (λ m. Ended m r symbols′ marks′)
+        (sym (walked ∙ ap (λ c. if c then clash (Row row t) else turns (suc rest) (standingOf (benchOf p t symbols′ marks′ sums) (planOf p .rows) (more t filled restored))) (lt-ltb row (planOf p .rows) h)))
+        e
+
+    module _ (h : planOf p .rows ≤ row) where
+      now-restored : List ℕ
+      now-restored = set restored (t - 1) filled
+
+      counted : more t filled restored ≡ set restored (t - 1) filled
+      unfolding more
+      counted =
+          let e : pred t ≡ t - 1 = sym (sub-one t) in
+          ap₂ (λ i n. set restored i (n + filled)) e (R .none-yet (pred t) (omega (arith, R .low))) ∙ ap (set restored (t - 1)) (zero-add filled)
+
+      onward : mended p stripe words ≡ turns (suc rest) (standingOf (benchOf p t symbols′ marks′ sums) (planOf p .rows) (set restored (t - 1) filled))
+      unfolding if_then_else_
+      onward =
+          walked
+          ∙ ap (λ c. if c then clash (Row row t) else turns (suc rest) (standingOf (benchOf p t symbols′ marks′ sums) (planOf p .rows) (more t filled restored))) (le-ltb row (planOf p .rows) h)
+          ∙ ap (λ l. turns (suc rest) (standingOf (benchOf p t symbols′ marks′ sums) (planOf p .rows) l)) counted
+
+      sound : Sound (benchOf p t symbols′ marks′ sums)
+      sound = sound-of (benchOf p t symbols′ marks′ sums) (W .fit) (W .sized)
+
+      abbrev Out : Report → Type 0
+      Out r = Ended (mended p stripe words) r symbols′ marks′
+
+      -- the report of the end, as the code makes it
+      out : mended p stripe words ≡ end (standingOf (benchOf p t symbols′ marks′ sums) (planOf p .rows) (set restored (t - 1) filled))
+          → (r : Report) → r ≡ endReport (standingOf (benchOf p t [] marks′ []) 0 (set restored (t - 1) filled)) → Out r
+      unfolding endReport rowsLeft
+      out e r q = subst (λ m. Ended m r symbols′ marks′) (sym e) (q, refl, refl)
+
+      pub rounded-top : t ≡ length (planOf p .levels) → (r : Report) → r ≡ endReport (standingOf (benchOf p t [] marks′ []) 0 (set restored (t - 1) filled)) → Out r
+      rounded-top e = out (onward ∙ turn-top (benchOf p t symbols′ marks′ sums) (sound .fit) e rest (set restored (t - 1) filled))
+
+      module _ (ne : t ≡ length (planOf p .levels) → ⊥) (a : Learning) (sums′ : List ℕ)
+          (ea : a ≡ learningOf (levelFill (benchOf p t symbols′ marks′ sums)))
+          (es : sums′ ≡ sumsAfter (benchOf p t symbols′ marks′ sums) (levelFill (benchOf p t symbols′ marks′ sums))) where
+        below : t < length (planOf p .levels)
+        below = omega (arith, R .high)
+
+        pub rounded-blocked : a ≡ Blocked → (r : Report) → r ≡ endReport (standingOf (benchOf p t [] marks′ []) 0 (set restored (t - 1) filled)) → Out r
+        unfolding learningOf
+        rounded-blocked k = go (levelFill (benchOf p t symbols′ marks′ sums)) refl (sym ea ∙ k)
+          where
+            go : (l : Learned) → levelFill (benchOf p t symbols′ marks′ sums) ≡ l → learningOf l ≡ Blocked
+                → (r : Report) → r ≡ endReport (standingOf (benchOf p t [] marks′ []) 0 (set restored (t - 1) filled)) → Out r
+            go blocked q h = out (onward ∙ turn-blocked (benchOf p t symbols′ marks′ sums) (sound .fit) below q rest (set restored (t - 1) filled))
+            go failing q h = let z : _≡_ {A = ℕ} 0 1 = cc in absurd (omega arith)
+            go (learned cs) q h = let z : _≡_ {A = ℕ} 0 1 = cc in absurd (omega arith)
+
+        pub rounded-failing : a ≡ Failing → (r : Report) → r ≡ bare (Clash (Across (t + 1))) → Out r
+        unfolding learningOf
+        rounded-failing k = go (levelFill (benchOf p t symbols′ marks′ sums)) refl (sym ea ∙ k)
+          where
+            go : (l : Learned) → levelFill (benchOf p t symbols′ marks′ sums) ≡ l → learningOf l ≡ Failing → (r : Report) → r ≡ bare (Clash (Across (t + 1))) → Out r
+            go blocked q h = let z : _≡_ {A = ℕ} 0 1 = cc in absurd (omega arith)
+            go failing q h = λ r w. subst (λ m. Ended m r symbols′ marks′)
+                (sym (onward ∙ turn-failing (benchOf p t symbols′ marks′ sums) (sound .fit) below q rest (set restored (t - 1) filled)))
+                (w ∙ ap (λ n. bare (Clash (Across n))) (add-one t))
+            go (learned cs) q h = let z : _≡_ {A = ℕ} 0 1 = cc in absurd (omega arith)
+
+        pub rounding-turns : a ≡ AllLearned → Rounding p stripe words symbols′ marks′ sums′ (set restored (t - 1) filled) (t + 1)
+        unfolding learningOf sumsAfter raise
+        rounding-turns k = go (levelFill (benchOf p t symbols′ marks′ sums)) refl (sym ea ∙ k)
+          where
+            go : (l : Learned) → levelFill (benchOf p t symbols′ marks′ sums) ≡ l → learningOf l ≡ AllLearned
+                → Rounding p stripe words symbols′ marks′ sums′ (set restored (t - 1) filled) (t + 1)
+            go blocked q h = let z : _≡_ {A = ℕ} 0 1 = cc in absurd (omega arith)
+            go failing q h = let z : _≡_ {A = ℕ} 0 1 = cc in absurd (omega arith)
+            go (learned cs) q h =
+                let e : raise (benchOf p t symbols′ marks′ sums) cs ≡ benchOf p (t + 1) symbols′ marks′ sums′ =
+                ap₂ (λ n s. benchOf p n symbols′ marks′ s) (sym (add-one t)) (sym (es ∙ ap (sumsAfter (benchOf p t symbols′ marks′ sums)) q)) in
+                record {
+                  low = omega arith;
+                  high = omega (arith, below);
+                  sound = subst Sound e (sound-raise (benchOf p t symbols′ marks′ sums) sound cs below q);
+                  three = length-set restored (t - 1) filled ∙ R .three;
+                  none-yet = λ i g. getD-set-other restored (t - 1) i filled 0 (omega (arith, R .low)) ∙ R .none-yet i (omega arith);
+                  turned = onward
+                      ∙ turn-learned (benchOf p t symbols′ marks′ sums) (sound .fit) below cs q rest (set restored (t - 1) filled)
+                      ∙ ap₂ (λ n b. turns (n * suc (planOf p .rows)) (standingOf b 0 (set restored (t - 1) filled))) levels-left e;
+                }
+              where
+                levels-left : length (planOf p .levels) - t ≡ suc (length (planOf p .levels) - (t + 1))
+                levels-left = omega (arith, below)
