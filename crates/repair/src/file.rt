@@ -1,9 +1,8 @@
 // The stripe file, read and written.
-use super::buffer;
-use super::marks;
-use super::plan;
-use super::refusal;
-use super::Outcome;
+use crate::buffer;
+use crate::marks;
+use crate::plan;
+use crate::refusal;
 ghost use mathlib.Core.Path.{_≡_};
 ghost use mathlib.Core.List.{flatMap};
 ghost use Prim.Native.Nat.{_+_, _*_, _/_, _%_, _^_, _≤_, _<_};
@@ -15,9 +14,7 @@ ghost use Rattle.linear.specs.Lists.{«same» as equal};
 ghost use Rattle.linear.specs.Marks.{bitsOf};
 ghost use Rattle.repair.specs.Plan.{planOf, known, marksOf};
 ghost use Rattle.repair.specs.Refusal.{firstFailed, unasked};
-ghost use Rattle.repair.specs.Codeword.{outcomeOf};
-ghost use Rattle.repair.specs.File.{bytes4, headerOf, fileLength, blanked, fileOf, writeRefusal, writeFile, planIn, wordAt, marksIn, symbolsIn, fileRefusal};
-ghost use Rattle.repair.specs.File.{readRefusal, readStripe, readMarks};
+ghost use Rattle.repair.specs.File.{bytes4, headerOf, fileLength, blanked, fileOf, writeRefusal, planIn, wordAt, marksIn, symbolsIn, fileRefusal};
 ghost use Rattle.repair.specs.Written.{contentTests};
 
 // ---- words of four bytes, low byte first
@@ -85,7 +82,7 @@ fn same(a: &[u8], b: &[u8]) -> bool
 }
 
 // The plan number of a file; 0 where it is empty.
-fn plan_in(file: &[u8]) -> usize
+pub fn plan_in(file: &[u8]) -> usize
     ensures { λ r. ⌜ r ≡ planIn (now (file .entry)) ⌝ }
 {
     if file.len() == 0 {
@@ -166,7 +163,7 @@ fn read_marks(file: &[u8], rows: usize, marks: &mut [u32])
 // ---- writing
 
 // What writing refuses; 0 where it does not.
-fn write_refusal(plan: usize, stripe: &[u8], marks: &[u32], file: &[u8]) -> usize
+pub fn write_refusal(plan: usize, stripe: &[u8], marks: &[u32], file: &[u8]) -> usize
     ensures { λ r. ⌜ r ≡ writeRefusal plan (now (stripe .entry)) (now (marks .entry)) (now (file .entry)) ⌝ }
 {
     if !plan::is_known(plan) {
@@ -179,7 +176,7 @@ fn write_refusal(plan: usize, stripe: &[u8], marks: &[u32], file: &[u8]) -> usiz
 }
 
 // Writes the whole file of a stripe and its marks that are not refused.
-fn put_file(plan: usize, stripe: &[u8], marks: &[u32], file: &mut [u8])
+pub fn put_file(plan: usize, stripe: &[u8], marks: &[u32], file: &mut [u8])
     requires { ⌜ writeRefusal plan (now stripe) (now marks) (now file) ≡ 0 ⌝ }
     ensures { λ _. ⌜ now (file .exit) ≡ fileOf plan (now (stripe .entry)) (now (marks .entry)) ⌝ }
 {
@@ -187,19 +184,6 @@ fn put_file(plan: usize, stripe: &[u8], marks: &[u32], file: &mut [u8])
     let at_marks = buffer::put(&header, file, 0);
     let at_symbols = put_marks(marks, file, at_marks);
     put_symbols(plan, stripe, marks, file, at_symbols);
-}
-
-// Writes a stripe and its marks as a file, 0 under marks. Where it is refused the file is unchanged.
-pub fn write_file(plan: usize, stripe: &[u8], marks: &[u32], file: &mut [u8]) -> Outcome
-    ensures { λ r. ⌜ r ≡ outcomeOf (writeRefusal plan (now (stripe .entry)) (now (marks .entry)) (now (file .entry))) ⌝ }
-    ensures { λ r. ⌜ now (file .exit) ≡ writeFile plan (now (stripe .entry)) (now (marks .entry)) (now (file .entry)) ⌝ }
-{
-    let refusal = write_refusal(plan, stripe, marks, file);
-    if refusal != 0 {
-        return Outcome::Refused(refusal);
-    }
-    put_file(plan, stripe, marks, file);
-    Outcome::Done
 }
 
 // ---- reading
@@ -287,20 +271,4 @@ pub fn load(file: &[u8], stripe: &mut [u8], marks: &mut [u32])
     read_marks(file, rows, marks);
     let start = 8 + 4 * rows;
     buffer::put(&file[start..], stripe, 0);
-}
-
-// Reads a file into a stripe and its marks. Where it is refused both are unchanged.
-pub fn read_file(file: &[u8], stripe: &mut [u8], marks: &mut [u32]) -> Outcome
-    ensures { λ r. ⌜ r ≡ outcomeOf (readRefusal (now (file .entry)) (now (stripe .entry)) (now (marks .entry))) ⌝ }
-    ensures { λ r. ⌜ now (stripe .exit) ≡ readStripe (now (file .entry)) (now (stripe .entry)) (now (marks .entry)) ⌝ }
-    ensures { λ r. ⌜ now (marks .exit) ≡ readMarks (now (file .entry)) (now (stripe .entry)) (now (marks .entry)) ⌝ }
-{
-    let plan = plan_in(file);
-    let lengths = refusal::lengths_fit(plan, stripe, marks);
-    let refusal = file_refusal(file, lengths);
-    if refusal != 0 {
-        return Outcome::Refused(refusal);
-    }
-    load(file, stripe, marks);
-    Outcome::Done
 }

@@ -1,20 +1,21 @@
 // The repair library: what a bench is, and what each call answers.
+mod buffer;
 mod codeword;
 mod copies;
+mod file;
 mod level;
+mod lines;
+mod marks;
 mod mend;
 pub mod plan;
 mod refusal;
-mod buffer;
-mod marks;
-mod file;
-mod text;
 mod steps;
 mod sums;
 
 ghost use mathlib.Core.Path.{_≡_};
 ghost use Rattle.repair.specs.Steps.{started, levelStep};
-ghost use Rattle.repair.specs.Codeword.{tested};
+ghost use Rattle.repair.specs.Codeword.{tested, outcomeOf};
+ghost use Rattle.repair.specs.File.{writeRefusal, writeFile, readRefusal, readStripe, readMarks};
 
 // A plan's number, the level t that was reached, symbols and mark words row after row, and each row's learned sums, 16 places a row.
 pub struct Bench {
@@ -165,4 +166,33 @@ pub fn is_codeword(plan: usize, stripe: &[u8]) -> Verdict
         return Verdict::No;
     }
     Verdict::Yes
+}
+
+// Writes a stripe and its marks as a file, 0 under marks. Where it is refused the file is unchanged.
+pub fn write_file(plan: usize, stripe: &[u8], marks: &[u32], file: &mut [u8]) -> Outcome
+    ensures { λ r. ⌜ r ≡ outcomeOf (writeRefusal plan (now (stripe .entry)) (now (marks .entry)) (now (file .entry))) ⌝ }
+    ensures { λ r. ⌜ now (file .exit) ≡ writeFile plan (now (stripe .entry)) (now (marks .entry)) (now (file .entry)) ⌝ }
+{
+    let number = file::write_refusal(plan, stripe, marks, file);
+    if number != 0 {
+        return Outcome::Refused(number);
+    }
+    file::put_file(plan, stripe, marks, file);
+    Outcome::Done
+}
+
+// Reads a file into a stripe and its marks. Where it is refused both are unchanged.
+pub fn read_file(file: &[u8], stripe: &mut [u8], marks: &mut [u32]) -> Outcome
+    ensures { λ r. ⌜ r ≡ outcomeOf (readRefusal (now (file .entry)) (now (stripe .entry)) (now (marks .entry))) ⌝ }
+    ensures { λ r. ⌜ now (stripe .exit) ≡ readStripe (now (file .entry)) (now (stripe .entry)) (now (marks .entry)) ⌝ }
+    ensures { λ r. ⌜ now (marks .exit) ≡ readMarks (now (file .entry)) (now (stripe .entry)) (now (marks .entry)) ⌝ }
+{
+    let plan = file::plan_in(file);
+    let lengths = refusal::lengths_fit(plan, stripe, marks);
+    let number = file::file_refusal(file, lengths);
+    if number != 0 {
+        return Outcome::Refused(number);
+    }
+    file::load(file, stripe, marks);
+    Outcome::Done
 }
