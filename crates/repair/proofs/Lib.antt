@@ -44,3 +44,4 @@ pub mod Stripes
 pub mod Files
 -- the text
 pub mod Texts
+pub mod Printing
