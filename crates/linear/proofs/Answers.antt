@@ -1,5 +1,5 @@
 -- The gathered system answers `fill`: its solutions are the fillings, and its dependencies those of the marked columns. Assumes nothing.
-use Prim.Native.Nat.{ℕ, _^_, _≤_, _<_}
+use Prim.Native.Nat.{ℕ, _^_, _<_}
 use mathlib.Core.Path.{_≡_, refl, sym, ap, ap₂, _∙_, subst}
 use mathlib.Core.Bool.{Bool, true, false}
 use mathlib.Core.Logic.{_≢_}
@@ -10,7 +10,7 @@ use native.Mathlib.Omega.{arith}
 use lib.Dec.{T, not-T, T-not}
 use lib.ListN.{length}
 use lib.Seq.{ext-getD}
-use Rattle.field.specs.Field.{Field, _⊕_, size, mul}
+use Rattle.field.specs.Field.{Field, _⊕_, mul}
 use Rattle.field.proofs.Sum.{⊕-comm, ⊕-undo, zero-⊕}
 use Rattle.field.specs.Ours.{fieldOf}
 use Rattle.field.proofs.Laws.{IsField, mul-zero}
@@ -178,31 +178,30 @@ pub record Outcomes (q : ℕ) (checks target v : List ℕ) (marks : ℕ) (depend
   pub none : dependent ≡ false → consistent ≡ false → Answer q checks target v marks None v
   pub one : dependent ≡ false → consistent ≡ true → Answer q checks target v marks One filled
 
-pub outcomes : (q : ℕ) (checks target v : List ℕ) (marks k : ℕ) (places shown : List ℕ) (M : Matrix) (dependent consistent : Bool) (x z : ℕ → ℕ)
-    → Places marks k (vec places) → marks < 2 ^ length v → ((c : ℕ) → c < length v → vec shown c ≡ hidden marks v c)
-    → Gathered (fieldOf q) checks target (vec shown) (length v) k (vec places) M (length target)
+pub outcomes : (q : ℕ) (checks target v : List ℕ) (marks k : ℕ) (places : List ℕ) (M : Matrix) (dependent consistent : Bool) (x z : ℕ → ℕ)
+    → Places marks k (vec places) → marks < 2 ^ length v
+    → Gathered (fieldOf q) checks target (hidden marks v) (length v) k (vec places) M (length target)
     → Solved (fieldOf q) M (length target) k dependent consistent x z
     → Outcomes q checks target v marks dependent consistent (scattered v (vec places) x k)
 unfolding fillOf answerOf vectorOf
-outcomes q checks target v marks k places shown M dependent consistent x z P fit H G S = record {
+outcomes q checks target v marks k places M dependent consistent x z P fit G S = record {
   tied = λ d.
-      let e = answer-tied _ (our-field q) _ _ checks target v marks k _ (vec shown) M P fit G hole seen refl refl z (rw d at (S .dependence)) in
-      (rw e, rw e);
+      let e = answer-tied _ (our-field q) _ _ checks target v marks k _ _ M P fit G hole seen refl refl z (rw d at (S .dependence)) in (rw e, rw e);
   none = λ d c.
-      let e = answer-none _ (our-field q) _ _ checks target v marks k _ (vec shown) M P fit G hole seen refl refl x z
-      (rw d at (S .dependence)) (rw c at (S .consistency)) in
+      let e = answer-none _ (our-field q) _ _ checks target v marks k _ _ M P fit G hole seen refl refl x z
+          (rw d at (S .dependence)) (rw c at (S .consistency)) in
       (rw e, rw e);
   one = λ d c.
-      let e = answer-one _ (our-field q) _ _ checks target v marks k _ (vec shown) M P fit G hole seen refl refl x z
-      (rw d at (S .dependence)) (rw c at (S .consistency)) in
+      let e = answer-one _ (our-field q) _ _ checks target v marks k _ _ M P fit G hole seen refl refl x z
+          (rw d at (S .dependence)) (rw c at (S .consistency)) in
       (rw e, rw e);
 }
   where
-    hole : (t : ℕ) → t < k → vec shown (vec places t) ≡ 0
-    hole t l = H _ (bit-bound (length v) marks _ fit (P .marked t l)) ∙ hidden-marked marks v _ (P .marked t l)
+    hole : (t : ℕ) → t < k → hidden marks v (vec places t) ≡ 0
+    hole t l = hidden-marked marks v _ (P .marked t l)
 
-    seen : (c : ℕ) → c < length v → bitAt marks c ≢ 1 → vec shown c ≡ vec v c
-    seen c l ne = H c l ∙ hidden-unmarked marks v c ne
+    seen : (c : ℕ) → c < length v → bitAt marks c ≢ 1 → hidden marks v c ≡ vec v c
+    seen c l = hidden-unmarked marks v c
 
 module _ (q : ℕ) (checks target v : List ℕ) (marks : ℕ) (free : marks ≡ 0) where
   no-bit : (c : ℕ) → bitAt marks c ≢ 1
@@ -234,8 +233,8 @@ module _ (q : ℕ) (checks target v : List ℕ) (marks : ℕ) (free : marks ≡ 
   unfolding fillOf answerOf vectorOf rows-of bits-of
   unmarked-none e =
       let f = fill-none (fieldOf q) rows-of target bits-of v no-columns (λ w g.
-      absurd (subst T (sym e) (subst (λ l. T (same (sumsOf (fieldOf q) rows-of l) target)) (only-self w (g .agrees))
-      (subst (λ l. T (same (sumsOf (fieldOf q) rows-of w) l)) (g .meets) (same-refl _))))) in
+          absurd (subst T (sym e) (subst (λ l. T (same (sumsOf (fieldOf q) rows-of l) target)) (only-self w (g .agrees))
+          (subst (λ l. T (same (sumsOf (fieldOf q) rows-of w) l)) (g .meets) (same-refl _))))) in
       (rw f, rw f)
     where
       only-self : (w : List ℕ) → Agrees (fieldOf q) bits-of v w → w ≡ v

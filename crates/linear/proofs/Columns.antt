@@ -1,8 +1,7 @@
 -- The steps around the solver: hiding what is marked, gathering the marked columns, writing them back. Assumes nothing.
-use Prim.Native.Nat.{ℕ, zero, suc, _+_, _*_, _/_, _%_, _^_, _≤_, _<_}
-use mathlib.Core.Path.{_≡_, refl, sym, ap, ap₂, _∙_}
-use mathlib.Core.Bool.{Bool, true, false}
-use mathlib.Core.Logic.{_≢_, _⊎_, inl, inr, ⊎-elim}
+use Prim.Native.Nat.{ℕ, zero, suc, _+_, _*_, _/_, _^_, _≤_, _<_}
+use mathlib.Core.Path.{_≡_, refl, sym, ap, _∙_}
+use mathlib.Core.Logic.{_≢_, inl, inr, ⊎-elim}
 use mathlib.Core.List.{List}
 use native.Mathlib.Nat.{div-one}
 use native.Mathlib.Numerals.{add-one}
@@ -11,16 +10,14 @@ use native.Mathlib.Omega.{arith}
 use borrow.Author.Count.{below-more}
 use borrow.Author.Tests.{eq-eqb, ne-eqb}
 use lib.Pow.{shr-shr}
-use lib.ListN.{length, getD, set, length-set}
+use lib.ListN.{length, set, length-set}
 use lib.Seq.{getD-set-same, getD-set-other}
 use Rattle.field.specs.Lists.{if_then_else_}
 use Rattle.field.specs.Field.{Field, _⊕_, size, mul}
-use Rattle.field.proofs.Laws.{IsField}
 use Rattle.linear.specs.System.{vec, Matrix, ent, inner}
 use Rattle.linear.specs.Marks.{bitAt, hidden, Copied, Gathered, scattered}
 use Rattle.linear.proofs.Rows.{row-fits}
-use Rattle.linear.proofs.Inner.{inner-lt}
-use Rattle.linear.proofs.Turns.{set-elements}
+use Rattle.linear.proofs.Inner.{inner-same}
 
 -- ---- `hide`, at column c
 
@@ -81,6 +78,14 @@ gathered-turn F checks target b n k at a₀ a i s G C e fit = record {
     before : (x : ℕ) → x < i → (t : ℕ) → t < k + 1 → ent (set a (i * (k + 1) + k) (vec target i ⊕ s)) (k + 1) x t ≡ ent a₀ (k + 1) x t
     before x l t lt =
         let f = row-fits i (k + 1) x l in getD-set-other a _ _ _ 0 (omega arith) ∙ C .rest (x * (k + 1) + t) (inl (omega arith))
+
+-- vectors that agree leave the same of the target
+pub gathered-same : (F : Field) (checks target : List ℕ) (b d : ℕ → ℕ) (n k : ℕ) (at : ℕ → ℕ) (M : Matrix) (m : ℕ) → ((c : ℕ) → c < n → b c ≡ d c)
+    → Gathered F checks target b n k at M m → Gathered F checks target d n k at M m
+gathered-same F checks target b d n k at M m h G = record {
+  coefficient = G .coefficient;
+  remainder = λ i l. G .remainder i l ∙ ap (λ x. vec target i ⊕ x) (inner-same F _ _ _ _ n (λ c lc. ap (mul F (ent checks n i c)) (h c lc)));
+}
 
 -- ---- `scatter`, at place t
 

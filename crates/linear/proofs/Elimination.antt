@@ -9,7 +9,7 @@ use borrow.Author.Count.{below-more}
 use Rattle.field.specs.Field.{Field, _⊕_, size, mul, inverse}
 use Rattle.field.proofs.Sum.{⊕-self, ⊕-zero, zero-⊕, ⊕-undo, ⊕-cancel}
 use Rattle.field.proofs.Laws.{IsField, size-pos, zero-mul, mul-zero, mul-one, mul-⊕, mul-left-comm}
-use Rattle.linear.specs.System.{Matrix, inner, Elements, Ker, Solves, Consistency, Dependence, Same, Found, Added, Cleared, Pivoted, Form, Free, ReadOff}
+use Rattle.linear.specs.System.{Matrix, inner, Elements, Ker, Solves, Consistency, Dependence, Same, Added, Cleared, Pivoted, Form, Free, ReadOff}
 use Rattle.linear.proofs.Inner.{put, put-same, put-other, inner-more, inner-same, inner-zero, inner-lt, inner-row, inner-put, inner-one}
 
 -- ---- the form of the matrix, column by column

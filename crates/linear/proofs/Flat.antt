@@ -10,7 +10,6 @@ use lib.Dec.{T}
 use lib.ListN.{length, getD, take, drop}
 use lib.Seq.{getD-take, getD-drop, ext-getD}
 use Rattle.field.specs.Field.{Field, _⊕_, mul, dot}
-use Rattle.field.proofs.Laws as laws
 use Rattle.field.proofs.Laws.{IsField}
 use Rattle.linear.specs.Lists.{same}
 use Rattle.linear.specs.Fill.{sumsOf}
@@ -18,6 +17,7 @@ use Rattle.linear.specs.System.{vec, ent, inner}
 use Rattle.linear.specs.Marks.{rowsOf}
 use Rattle.linear.proofs.Tests.{same→eq, same-refl}
 use Rattle.linear.proofs.Inner.{inner-first, inner-same, inner-zero}
+use Rattle.field.proofs.Laws as laws
 
 -- the test of two lists, from what is known of them
 pub eq-same : (a b : List ℕ) → a ≡ b → true ≡ same a b

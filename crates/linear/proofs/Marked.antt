@@ -8,16 +8,17 @@ use native.Mathlib.Nat.{suc-inj, le-of-suc-le-suc}
 use native.Mathlib.Decide.{ℕ-discrete}
 use native.Mathlib.Omega.{arith}
 use borrow.Author.Tests.{eq-eqb, ne-eqb}
-use lib.Dec.{T, eqb, eqb→eq, eqb-refl}
+use lib.Dec.{T, eqb, eqb→eq, ltb, ltb→lt}
 use lib.ListN.{length, getD, length-map}
 use Rattle.field.specs.Lists.{upFrom}
 use Rattle.field.specs.Field.{Field, size}
+use Rattle.field.proofs.Ring.{size-pos}
 use Rattle.field.proofs.Test.{both-left, both-right, both}
 use Rattle.field.proofs.Lists.{length-up, getD-map-below}
 use Rattle.linear.specs.Lists.{all, zeros, vanish, first, rest}
-use Rattle.linear.specs.System.{vec}
+use Rattle.linear.specs.System.{vec, Elements}
 use Rattle.linear.specs.Marks.{bitAt, bitsOf}
-use Rattle.linear.proofs.Choices.{Allowed, Agrees, agrees-length}
+use Rattle.linear.proofs.Choices.{Allowed, Agrees, areSymbols, agrees-length}
 
 -- ---- lists
 
@@ -53,6 +54,13 @@ unfolding vanish all
 vanish-of [] h = tt
 vanish-of (x ∷ xs) h =
     both (eqb x 0) (vanish xs) (subst (λ y. T (eqb y 0)) (sym (h 0 (omega arith))) tt) (vanish-of xs (λ c l. h (suc c) (omega arith)))
+
+-- a list of symbols, which a computed test shows
+pub symbols-at : (F : Field) (l : List ℕ) → T (areSymbols F l) → Elements F (vec l)
+unfolding all
+symbols-at F [] t c = size-pos F
+symbols-at F (x ∷ xs) t zero = ltb→lt x (size F) (both-left (ltb x (size F)) (areSymbols F xs) t)
+symbols-at F (x ∷ xs) t (suc c) = symbols-at F xs (both-right (ltb x (size F)) (areSymbols F xs) t) c
 
 module _ (F : Field) where
   agrees-at : (ms : List Bool) (v w : List ℕ) → Agrees F ms v w → (c : ℕ) → c < length ms → Allowed F (getD ms c false) (vec v c) (vec w c)

@@ -11,7 +11,7 @@ use Rattle.field.specs.Lists.{if_then_else_, upFrom}
 use Rattle.field.specs.Field.{Field, _⊕_}
 use Rattle.field.specs.Ours.{fieldOf}
 use Rattle.linear.specs.Fill.{Fill, tied, none, one, fill}
-use Rattle.linear.specs.System.{vec, Matrix, ent, inner, Elements}
+use Rattle.linear.specs.System.{vec, Matrix, ent, inner}
 use Rattle.linear.specs.declared.Outcome.{Outcome}
 use Rattle.linear.specs.declared.Outcome.the-variants.{Tied, None, One}
 
@@ -53,6 +53,10 @@ vectorOf none v = v
 vectorOf (one w) v = w
 
 -- ---- the steps
+
+-- the room for a system of the most checks in the most columns
+abbrev pub room : ℕ
+room = mostChecks * (mostColumns + 1)
 
 -- `at` lists the k marked columns, each once
 pub record Places (marks k : ℕ) (at : ℕ → ℕ) : Type 0 where

@@ -9,13 +9,11 @@ ghost use Rattle.field.specs.Ours.{fieldOf, products};
 ghost use Rattle.linear.specs.Lists.{same};
 ghost use Rattle.linear.specs.Fill.{sumsOf};
 ghost use Rattle.linear.specs.System.{vec, ent, inner, Elements};
-ghost use Rattle.linear.specs.Marks.{mostChecks, mostColumns, rowsOf, fillOf, answerOf, vectorOf, Places, hidden, Copied, Gathered, scattered};
+ghost use Rattle.linear.specs.Marks.{mostChecks, mostColumns, room, rowsOf, fillOf, answerOf, vectorOf, Places, hidden, Copied, Gathered, scattered};
 
 // How many checks and columns `fill` takes at most, and the room that its system takes.
 pub const CHECKS: usize = 16;
-
 pub const COLUMNS: usize = 32;
-
 const ROOM: usize = 528;
 
 // The marked columns are dependent; they are not, and nothing fills; or the one vector that does is in place.
@@ -155,15 +153,36 @@ fn scatter(v: &mut [u8], places: &[usize], k: usize, x: &[u8])
     }
 }
 
-// Fills the marked places by the system of the marked columns.
-fn fill_marked(
+// Gathers the system of the marked columns, lists these, and gives how many there are.
+fn gather_marked(
     q: usize,
     table: &[u8; 256],
     checks: &[u8],
     target: &[u8],
-    v: &mut [u8],
+    v: &[u8],
     marks: u32,
-) -> Outcome
+    places: &mut [usize],
+    a: &mut [u8],
+) -> usize
+    requires { ⌜ now table ≡ products ⌝ }
+    requires { ⌜ (length (now target) ≤ mostChecks) × (length (now v) ≤ mostColumns) × (marks < 2 ^ length (now v)) ⌝ }
+    requires { ⌜ length (now checks) ≡ length (now target) * length (now v) ⌝ }
+    requires { ⌜ (length (now places) ≡ mostColumns) × (length (now a) ≡ room) ⌝ }
+    requires { ⌜ Elements (fieldOf q) (vec (now checks)) × Elements (fieldOf q) (vec (now target)) × Elements (fieldOf q) (vec (now a)) ⌝ }
+    ensures { λ k. ⌜ (k ≤ length (now (v .entry))) × Places marks k (vec (now (places .exit))) ⌝ }
+    ensures { λ k. ⌜ Gathered (fieldOf q) (now (checks .entry)) (now (target .entry)) (hidden marks (now (v .entry))) (length (now (v .entry))) k (vec (now (places .exit))) (ent (now (a .exit)) (k + 1)) (length (now (target .entry))) ⌝ }
+    ensures { λ _. ⌜ Elements (fieldOf q) (vec (now (a .exit))) ⌝ }
+{
+    let n = v.len();
+    let mut shown: [u8; COLUMNS] = [0; COLUMNS];
+    let k = list_places(marks, n, places);
+    hide(marks, v, &mut shown[..]);
+    gather(q, table, checks, target, &shown[..], n, &places[..], k, a);
+    k
+}
+
+// Fills the marked places by the system of the marked columns.
+fn fill_marked(q: usize, table: &[u8; 256], checks: &[u8], target: &[u8], v: &mut [u8], marks: u32) -> Outcome
     requires { ⌜ now table ≡ products ⌝ }
     requires { ⌜ (length (now target) ≤ mostChecks) × (length (now v) ≤ mostColumns) × (marks < 2 ^ length (now v)) ⌝ }
     requires { ⌜ length (now checks) ≡ length (now target) * length (now v) ⌝ }
@@ -171,36 +190,13 @@ fn fill_marked(
     ensures { λ r. ⌜ r ≡ answerOf (fillOf q (now (checks .entry)) (now (target .entry)) (now (v .entry)) marks) ⌝ }
     ensures { λ _. ⌜ now (v .exit) ≡ vectorOf (fillOf q (now (checks .entry)) (now (target .entry)) (now (v .entry)) marks) (now (v .entry)) ⌝ }
 {
-    let n = v.len();
     let mut places: [usize; COLUMNS] = [0; COLUMNS];
-    let mut shown: [u8; COLUMNS] = [0; COLUMNS];
-    let mut system: [u8; ROOM] = [0; ROOM];
+    let mut a: [u8; ROOM] = [0; ROOM];
+    let k = gather_marked(q, table, checks, target, &v[..], marks, &mut places[..], &mut a[..]);
     let mut pivots: [usize; COLUMNS] = [0; COLUMNS];
     let mut solution: [u8; COLUMNS] = [0; COLUMNS];
     let mut dependency: [u8; COLUMNS] = [0; COLUMNS];
-    let k = list_places(marks, n, &mut places[..]);
-    hide(marks, &v[..], &mut shown[..]);
-    gather(
-        q,
-        table,
-        checks,
-        target,
-        &shown[..],
-        n,
-        &places[..],
-        k,
-        &mut system[..],
-    );
-    let s = system::solve(
-        q,
-        table,
-        &mut system[..],
-        target.len(),
-        k,
-        &mut pivots[..],
-        &mut solution[..],
-        &mut dependency[..],
-    );
+    let s = system::solve(q, table, &mut a[..], target.len(), k, &mut pivots[..], &mut solution[..], &mut dependency[..]);
     if s.dependent {
         return Outcome::Tied;
     }
@@ -214,14 +210,7 @@ fn fill_marked(
 // Fills the marked places of v, in field `q`, so that its sums are the target: `checks` has a row of as many coefficients as v
 // has symbols for each sum, and bit c of `marks` marks column c. Writes v only where the answer is `One`, and never reads what
 // stands under a mark. Where nothing is marked, the sums are compared.
-pub fn fill(
-    q: usize,
-    table: &[u8; 256],
-    checks: &[u8],
-    target: &[u8],
-    v: &mut [u8],
-    marks: u32,
-) -> Outcome
+pub fn fill(q: usize, table: &[u8; 256], checks: &[u8], target: &[u8], v: &mut [u8], marks: u32) -> Outcome
     requires { ⌜ now table ≡ products ⌝ }
     requires { ⌜ (length (now target) ≤ mostChecks) × (length (now v) ≤ mostColumns) × (marks < 2 ^ length (now v)) ⌝ }
     requires { ⌜ length (now checks) ≡ length (now target) * length (now v) ⌝ }

@@ -69,16 +69,7 @@ fn clear_column(q: usize, table: &[u8; 256], a: &mut [u8], m: usize, w: usize, p
 
 // Makes column c the unit vector of row r, by row i, whose entry there is not 0. i is r or a row below it; the rows from r on are
 // 0 before column c.
-fn pivot(
-    q: usize,
-    table: &[u8; 256],
-    a: &mut [u8],
-    m: usize,
-    w: usize,
-    r: usize,
-    c: usize,
-    i: usize,
-)
+fn pivot(q: usize, table: &[u8; 256], a: &mut [u8], m: usize, w: usize, r: usize, c: usize, i: usize)
     requires { ⌜ now table ≡ products ⌝ }
     requires { ⌜ (m * w ≤ length (now a)) × (r ≤ i) × (i < m) × (c < w) ⌝ }
     requires { ⌜ Elements (fieldOf q) (vec (now a)) ⌝ }
@@ -101,14 +92,7 @@ struct Reduced {
 }
 
 // Makes unit vectors of the first k columns, as far as they are independent. pivots[t] becomes the column whose 1 is in row t.
-fn reduce(
-    q: usize,
-    table: &[u8; 256],
-    a: &mut [u8],
-    m: usize,
-    k: usize,
-    pivots: &mut [usize],
-) -> Reduced
+fn reduce(q: usize, table: &[u8; 256], a: &mut [u8], m: usize, k: usize, pivots: &mut [usize]) -> Reduced
     requires { ⌜ now table ≡ products ⌝ }
     requires { ⌜ (m * (k + 1) ≤ length (now a)) × (k ≤ length (now pivots)) ⌝ }
     requires { ⌜ Elements (fieldOf q) (vec (now a)) ⌝ }
@@ -132,10 +116,7 @@ fn reduce(
         }
         c += 1;
     }
-    Reduced {
-        rank: r,
-        free: free,
-    }
+    Reduced { rank: r, free: free }
 }
 
 // Writes 0 everywhere.
@@ -150,16 +131,7 @@ fn wipe(z: &mut [u8])
 }
 
 // Writes the first r entries of column u to z, each at its row's pivot column, and 0 elsewhere.
-fn read_off(
-    q: usize,
-    a: &[u8],
-    m: usize,
-    k: usize,
-    pivots: &[usize],
-    r: usize,
-    u: usize,
-    z: &mut [u8],
-)
+fn read_off(q: usize, a: &[u8], m: usize, k: usize, pivots: &[usize], r: usize, u: usize, z: &mut [u8])
     requires { ⌜ (m * (k + 1) ≤ length (now a)) × (r ≤ length (now pivots)) × (k ≤ length (now z)) × (u ≤ k) ⌝ }
     requires { ⌜ Elements (fieldOf q) (vec (now a)) ⌝ }
     requires { ⌜ Form (ent (now a) (k + 1)) m (vec (now pivots)) r k ⌝ }
@@ -176,15 +148,7 @@ fn read_off(
 }
 
 // Whether a reduced system has a solution; writes one to x where it has.
-fn find_solution(
-    q: usize,
-    a: &[u8],
-    m: usize,
-    k: usize,
-    pivots: &[usize],
-    r: usize,
-    x: &mut [u8],
-) -> bool
+fn find_solution(q: usize, a: &[u8], m: usize, k: usize, pivots: &[usize], r: usize, x: &mut [u8]) -> bool
     requires { ⌜ (m * (k + 1) ≤ length (now a)) × (r ≤ length (now pivots)) × (k ≤ length (now x)) ⌝ }
     requires { ⌜ Elements (fieldOf q) (vec (now a)) ⌝ }
     requires { ⌜ Form (ent (now a) (k + 1)) m (vec (now pivots)) r k ⌝ }
@@ -198,16 +162,7 @@ fn find_solution(
 }
 
 // Whether the columns of a reduced system are dependent; writes a dependency to z where they are.
-fn find_dependency(
-    q: usize,
-    a: &[u8],
-    m: usize,
-    k: usize,
-    pivots: &[usize],
-    r: usize,
-    free: usize,
-    z: &mut [u8],
-) -> bool
+fn find_dependency(q: usize, a: &[u8], m: usize, k: usize, pivots: &[usize], r: usize, free: usize, z: &mut [u8]) -> bool
     requires { ⌜ (m * (k + 1) ≤ length (now a)) × (r ≤ length (now pivots)) × (k ≤ length (now z)) ⌝ }
     requires { ⌜ Elements (fieldOf q) (vec (now a)) ⌝ }
     requires { ⌜ Form (ent (now a) (k + 1)) m (vec (now pivots)) r k ⌝ }

@@ -1,6 +1,10 @@
 -- Which answer an arm of a match stands for. Assumes nothing.
 use mathlib.Core.Path.{_≡_, refl}
+use mathlib.Core.Bool.{true, false}
+use mathlib.Core.Logic.{inl, inr}
+use mathlib.Core.List.{[], _∷_}
 use native.Mathlib.Omega.{arith}
+use types.Run.{OneOf}
 use denote.Enum.Declared.{tagOf}
 use Rattle.linear.specs.declared.Outcome.{Outcome}
 use Rattle.linear.specs.declared.Outcome.the-variants.{Tied, None, One}
@@ -8,6 +12,10 @@ use Rattle.linear.proofs.Outcome.{the-type}
 use Rattle.repair.specs.declared.level.Learning.{Learning}
 use Rattle.repair.specs.declared.level.Learning.the-variants.{Blocked, Failing, Learned}
 use Rattle.repair.proofs.level.Learning.{the-type as learning}
+use Rattle.repair.specs.Walk.{clashes}
+use Rattle.repair.specs.declared.Answer.{Answer}
+use Rattle.repair.specs.declared.Answer.the-variants.{Restored, Stuck, Clash, Refused}
+use Rattle.repair.proofs.Answer.{the-type as answer}
 
 pub arm-tied : (a : Outcome) → tagOf the-type a ≡ 0 → a ≡ Tied
 arm-tied Tied e = refl
@@ -38,3 +46,22 @@ pub arm-learned : (a : Learning) → tagOf learning a ≡ 2 → a ≡ Learned
 arm-learned Blocked e = absurd (omega arith)
 arm-learned Failing e = absurd (omega arith)
 arm-learned Learned e = refl
+
+pub arm-clash : (a : Answer) → tagOf answer a ≡ 2 → true ≡ clashes a
+unfolding clashes
+arm-clash Restored e = absurd (omega arith)
+arm-clash Stuck e = absurd (omega arith)
+arm-clash (Clash place) e = refl
+arm-clash (Refused n) e = absurd (omega arith)
+
+pub arm-other : (a : Answer) → OneOf (0 ∷ 1 ∷ 3 ∷ []) (tagOf answer a) → false ≡ clashes a
+unfolding clashes
+arm-other Restored e = refl
+arm-other Stuck e = refl
+arm-other (Clash place) e = absurd (none e)
+  where
+    none : OneOf (0 ∷ 1 ∷ 3 ∷ []) 2 → ⊥
+    none (inl e) = omega arith
+    none (inr (inl e)) = omega arith
+    none (inr (inr e)) = omega arith
+arm-other (Refused n) e = refl

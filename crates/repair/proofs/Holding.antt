@@ -3,7 +3,6 @@ use mathlib.Core.Path.{_≡_, refl, sym, ap, ap₂, _∙_}
 use mathlib.Core.Bool.{Bool, true, false, _&&_}
 use mathlib.Core.List.{List, [], _∷_, map, map-map, flatMap}
 use Prim.Native.Nat.{ℕ, suc, _+_, _*_, _-_, _≤_, _<_}
-use native.Mathlib.Nat.{le-trans}
 use native.Mathlib.Omega.{arith}
 use borrow.Author.Tests.{eqb-true, eq-eqb, ne-eqb}
 use lib.Dec.{eqb}
@@ -39,7 +38,8 @@ module _ (F : Field) (checks : List ℕ) (m : ℕ) (v : List ℕ) where
   vanish-walk : vanish (sumsOf F (rowsOf m (length v) checks) v) ≡ all (gives0 F checks v) (upFrom 0 m)
   unfolding gives0 vanish sumsOf
   vanish-walk =
-      ap (λ cs. vanish (sumsOf F cs v)) (rows-of m (length v) checks) ∙ ap (all (λ x. eqb x 0)) (map-map _ _ (upFrom 0 m)) ∙ all-map (λ x. eqb x 0) _ (upFrom 0 m)
+      ap (λ cs. vanish (sumsOf F cs v)) (rows-of m (length v) checks)
+      ∙ ap (all (λ x. eqb x 0)) (map-map _ _ (upFrom 0 m)) ∙ all-map (λ x. eqb x 0) _ (upFrom 0 m)
 
   module _ {i sum : ℕ} (more : i < m) (e : sum ≡ dot F (part (i * length v) (length v) checks) v) (w : Walking (gives0 F checks v) 0 m i) where
     its : sum ≡ dot F (take (length v) (drop (i * length v) checks)) v
@@ -72,8 +72,8 @@ pub record RowsHolding (p q rows n m : ℕ) (stripe : List ℕ) (r : ℕ) : Type
   pub count : m ≡ length (checksTo (planOf p) 1)
   pub walk : Walking (rowHolds (planOf p) stripe) 0 rows r
 
-module _ {p q rows n m r : ℕ} {checks stripe : List ℕ} (long : planOf p .rows * planOf p .columns ≤ length stripe) (lent : checks ≡ checkTable (planOf p))
-    (more : r < rows) (s : RowsHolding p q rows n m stripe r) where
+module _ {p q rows n m r : ℕ} {checks stripe : List ℕ} (long : planOf p .rows * planOf p .columns ≤ length stripe)
+    (lent : checks ≡ checkTable (planOf p)) (more : r < rows) (s : RowsHolding p q rows n m stripe r) where
   pub rows-within : r * n + n ≤ length stripe
   rows-within = row-within (s .is) long more
 
@@ -138,19 +138,23 @@ module _ {p t q rows n totals last j : ℕ} {weights checks stripe : List ℕ} (
   within = rw (← sums-more (planOf p) t) totals-here
 
   module _ {column : List ℕ} (made : column ≡ padded 8 (rowSums (fieldOf q) rows stripe (part (j * n) n checks))) where
+    long : length (take rows column) ≡ rows
+    long = column-rows (s .by .is) lent (suc t) totals-here stripe made
+
     pub totals-weights : totals * length (take rows column) ≤ length weights
-    totals-weights = rw (column-rows (s .by .is) lent (suc t) totals-here stripe made, s .by .count, s .by .weighs) (weights-suffice (s .by .is) (suc t))
+    totals-weights = rw (long, s .by .count, s .by .weighs) (weights-suffice (s .by .is) (suc t))
 
     module _ {b : Bool} (e : b ≡ vanish (sumsOf (fieldOf q) (rowsOf totals (length (take rows column)) weights) (take rows column))) where
       its-check : b ≡ checkHolds (planOf p) stripe t j
       unfolding checkHolds
       its-check =
+          let P = planOf p in
+          let W = levelOf P (suc t) .weights in
           e ∙ ap₂ (λ cs w. vanish (sumsOf (fieldOf q) cs w))
           (ap₂ (λ k l. rowsOf k (length (take rows column)) l) (s .by .count) (s .by .weighs)
-          ∙ ap (λ k. rowsOf (length (levelOf (planOf p) (suc t) .weights)) k (weightTable (planOf p) (suc t))) (column-rows (s .by .is) lent (suc t) totals-here stripe made)
-          ∙ weights-are (s .by .is) (suc t))
+          ∙ ap (λ k. rowsOf (length W) k (weightTable P (suc t))) long ∙ weights-are (s .by .is) (suc t))
           (column-is (s .by .is) lent (suc t) totals-here stripe made)
-          ∙ ap (λ F. vanish (sumsOf F (levelOf (planOf p) (suc t) .weights) (across (planOf p) stripe (rowIn (planOf p .columns) (checkTable (planOf p)) j)))) (s .by .is .field)
+          ∙ ap (λ F. vanish (sumsOf F W (across P stripe (rowIn (P .columns) (checkTable P) j)))) (s .by .is .field)
 
       pub totals-turn : b ≡ true → TotalsHolding p t q rows n weights totals last stripe (j + 1)
       totals-turn good = record {

@@ -1,5 +1,5 @@
 -- The fills of a level's checks joined, one after the other. Assumes nothing.
-use mathlib.Core.Path.{_≡_, refl, sym, ap, ap₂, _∙_}
+use mathlib.Core.Path.{_≡_, refl, sym, ap, _∙_}
 use mathlib.Core.Bool.{Bool, true, false}
 use mathlib.Core.List.{List, [], _∷_, _++_, map, append-assoc, append-nil, map-map}
 use Prim.Native.Nat.{ℕ, zero, suc, _+_, _-_, _≤_, _<_}
@@ -128,4 +128,6 @@ level-fill p t symbols marks sums =
     let P = planOf p in
     let L = levelOf P (suc t) in
     let f : List ℕ → Fill = λ c. fill (P .field) (L .weights) (zeros (L .weights)) (lossy P marks) (across P symbols c) in
-    ap joined (ap (map f) (sym (level-checks-in p t)) ∙ map-map f (rowIn (P .columns) (checkTable P)) (upFrom (length (checksTo P t)) (length (L .checks))))
+    ap joined
+    (ap (map f) (sym (level-checks-in p t))
+    ∙ map-map f (rowIn (P .columns) (checkTable P)) (upFrom (length (checksTo P t)) (length (L .checks))))

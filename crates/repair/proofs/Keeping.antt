@@ -2,7 +2,7 @@
 use mathlib.Core.Path.{_≡_, refl, sym, ap, _∙_}
 use mathlib.Core.List.{List, [], _∷_, _++_, map, map-append}
 use Prim.Native.Nat.{ℕ, zero, suc, _+_, _*_, _-_, _≤_, _<_}
-use native.Mathlib.Nat.{add-suc, suc-mul}
+use native.Mathlib.Nat.{suc-mul}
 use native.Mathlib.Numerals.{add-one}
 use native.Mathlib.Omega.{arith}
 use lib.ListN.{length, getD, set, take, length-map}
@@ -61,7 +61,9 @@ module _ (at : ℕ) (cs : List (List ℕ)) where
   unfolding upFrom keepSums
   set-keep k zero l j v h = refl
   set-keep k (suc n) l j v h =
-      set-keep (suc k) n (sets l (k * room + at) (map (λ c. getD c k 0) cs)) j v (omega (arith, suc-mul k room)) ∙ ap (λ s. keepSums at cs s (upFrom (suc k) n)) (set-sets (map (λ c. getD c k 0) cs) l (k * room + at) j v h)
+      let sums = map (λ c. getD c k 0) cs in
+      set-keep (suc k) n (sets l (k * room + at) sums) j v (omega (arith, suc-mul k room))
+      ∙ ap (λ s. keepSums at cs s (upFrom (suc k) n)) (set-sets sums l (k * room + at) j v h)
 
   -- the sums under one more check
   pub keep-last : (c : List ℕ) → at + length cs < room → (k n : ℕ) (l : List ℕ)

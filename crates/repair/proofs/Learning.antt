@@ -1,14 +1,14 @@
 -- Learning a level: one check's sums filled, and the checks joined. Assumes nothing.
-use mathlib.Core.Path.{_≡_, refl, sym, ap, ap₂, _∙_, subst}
-use mathlib.Core.Bool.{Bool, true, false}
-use mathlib.Core.List.{List, [], _∷_, _++_, map}
+use mathlib.Core.Path.{_≡_, refl, sym, ap, ap₂, _∙_}
+use mathlib.Core.Bool.{Bool}
+use mathlib.Core.List.{List, [], _∷_, _++_}
 use Prim.Native.Nat.{ℕ, zero, suc, _+_, _*_, _^_, _≤_, _<_}
 use native.Mathlib.Numerals.{add-one}
 use native.Mathlib.Omega.{arith}
 use borrow.Author.Tests.{le-ltb, lt-ltb}
 use lib.Dec.{ltb}
-use lib.ListN.{length, getD, take, drop, List·getD-eq-default}
-use lib.Seq.{take-at, length-take-le, getD-take}
+use lib.ListN.{length, getD, take}
+use lib.Seq.{length-take-le}
 use Rattle.field.specs.Lists.{if_then_else_, upFrom}
 use Rattle.field.specs.Field.{size}
 use Rattle.field.specs.Ours.{fieldOf}
@@ -18,7 +18,7 @@ use Rattle.linear.specs.Marks.{rowsOf, bitsOf, fillOf, answerOf, vectorOf}
 use Rattle.linear.specs.Fill.{Fill, tied, none, one, fill}
 use Rattle.linear.specs.declared.Outcome.{Outcome}
 use Rattle.linear.specs.declared.Outcome.the-variants.{Tied, None, One}
-use Rattle.repair.specs.Plan.{Plan, planOf, levelOf, checksTo}
+use Rattle.repair.specs.Plan.{planOf, levelOf, checksTo}
 use Rattle.repair.specs.Steps.{lossy, Learned, blocked, failing, learned, levelFill, keepSums, raise, stepped, unlessRefused, levelStepBy, levelStep}
 use Rattle.repair.specs.Refusal.{unasked, benchRefusal}
 use Rattle.repair.specs.Tables.{padded, checkTable, rowSums}
@@ -96,7 +96,8 @@ module _ {p t q rows n totals : ℕ} {weights : List ℕ} (w : Weighing p t q ro
         let P = planOf p in
         let W = levelOf P (suc t) .weights in
         let long = column-rows (w .is) lent (suc t) more symbols e in
-        ap₂ (λ m k. fill (fieldOf q) (rowsOf m k (take (totals * rows) weights)) (take totals lentZeros) (bitsOf k lossy) (take rows made)) target-length long
+        ap₂ (λ m k. fill (fieldOf q) (rowsOf m k (take (totals * rows) weights)) (take totals lentZeros) (bitsOf k lossy) (take rows made))
+        target-length long
         ∙ ap (λ cs. fill (fieldOf q) cs (take totals lentZeros) (bitsOf rows lossy) (take rows made))
         (rows-front totals rows weights ∙ ap₂ (λ m l. rowsOf m rows l) (w .count) (w .weighs) ∙ weights-are (w .is) (suc t))
         ∙ ap₂ (λ z k. fill (fieldOf q) W z (bitsOf k lossy) (take rows made))
@@ -139,25 +140,13 @@ answer-one tied v e = let z : _≡_ {A = ℕ} 0 1 = cc in absurd (omega arith)
 answer-one none v e = let z : _≡_ {A = ℕ} 0 1 = cc in absurd (omega arith)
 answer-one (one w) v e = refl
 
-module _ (p t : ℕ) (symbols marks old : List ℕ) where
-  abbrev here : Learned
-  here = levelFill (benchOf p t symbols marks old)
+-- as the definition does
+learns-by : (p t : ℕ) (symbols marks old : List ℕ) {f : Learned} → let b = benchOf p t symbols marks old in
+    levelFill b ≡ f → Learns p t symbols marks old (learningOf f) (sumsAfter b f)
+learns-by p t symbols marks old e = (ap learningOf (sym e), ap (sumsAfter (benchOf p t symbols marks old)) (sym e))
 
-  learns-blocked : here ≡ blocked → Learns p t symbols marks old Blocked old
-  unfolding learningOf sumsAfter
-  learns-blocked e = (ap learningOf (sym e), ap (sumsAfter (benchOf p t symbols marks old)) (sym e))
-
-  learns-failing : here ≡ failing → Learns p t symbols marks old Failing old
-  unfolding learningOf sumsAfter
-  learns-failing e = (ap learningOf (sym e), ap (sumsAfter (benchOf p t symbols marks old)) (sym e))
-
-  learns-all : {cs : List (List ℕ)} → here ≡ learned cs
-      → Learns p t symbols marks old AllLearned (keepSums (length (checksTo (planOf p) t)) cs old (upFrom 0 (planOf p .rows)))
-  unfolding raise learningOf sumsAfter
-  learns-all e = (ap learningOf (sym e), ap (sumsAfter (benchOf p t symbols marks old)) (sym e))
-
-pub learned-starts : (p t : ℕ) {rows first last word : ℕ} (symbols : List ℕ) {marks : List ℕ} (old : List ℕ) → rows ≡ planOf p .rows → first ≡ length (checksTo (planOf p) t)
-    → last ≡ length (checksTo (planOf p) (suc t)) → (bitsOf rows word ≡ lossyFrom marks 0 rows) × (word < 2 ^ rows)
+pub learned-starts : (p t : ℕ) {rows first last word : ℕ} (symbols : List ℕ) {marks : List ℕ} (old : List ℕ) → rows ≡ planOf p .rows
+    → first ≡ length (checksTo (planOf p) t) → last ≡ length (checksTo (planOf p) (suc t)) → (bitsOf rows word ≡ lossyFrom marks 0 rows) × (word < 2 ^ rows)
     → LearnedTo p t rows last word symbols marks old first old
 unfolding lossy
 learned-starts p t {rows} {first} {last} {word} symbols {marks} old high start end told = record {
@@ -172,9 +161,10 @@ learned-starts p t {rows} {first} {last} {word} symbols {marks} old high start e
 
 module _ {p t rows last word j : ℕ} {symbols marks old kept : List ℕ} (s : LearnedTo p t rows last word symbols marks old j kept) where
   pub learned-ends : last ≤ j → Learns p t symbols marks old AllLearned kept
+  unfolding raise learningOf sumsAfter
   learned-ends all =
       rw (s .written)
-      (learns-all p t symbols marks old
+      (learns-by p t symbols marks old
       (level-fill p t symbols marks old ∙ joining-ends _ _ _ (rw (← sums-more (planOf p) t, ← s .end) all) (s .walk)))
 
   module _ (more : j < last) where
@@ -190,65 +180,57 @@ module _ {p t rows last word j : ℕ} {symbols marks old kept : List ℕ} (s : L
       told = sym (answer ∙ ap (λ ms. answerOf (columnFill (planOf p) t symbols ms j)) (s .bits))
 
       pub learned-blocked : a ≡ Tied → Learns p t symbols marks old Blocked old
+      unfolding learningOf sumsAfter
       learned-blocked e =
-          learns-blocked p t symbols marks old
+          learns-by p t symbols marks old
           (level-fill p t symbols marks old ∙ joining-tied _ _ _ within (answer-tied _ (told ∙ e)) (s .walk))
 
       pub learned-failing : a ≡ None → Learns p t symbols marks old Failing old
-      unfolding columnFill
+      unfolding columnFill learningOf sumsAfter
       learned-failing e =
           let f = answer-none _ (told ∙ e) in
-          learns-failing p t symbols marks old
+          learns-by p t symbols marks old
           (level-fill p t symbols marks old ∙ joining-none _ _ _ within f (λ i. none-untied _ _ _ _ _ _ f) (s .walk))
 
       pub learned-more : (column : List ℕ) {next : List ℕ} → a ≡ One
           → take (planOf p .rows) column ≡ vectorOf (columnFill (planOf p) t symbols (bitsOf (planOf p .rows) word) j) (columnOf (planOf p) symbols j)
           → next ≡ keepSums j (take rows column ∷ []) kept (upFrom 0 rows) → LearnedTo p t rows last word symbols marks old (j + 1) next
-      learned-more column e filled keeps = record {
-        high = s .high;
-        end = s .end;
-        bits = s .bits;
-        small = s .small;
-        columns = s .columns ++ (take (planOf p .rows) column ∷ []);
-        walk = joining-one _ _ _ within
-            (answer-one _ (columnOf (planOf p) symbols j) (told ∙ e)
-            ∙ ap one (ap (λ ms. vectorOf (columnFill (planOf p) t symbols ms j) (columnOf (planOf p) symbols j)) (sym (s .bits)) ∙ sym filled)) (s .walk);
-        written =
-            keeps ∙ ap₂ (λ r l. keepSums j (take r column ∷ []) l (upFrom 0 r)) (s .high) (s .written)
-            ∙ ap (λ i. keepSums i (take (planOf p .rows) column ∷ []) (keepSums (length (checksTo (planOf p) t)) (s .columns) old (upFrom 0 (planOf p .rows))) (upFrom 0 (planOf p .rows))) (sym (s .walk .count))
-            ∙ keep-last (length (checksTo (planOf p) t)) (s .columns) (take (planOf p .rows) column) (omega (arith, s .walk .count, learned-here, sums-most p (suc t))) 0 (planOf p .rows) old;
-      }
+      learned-more column e filled keeps =
+          let P = planOf p in
+          let at = length (checksTo P t) in
+          let c = take (P .rows) column in
+          record {
+            high = s .high;
+            end = s .end;
+            bits = s .bits;
+            small = s .small;
+            columns = s .columns ++ (c ∷ []);
+            walk = joining-one _ _ _ within
+                (answer-one _ (columnOf P symbols j) (told ∙ e)
+                ∙ ap one (ap (λ ms. vectorOf (columnFill P t symbols ms j) (columnOf P symbols j)) (sym (s .bits)) ∙ sym filled)) (s .walk);
+            written =
+                keeps ∙ ap₂ (λ r l. keepSums j (take r column ∷ []) l (upFrom 0 r)) (s .high) (s .written)
+                ∙ ap (λ i. keepSums i (c ∷ []) (keepSums at (s .columns) old (upFrom 0 (P .rows))) (upFrom 0 (P .rows))) (sym (s .walk .count))
+                ∙ keep-last at (s .columns) c (omega (arith, s .walk .count, learned-here, sums-most p (suc t))) 0 (P .rows) old;
+          }
 
 -- ---- the level step that learning makes
 
-module _ (b : Bench) {r : Learning} {l : List ℕ} (learns : Learns (b .plan) (b .level) (b .symbols) (b .marks) (b .sums) r l) where
-  pub steps-blocked : r ≡ Blocked → stepped b StepBlocked ≡ levelStepBy b (levelFill b)
-  unfolding levelStepBy learningOf
-  steps-blocked e = go (levelFill b) (sym (learns .0) ∙ e)
-    where
-      go : (f : Learned) → learningOf f ≡ Blocked → stepped b StepBlocked ≡ levelStepBy b f
-      go blocked e = refl
-      go failing e = let z : _≡_ {A = ℕ} 0 1 = cc in absurd (omega arith)
-      go (learned cs) e = let z : _≡_ {A = ℕ} 0 1 = cc in absurd (omega arith)
+-- the step of each end of learning, which left the sums l
+unfoldable pub stepFor : Bench → Learning → List ℕ → Stepped
+stepFor b Blocked l = stepped b StepBlocked
+stepFor b Failing l = stepped b Clash
+stepFor b AllLearned l = stepped (benchOf (b .plan) (b .level + 1) (b .symbols) (b .marks) l) Raised
 
-  pub steps-clash : r ≡ Failing → stepped b Clash ≡ levelStepBy b (levelFill b)
-  unfolding levelStepBy learningOf
-  steps-clash e = go (levelFill b) (sym (learns .0) ∙ e)
-    where
-      go : (f : Learned) → learningOf f ≡ Failing → stepped b Clash ≡ levelStepBy b f
-      go blocked e = let z : _≡_ {A = ℕ} 0 1 = cc in absurd (omega arith)
-      go failing e = refl
-      go (learned cs) e = let z : _≡_ {A = ℕ} 0 1 = cc in absurd (omega arith)
-
-  pub steps-raised : r ≡ AllLearned → stepped (benchOf (b .plan) (b .level + 1) (b .symbols) (b .marks) l) Raised ≡ levelStepBy b (levelFill b)
-  unfolding raise levelStepBy learningOf sumsAfter
-  steps-raised e = go (levelFill b) (sym (learns .0) ∙ e) (learns .1)
-    where
-      go : (f : Learned) → learningOf f ≡ AllLearned → l ≡ sumsAfter b f
-          → stepped (benchOf (b .plan) (b .level + 1) (b .symbols) (b .marks) l) Raised ≡ levelStepBy b f
-      go blocked e g = let z : _≡_ {A = ℕ} 0 1 = cc in absurd (omega arith)
-      go failing e g = let z : _≡_ {A = ℕ} 0 1 = cc in absurd (omega arith)
-      go (learned cs) e g = ap₂ (λ t s. stepped (benchOf (b .plan) t (b .symbols) (b .marks) s) Raised) (add-one (b .level)) g
+pub steps-by : (b : Bench) {r s : Learning} {l : List ℕ} → Learns (b .plan) (b .level) (b .symbols) (b .marks) (b .sums) r l → r ≡ s
+    → stepFor b s l ≡ levelStepBy b (levelFill b)
+unfolding raise levelStepBy learningOf sumsAfter stepFor
+steps-by b learns e = ap₂ (stepFor b) (sym e ∙ learns .0) (learns .1) ∙ go (levelFill b)
+  where
+    go : (f : Learned) → stepFor b (learningOf f) (sumsAfter b f) ≡ levelStepBy b f
+    go blocked = refl
+    go failing = refl
+    go (learned cs) = ap (λ t. stepped (benchOf (b .plan) t (b .symbols) (b .marks) (raise b cs .sums)) Raised) (add-one (b .level))
 
 -- ---- the level step
 

@@ -19,6 +19,7 @@ pub mod Turns
 pub mod Scan
 pub mod Refusals
 pub mod Starts
+pub mod Copying
 -- sums under checks, and the codeword test
 pub mod Parts
 pub mod Numbers
@@ -33,6 +34,7 @@ pub mod Walking
 pub mod Arms
 pub mod Leaving
 pub mod Rounding
+pub mod Stepping
 -- the level step
 pub mod Keeping
 pub mod Joining

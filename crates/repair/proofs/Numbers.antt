@@ -1,11 +1,10 @@
 -- A plan's numbers as the code has them, and what its rows, checks and weights are by them. Assumes nothing.
-use mathlib.Core.Path.{_≡_, sym, ap, ap₂, _∙_}
+use mathlib.Core.Path.{_≡_, ap, ap₂, _∙_}
 use mathlib.Core.List.{List, map}
 use Prim.Native.Nat.{ℕ, suc, _+_, _*_, _≤_, _<_}
-use native.Mathlib.Nat.{le-trans, mul-le-mul-right}
+use native.Mathlib.Nat.{le-trans}
 use native.Mathlib.Numerals.{add-one}
-use native.Mathlib.Omega.{arith}
-use lib.ListN.{length, take, drop, replicate}
+use lib.ListN.{length, take, drop}
 use lib.Seq.{take-at, length-take-le}
 use Rattle.field.specs.Field.{dot}
 use Rattle.field.specs.Lists.{upFrom}
@@ -79,11 +78,10 @@ module _ {p q rows n : ℕ} (is : Numbers p q rows n) where
       pub column-is : take rows column ≡ across (planOf p) symbols (rowIn (planOf p .columns) (checkTable (planOf p)) j)
       unfolding across rowAt rowSums padded
       column-is =
+          let check = part (j * n) n checks in
           ap (take rows) made ∙ take-at sums _ rows sums-rows
-          ∙ ap₂ (λ F k. map (λ r. dot F (part (j * n) n checks) (take (length (part (j * n) n checks)) (drop (r * length (part (j * n) n checks)) symbols))) (upFrom 0 k))
-          (is .field) (is .high)
-          ∙ ap₂ (λ check k. map (λ r. dot (planOf p .field) check (take k (drop (r * k) symbols))) (upFrom 0 (planOf p .rows)))
-          check-part check-wide
+          ∙ ap₂ (λ F k. map (λ r. dot F check (take (length check) (drop (r * length check) symbols))) (upFrom 0 k)) (is .field) (is .high)
+          ∙ ap₂ (λ c k. map (λ r. dot (planOf p .field) c (take k (drop (r * k) symbols))) (upFrom 0 (planOf p .rows))) check-part check-wide
 
   -- ---- weights
 

@@ -1,6 +1,6 @@
 -- The plans' rows, checks and weights fit the code's arrays, for every plan number. Assumes nothing.
 use mathlib.Core.Path.{_≡_, refl}
-use mathlib.Core.List.{List, _++_, map, flatMap}
+use mathlib.Core.List.{flatMap}
 use Prim.Native.Nat.{ℕ, pred, _*_, _≤_}
 use native.Mathlib.Nat.{mul-le-mul}
 use lib.Dec.{T, eqb, leb, eqb→eq, leb→le}
@@ -9,7 +9,7 @@ use Rattle.field.specs.Lists.{upFrom}
 use Rattle.field.specs.Field.{_⊕_, size, double, times, mul, gf16, gf32}
 use Rattle.field.specs.Power.{power}
 use Rattle.linear.specs.Lists.{all}
-use Rattle.repair.specs.Plan.{Plan, Level, ones, bitChecks, locations1, plan1, locations2, powers2, plan2, locations3, powers3, plan3, noPlan, planOf, noLevel, levelOf, checksTo}
+use Rattle.repair.specs.Plan.{Level, ones, bitChecks, locations1, plan1, locations2, powers2, plan2, locations3, powers3, plan3, noPlan, planOf, noLevel, levelOf, checksTo}
 use Rattle.repair.specs.Tables.{padded, flat, checkTable, weightTable}
 use Rattle.repair.proofs.Plans.{of-plans, rows-most, columns-most}
 use Rattle.repair.proofs.Flat.{all-getD}

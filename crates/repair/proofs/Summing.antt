@@ -2,11 +2,10 @@
 use mathlib.Core.Path.{_≡_, sym, ap, _∙_}
 use mathlib.Core.List.{List}
 use Prim.Native.Nat.{ℕ, _+_, _*_, _-_, _≤_, _<_}
-use native.Mathlib.Nat.{add-sub-cancel-left}
 use native.Mathlib.Numerals.{add-one}
 use native.Mathlib.Omega.{arith}
-use lib.ListN.{length, getD, set, take, drop, replicate, drop-of-length-le, length-drop, length-map}
-use lib.Seq.{drop-cons, length-take-le}
+use lib.ListN.{length, getD, set, take, drop, replicate, drop-of-length-le, length-map}
+use lib.Seq.{drop-cons}
 use Rattle.field.specs.Field.{_⊕_, Field, mul, dot}
 use Rattle.field.specs.Lists.{upFrom}
 use Rattle.field.proofs.Sum.{⊕-assoc, ⊕-zero, zero-⊕}

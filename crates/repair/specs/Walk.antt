@@ -1,6 +1,7 @@
 -- What the code of the rounds says, in terms of the turns.
 use Prim.Native.Nat.{ℕ, pred, _+_, _≤_, _<_}
 use mathlib.Core.Path.{_≡_}
+use mathlib.Core.Bool.{Bool, true, false}
 use mathlib.Core.List.{List}
 use lib.Dec.{ltb}
 use lib.ListN.{length, getD, set}
@@ -12,7 +13,8 @@ use Rattle.repair.specs.Learned.{benchOf}
 use Rattle.repair.specs.declared.Bench.{Bench}
 use Rattle.repair.specs.declared.Place.the-variants.{Row}
 use Rattle.repair.specs.declared.Report.{Report}
-use Rattle.repair.specs.declared.Answer.the-variants.{Clash}
+use Rattle.repair.specs.declared.Answer.{Answer}
+use Rattle.repair.specs.declared.Answer.the-variants.{Restored, Stuck, Clash, Refused}
 
 -- a bench's arrays are as long as the code's
 abbrev pub Arrays : Bench → Type 0
@@ -40,3 +42,10 @@ abbrev pub Ended : Turn → Report → (symbols marks : List ℕ) → Type 0
 Ended (on m) r symbols marks = ⊥
 Ended (end m) r symbols marks = (r ≡ endReport m) × (symbols ≡ m .bench .symbols) × (marks ≡ m .bench .marks)
 Ended (clash place) r symbols marks = r ≡ bare (Clash place)
+
+-- the answer is Clash
+unfoldable pub clashes : Answer → Bool
+clashes Restored = false
+clashes Stuck = false
+clashes (Clash place) = true
+clashes (Refused n) = false

@@ -1,7 +1,7 @@
-// Lent lists copied to arrays, zeros behind them. The lent lists stay as they are.
+// Lent lists copied to arrays, zeros behind them, and arrays copied back.
 ghost use mathlib.Core.Path.{_≡_};
 ghost use Prim.Native.Nat.{_≤_};
-ghost use lib.ListN.{length};
+ghost use lib.ListN.{length, take};
 ghost use Rattle.repair.specs.Tables.{padded};
 
 // A table of coefficients.
@@ -38,4 +38,24 @@ pub fn words_of(marks: &[u32]) -> [u32; 8]
         words[r] = marks[r];
     }
     words
+}
+
+// Writes a bench's symbols back to the stripe, as many as it has.
+pub fn put_symbols(stripe: &mut [u8], symbols: &[u8])
+    requires { ⌜ length (now stripe) ≤ length (now symbols) ⌝ }
+    ensures { λ _. ⌜ now (stripe .exit) ≡ take (length (now (stripe .entry))) (now (symbols .entry)) ⌝ }
+{
+    for i in 0..stripe.len() {
+        stripe[i] = symbols[i];
+    }
+}
+
+// Writes a bench's mark words back, as many as were lent.
+pub fn put_words(marks: &mut [u32], words: &[u32])
+    requires { ⌜ length (now marks) ≤ length (now words) ⌝ }
+    ensures { λ _. ⌜ now (marks .exit) ≡ take (length (now (marks .entry))) (now (words .entry)) ⌝ }
+{
+    for r in 0..marks.len() {
+        marks[r] = words[r];
+    }
 }

@@ -6,16 +6,20 @@ mod file;
 mod level;
 mod lines;
 mod marks;
-mod mend;
+mod mending;
 pub mod plan;
 mod refusal;
 mod steps;
 mod sums;
 
 ghost use mathlib.Core.Path.{_≡_};
-ghost use Rattle.repair.specs.Steps.{started, levelStep};
+ghost use lib.ListN.{length};
+ghost use Rattle.repair.specs.Steps.{started, rowStep, levelStep};
+ghost use Rattle.repair.specs.Rounds.{mendReport, mendStripe, mendMarks};
 ghost use Rattle.repair.specs.Codeword.{tested, outcomeOf};
 ghost use Rattle.repair.specs.File.{writeRefusal, writeFile, readRefusal, readStripe, readMarks};
+ghost use Rattle.repair.specs.Tables.{padded};
+ghost use Rattle.repair.specs.Text.{printed};
 
 // A plan's number, the level t that was reached, symbols and mark words row after row, and each row's learned sums, 16 places a row.
 pub struct Bench {
@@ -120,6 +124,22 @@ pub fn start(plan: usize, stripe: &[u8], marks: &[u32]) -> Started
     }
 }
 
+// The row step: a row's marked symbols are filled and its marks cleared, or nothing changes.
+pub fn row_step(bench: Bench, row: usize) -> Stepped
+    ensures { λ r. ⌜ r ≡ rowStep bench row ⌝ }
+{
+    let plan = bench.plan;
+    let level = bench.level;
+    let number = refusal::bench_refusal(plan, level, &bench.symbols, &bench.marks, &bench.sums, row < plan::rows(plan));
+    if number != 0 {
+        return Stepped {
+            bench: bench,
+            answer: Step::Refused(number),
+        };
+    }
+    steps::step_row(bench, row)
+}
+
 // The level step: all rows' sums of the next level are learned and the level rises by one, or nothing changes.
 pub fn level_step(bench: Bench) -> Stepped
     ensures { λ r. ⌜ r ≡ levelStep bench ⌝ }
@@ -168,6 +188,29 @@ pub fn is_codeword(plan: usize, stripe: &[u8]) -> Verdict
     Verdict::Yes
 }
 
+// Mends a stripe in one call, by rounds of row steps and level steps on a bench of its own. Restored and Stuck leave the restored
+// rows in the stripe and their marks clear; a Clash and a refusal leave both as they were.
+pub fn mend(plan: usize, stripe: &mut [u8], marks: &mut [u32]) -> Report
+    ensures { λ r. ⌜ r ≡ mendReport plan (now (stripe .entry)) (now (marks .entry)) ⌝ }
+    ensures { λ _. ⌜ now (stripe .exit) ≡ mendStripe plan (now (stripe .entry)) (now (marks .entry)) ⌝ }
+    ensures { λ _. ⌜ now (marks .exit) ≡ mendMarks plan (now (stripe .entry)) (now (marks .entry)) ⌝ }
+{
+    let number = refusal::lent_refusal(plan, &stripe[..], &marks[..]);
+    if number != 0 {
+        return mending::bare_report(Answer::Refused(number));
+    }
+    let ended = mending::rounds(plan, &stripe[..], &marks[..]);
+    let report = ended.report;
+    let answer = report.answer;
+    if mending::is_clash(answer) {
+        return report;
+    }
+    let symbols = ended.symbols;
+    let words = ended.marks;
+    copies::put_symbols(stripe, &symbols[..]);
+    copies::put_words(marks, &words[..]);
+    report
+
 // Writes a stripe and its marks as a file, 0 under marks. Where it is refused the file is unchanged.
 pub fn write_file(plan: usize, stripe: &[u8], marks: &[u32], file: &mut [u8]) -> Outcome
     ensures { λ r. ⌜ r ≡ outcomeOf (writeRefusal plan (now (stripe .entry)) (now (marks .entry)) (now (file .entry))) ⌝ }
@@ -195,4 +238,15 @@ pub fn read_file(file: &[u8], stripe: &mut [u8], marks: &mut [u32]) -> Outcome
     }
     file::load(file, stripe, marks);
     Outcome::Done
+}
+
+// What `mend` prints for any bytes that it reads: the text at the front of `out` and zeros behind it, and its length.
+pub fn text(file: &[u8], out: &mut [u8; 320]) -> usize
+    ensures { λ r. ⌜ r ≡ length (printed (now (file .entry))) ⌝ }
+    ensures { λ _. ⌜ now (out .exit) ≡ padded 320 (printed (now (file .entry))) ⌝ }
+{
+    let mut room = [0u8; 320];
+    let size = lines::put_text(file, &mut room);
+    *out = room;
+    size
 }

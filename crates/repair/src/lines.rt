@@ -1,5 +1,6 @@
 // The text that `mend` prints, for any bytes that it reads.
 use crate::buffer;
+use crate::file;
 use crate::marks;
 use crate::plan;
 use crate::{Answer, Place, Report};
@@ -13,9 +14,10 @@ ghost use Rattle.field.specs.Lists.{if_then_else_};
 ghost use Rattle.linear.specs.Marks.{bitsOf};
 ghost use Rattle.repair.specs.Plan.{planOf, known};
 ghost use Rattle.repair.specs.Answers.{answerNumber, placeValues, reportValues};
-ghost use Rattle.repair.specs.Refusal.{allBelow, unmarkedBelow, symbolsFit};
+ghost use Rattle.repair.specs.Refusal.{allBelow, unmarkedBelow, symbolsFit, lentRefusal};
 ghost use Rattle.repair.specs.Written.{Put};
 ghost use Rattle.repair.specs.Text.{decimal, hex, «item» as itemOf, lineEnd, shown, «grid» as gridOf, placeText, summary, reportText};
+ghost use Rattle.repair.specs.Text.{mendText, printed};
 
 // ---- bytes. Each function writes from `at` on and gives the place behind what it wrote; the rest of `out` is unchanged.
 
@@ -215,4 +217,37 @@ fn answer_number(answer: Answer) -> usize
         Answer::Clash(_) => 2,
         Answer::Refused(n) => n,
     }
+}
+
+// ---- the text
+
+// What is printed of a stripe and its marks that are not refused, from the front of `out` on. It mends them.
+fn put_mended(plan: usize, stripe: &mut [u8], marks: &mut [u32], out: &mut [u8]) -> usize
+    requires { ⌜ lentRefusal plan (now stripe) (now marks) ≡ 0 ⌝ }
+    requires { ⌜ 320 ≤ length (now out) ⌝ }
+    ensures { λ r. ⌜ Put (now (out .entry)) 0 (mendText plan (now (stripe .entry)) (now (marks .entry))) r (now (out .exit)) ⌝ }
+{
+    let report = crate::mend(plan, stripe, marks);
+    let at_answer = put_item(b"plan ", plan, out, 0);
+    let at_report = put_item(b" answer ", answer_number(report.answer), out, at_answer);
+    put_report(plan, report, stripe, marks, out, at_report)
+}
+
+// What is printed for a file, from the front of `out` on.
+pub fn put_text(file: &[u8], out: &mut [u8]) -> usize
+    requires { ⌜ 320 ≤ length (now out) ⌝ }
+    ensures { λ r. ⌜ Put (now (out .entry)) 0 (printed (now (file .entry))) r (now (out .exit)) ⌝ }
+{
+    let number = file::file_refusal(file, true);
+    if number != 0 {
+        let end = put_item(b"refused ", number, out, 0);
+        return buffer::put(b"\n", out, end);
+    }
+    let plan = file::plan_in(file);
+    let rows = plan::rows(plan);
+    let size = rows * plan::columns(plan);
+    let mut stripe = [0u8; 256];
+    let mut marks = [0u32; 8];
+    file::load(file, &mut stripe, &mut marks);
+    put_mended(plan, &mut stripe[..size], &mut marks[..rows], out)
 }

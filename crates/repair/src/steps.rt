@@ -1,6 +1,7 @@
 // Row steps: a row filled, the rows of a round, and the step on a bench.
 use crate::plan;
 use crate::sums;
+use crate::{Bench, Step, Stepped};
 
 ghost use mathlib.Core.Path.{_≡_};
 ghost use Prim.Native.Nat.{ℕ, _+_, _*_, _^_, _<_, _≤_};
@@ -11,7 +12,8 @@ ghost use Rattle.field.specs.Ours.{products};
 ghost use Rattle.linear.specs.Marks.{bitsOf, answerOf, vectorOf};
 ghost use Rattle.linear.specs.Fill.{sumsOf, fill};
 ghost use Rattle.repair.specs.Plan.{planOf, known, checksTo, rowAt};
-ghost use Rattle.repair.specs.Refusal.{sumsAt, sumsFit, levelFits, benchRefusal, unasked};
+ghost use Rattle.repair.specs.Refusal.{sumsAt, sumsFit, benchRefusal, unasked};
+ghost use Rattle.repair.specs.Steps.{rowFill, rowStepBy};
 ghost use Rattle.repair.specs.Tables.{checkTable};
 ghost use Rattle.repair.specs.Learned.{benchOf};
 ghost use Rattle.repair.specs.Walk.{Arrays, Walked};
@@ -125,4 +127,31 @@ pub fn walk_rows(
         row += 1;
     };
     Walk { row: clash, filled }
+}
+
+// The row step on a row of a bench that nothing is refused of.
+pub fn step_row(bench: Bench, row: usize) -> Stepped
+    requires { ⌜ (benchRefusal bench unasked ≡ 0) × (row < planOf (bench .plan) .rows) ⌝ }
+    ensures { λ r. ⌜ r ≡ rowStepBy bench row (rowFill bench row) ⌝ }
+{
+    let plan = bench.plan;
+    let level = bench.level;
+    let mut symbols = bench.symbols;
+    let mut marks = bench.marks;
+    let sums = bench.sums;
+    let word = marks[row];
+    let table = field::products();
+    let checks = plan::row_checks(plan);
+    match fill_row(plan, level, &table, &checks[..], &mut symbols[..], word, &sums[..], row) {
+        linear::Outcome::Tied => Stepped { bench: bench, answer: Step::Tied },
+        linear::Outcome::None => Stepped { bench: bench, answer: Step::Clash },
+        linear::Outcome::One => {
+            marks[row] = 0;
+            let filled = Bench { plan: plan, level: level, symbols: symbols, marks: marks, sums: sums };
+            if word == 0 {
+                return Stepped { bench: filled, answer: Step::Whole };
+            }
+            Stepped { bench: filled, answer: Step::Filled }
+        }
+    }
 }

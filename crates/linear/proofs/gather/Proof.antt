@@ -1,24 +1,20 @@
+-- `gather` meets its contract. Assumes nothing.
+use mathlib.Core.Path.{_≡_, refl, _∙_}
+use Prim.Native.Nat.{_+_, _-_, _≤_}
+use native.Mathlib.Omega.{arith}
+use borrow.Author.Needs.{needs}
+use lib.ListN.{length, length-set}
+use Rattle.field.specs.Ours.{fieldOf}
+use Rattle.field.specs.Field.{_⊕_}
+use Rattle.field.proofs.Fields.{our-field}
+use Rattle.linear.specs.Marks.{Gathered}
+use Rattle.linear.specs.System.{vec, ent, Elements}
 use Rattle.linear.proofs.Turns.{set-elements}
 use Rattle.linear.proofs.Columns.{gathered-start, gathered-turn}
 use Rattle.linear.proofs.Inner.{inner-lt}
 use Rattle.linear.proofs.Rows.{row-fits}
-use Rattle.linear.specs.Marks.{Gathered}
-use Rattle.linear.specs.System.{vec, ent, Elements}
-use Rattle.field.proofs.Fields.{our-field}
-use Rattle.field.specs.Ours.{fieldOf}
-use Rattle.field.specs.Field.{_⊕_}
-use lib.ListN.{length, length-set}
-use mathlib.Core.Path.{_≡_, refl, _∙_}
-use Prim.Native.Nat.{_+_, _-_, _≤_}
--- `gather` meets its contract. Assumes nothing.
-use native.Mathlib.Omega.{arith}
-use borrow.Author.Needs.{needs}
 use Rattle.linear.proofs.gather.Statement.{statement}
 use Rattle.linear.proofs.gather.Tie as tie
-use Rattle.linear.proofs.gather.Reads as reads
-use Rattle.linear.proofs.gather.Lts as lts
-use Rattle.linear.proofs.gather_row.Reads as gather-row-reads
-use Rattle.linear.proofs.row_sum.Reads as row-sum-reads
 
 abbrev Inv-loop : tie.InvT-loop
 Inv-loop q table checks target shown n places k a₀ i₀ a i = (i ≤ length target) × (length a ≡ length a₀) × Elements (fieldOf q) (vec a) × Gathered (fieldOf q) checks target (vec shown) n k (vec places) (ent a (k + 1)) i
@@ -56,13 +52,8 @@ add-a-2 c = let s = c .before .before .before .before .before .before .before .b
 
 slice-write-a : tie.Need-slice-write-a Inv-loop μ-loop
 slice-write-a c = let s = c .before .before .before .before .before .before .before .before .before .before .before .before .before in
-    omega (
-      arith,
-      c .before .before .before .before .gather-row .kept .1 .1 .1 .1 .1 .1 .0,
-      c .before .before .before .before .before .before .before .loop .inv .1,
-      row-fits (length (s .args .target .now)) (s .args .k + 1) (c .before .before .before .before .before .before .before .loop .i) (omega arith),
-      s .pre .1 .0 .1,
-    )
+    omega (arith, c .before .before .before .before .gather-row .kept .1 .1 .1 .1 .1 .1 .0, c .before .before .before .before .before .before .before .loop .inv .1,
+    row-fits (length (s .args .target .now)) (s .args .k + 1) (c .before .before .before .before .before .before .before .loop .i) (omega arith), s .pre .1 .0 .1)
 
 add-i : tie.Need-add-i Inv-loop μ-loop
 add-i c = search needs

@@ -1,18 +1,16 @@
-use Rattle.linear.proofs.Turns.{set-elements}
-use Rattle.linear.proofs.Columns.{copied-start, copied-turn}
-use Rattle.linear.specs.Marks.{Copied}
-use Rattle.linear.specs.System.{vec, Elements}
-use Rattle.field.specs.Ours.{fieldOf}
-use lib.ListN.{length, length-set}
+-- `gather_row` meets its contract. Assumes nothing.
 use mathlib.Core.Path.{_≡_, refl}
 use Prim.Native.Nat.{_-_, _≤_}
--- `gather_row` meets its contract. Assumes nothing.
 use native.Mathlib.Omega.{arith}
 use borrow.Author.Needs.{needs}
+use lib.ListN.{length, length-set}
+use Rattle.field.specs.Ours.{fieldOf}
+use Rattle.linear.specs.Marks.{Copied}
+use Rattle.linear.specs.System.{vec, Elements}
+use Rattle.linear.proofs.Turns.{set-elements}
+use Rattle.linear.proofs.Columns.{copied-start, copied-turn}
 use Rattle.linear.proofs.gather_row.Statement.{statement}
 use Rattle.linear.proofs.gather_row.Tie as tie
-use Rattle.linear.proofs.gather_row.Reads as reads
-use Rattle.linear.proofs.gather_row.Lts as lts
 
 abbrev Inv-loop : tie.InvT-loop
 Inv-loop q checks n i places k a₀ r s t₀ a t = (t ≤ k) × (length a ≡ length a₀) × Elements (fieldOf q) (vec a) × Copied checks n i (vec places) a₀ a k t

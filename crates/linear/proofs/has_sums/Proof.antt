@@ -1,23 +1,18 @@
-use mathlib.Core.Path.{refl}
-use native.Mathlib.Nat.{le-refl}
-use Rattle.linear.proofs.Flat.{sums-at, sums-are, eq-same, ne-same}
-use mathlib.Core.Path.{sym, ap, _∙_}
-use borrow.Author.Count.{below-more}
-use Rattle.linear.proofs.Rows.{row-fits}
-use Rattle.linear.specs.System.{vec, ent, inner}
-use Rattle.field.proofs.Fields.{our-field}
-use Rattle.field.specs.Ours.{fieldOf}
-use lib.ListN.{length}
-use mathlib.Core.Path.{_≡_}
-use Prim.Native.Nat.{ℕ, _-_, _≤_, _<_}
 -- `has_sums` meets its contract. Assumes nothing.
+use mathlib.Core.Path.{refl, sym, ap, _∙_, _≡_}
+use Prim.Native.Nat.{ℕ, _-_, _≤_, _<_}
+use native.Mathlib.Nat.{le-refl}
 use native.Mathlib.Omega.{arith}
+use borrow.Author.Count.{below-more}
 use borrow.Author.Needs.{needs}
+use lib.ListN.{length}
+use Rattle.field.specs.Ours.{fieldOf}
+use Rattle.field.proofs.Fields.{our-field}
+use Rattle.linear.specs.System.{vec, ent, inner}
+use Rattle.linear.proofs.Flat.{sums-at, sums-are, eq-same, ne-same}
+use Rattle.linear.proofs.Rows.{row-fits}
 use Rattle.linear.proofs.has_sums.Statement.{statement}
 use Rattle.linear.proofs.has_sums.Tie as tie
-use Rattle.linear.proofs.has_sums.Reads as reads
-use Rattle.linear.proofs.has_sums.Lts as lts
-use Rattle.linear.proofs.row_sum.Reads as row-sum-reads
 
 abbrev Inv-loop : tie.InvT-loop
 Inv-loop q table checks target v n i₀ i = (i ≤ length target) × ((x : ℕ) → x < i → inner (fieldOf q) (ent checks n x) (vec v) n ≡ vec target x)

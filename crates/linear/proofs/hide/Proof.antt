@@ -1,16 +1,13 @@
-use Prim.Native.Nat.{_%_}
-use Rattle.linear.proofs.Columns.{Hiding, hiding-start, hiding-turn, hidden-marked, hidden-unmarked}
-use lib.ListN.{length}
+-- `hide` meets its contract. Assumes nothing.
 use mathlib.Core.Logic.{⊎-elim}
 use mathlib.Core.Path.{sym, ap, _∙_}
-use Prim.Native.Nat.{_-_}
--- `hide` meets its contract. Assumes nothing.
+use Prim.Native.Nat.{_%_, _-_}
 use native.Mathlib.Omega.{arith}
 use borrow.Author.Needs.{needs}
+use lib.ListN.{length}
+use Rattle.linear.proofs.Columns.{Hiding, hiding-start, hiding-turn, hidden-marked, hidden-unmarked}
 use Rattle.linear.proofs.hide.Statement.{statement}
 use Rattle.linear.proofs.hide.Tie as tie
-use Rattle.linear.proofs.hide.Reads as reads
-use Rattle.linear.proofs.hide.Lts as lts
 
 abbrev Inv-loop : tie.InvT-loop
 Inv-loop marks v shown₀ rest₀ c₀ shown rest c = Hiding marks rest v shown₀ shown c

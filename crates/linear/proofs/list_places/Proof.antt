@@ -1,21 +1,15 @@
-use Rattle.linear.proofs.Words.{Lowest}
-use lib.Seq.{getD-set-same, getD-set-other}
-use lib.ListN.{length-set}
-use lib.Count.{ones, ones-le, trailingZeros, trailing-le}
-use mathlib.Core.Path.{refl}
-use Prim.Native.Nat.{_+_, _≤_, _<_}
-use Rattle.linear.proofs.Words.{Placing, placing-start, placing-next, placing-shift, placing-fits, placing-turn, placing-end}
-use Rattle.linear.specs.System.{vec}
-use lib.ListN.{length}
-use mathlib.Core.Path.{_≡_}
-use Prim.Native.Nat.{_-_}
 -- `list_places` meets its contract. Assumes nothing.
+use mathlib.Core.Path.{refl, _≡_}
+use Prim.Native.Nat.{_+_, _<_, _-_}
 use native.Mathlib.Omega.{arith}
 use borrow.Author.Needs.{needs}
+use lib.Seq.{getD-set-same, getD-set-other}
+use lib.ListN.{length-set, length}
+use lib.Count.{ones-le, trailingZeros, trailing-le}
+use Rattle.linear.specs.System.{vec}
+use Rattle.linear.proofs.Words.{Lowest, Placing, placing-start, placing-next, placing-shift, placing-fits, placing-turn, placing-end}
 use Rattle.linear.proofs.list_places.Statement.{statement}
 use Rattle.linear.proofs.list_places.Tie as tie
-use Rattle.linear.proofs.list_places.Reads as reads
-use Rattle.linear.proofs.list_places.Lts as lts
 
 abbrev Inv-loop : tie.InvT-loop
 Inv-loop marks n places₀ k rest₀ c₀ t₀ places rest c t = (length places ≡ length places₀) × Placing marks rest n k c t (vec places)
@@ -65,10 +59,10 @@ loop-less c = search needs
 
 loop-again : tie.Need-loop-again Inv-loop μ-loop
 loop-again c = let inv = c .before .loop .inv in (
-  simp length-set (inv .0),
-  placing-turn _ _ _ _ _ _ _ (inv .1) _ _ (c .before .before .pre .0) (omega arith) (next c)
-      (λ s l. getD-set-other (c .before .loop .places) _ s _ 0 (omega arith)) (getD-set-same (c .before .loop .places) _ _ 0 (room c)),
-)
+      simp length-set (inv .0),
+      placing-turn _ _ _ _ _ _ _ (inv .1) _ _ (c .before .before .pre .0) (omega arith) (next c)
+          (λ s l. getD-set-other (c .before .loop .places) _ s _ 0 (omega arith)) (getD-set-same (c .before .loop .places) _ _ 0 (room c)),
+    )
 
 same-length : tie.Need-same-length Inv-loop μ-loop
 same-length c = search needs

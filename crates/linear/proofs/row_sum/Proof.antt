@@ -1,17 +1,14 @@
-use Rattle.linear.proofs.Inner.{inner-more}
-use Rattle.linear.specs.System.{vec, ent, inner}
-use Rattle.field.specs.Ours.{fieldOf}
-use Rattle.field.specs.Field.{_⊕_}
+-- `row_sum` meets its contract. Assumes nothing.
 use mathlib.Core.Path.{_≡_, refl, ap₂, _∙_}
 use Prim.Native.Nat.{_-_, _≤_}
--- `row_sum` meets its contract. Assumes nothing.
 use native.Mathlib.Omega.{arith}
 use borrow.Author.Needs.{needs}
+use Rattle.field.specs.Ours.{fieldOf}
+use Rattle.field.specs.Field.{_⊕_}
+use Rattle.linear.specs.System.{vec, ent, inner}
+use Rattle.linear.proofs.Inner.{inner-more}
 use Rattle.linear.proofs.row_sum.Statement.{statement}
 use Rattle.linear.proofs.row_sum.Tie as tie
-use Rattle.linear.proofs.row_sum.Reads as reads
-use Rattle.linear.proofs.row_sum.Lts as lts
-use Rattle.field.proofs.product.Reads as product-reads
 
 abbrev Inv-loop : tie.InvT-loop
 Inv-loop q table checks i v n r sum₀ c₀ sum c = (c ≤ n) × (sum ≡ inner (fieldOf q) (ent checks n i) (vec v) c)

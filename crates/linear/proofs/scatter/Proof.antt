@@ -1,16 +1,14 @@
-use Rattle.linear.proofs.Columns.{scattered-more, length-scattered}
-use Rattle.linear.specs.Marks.{scattered}
-use Rattle.linear.specs.System.{vec}
-use lib.ListN.{length, set}
+-- `scatter` meets its contract. Assumes nothing.
 use mathlib.Core.Path.{_≡_, refl, ap, _∙_}
 use Prim.Native.Nat.{_-_, _≤_}
--- `scatter` meets its contract. Assumes nothing.
 use native.Mathlib.Omega.{arith}
 use borrow.Author.Needs.{needs}
+use lib.ListN.{length}
+use Rattle.linear.specs.Marks.{scattered}
+use Rattle.linear.specs.System.{vec}
+use Rattle.linear.proofs.Columns.{scattered-more, length-scattered}
 use Rattle.linear.proofs.scatter.Statement.{statement}
 use Rattle.linear.proofs.scatter.Tie as tie
-use Rattle.linear.proofs.scatter.Reads as reads
-use Rattle.linear.proofs.scatter.Lts as lts
 
 abbrev Inv-loop : tie.InvT-loop
 Inv-loop v₀ places k x t₀ v t = (t ≤ k) × (v ≡ scattered v₀ (vec places) (vec x) t)
@@ -33,12 +31,8 @@ shared-slice-read-v c = search needs
 
 slice-write-v : tie.Need-slice-write-v Inv-loop μ-loop
 slice-write-v c = let s = c .before .before .before .before in
-    omega (
-      arith,
-      s .pre .2 (c .before .before .before .loop .t) (omega arith),
-      ap length (c .before .before .before .loop .inv .1),
-      length-scattered (s .args .v .now) (vec (s .args .places .now)) (vec (s .args .x .now)) (c .before .before .before .loop .t),
-    )
+    omega (arith, s .pre .2 (c .before .before .before .loop .t) (omega arith), ap length (c .before .before .before .loop .inv .1),
+    length-scattered (s .args .v .now) (vec (s .args .places .now)) (vec (s .args .x .now)) (c .before .before .before .loop .t))
 
 add-t : tie.Need-add-t Inv-loop μ-loop
 add-t c = search needs

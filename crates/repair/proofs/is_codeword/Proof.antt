@@ -23,28 +23,51 @@ slice-aggregate-rows-hold : tie.Need-slice-aggregate-rows-hold
 slice-aggregate-rows-hold c = search needs
 
 rows-hold-requires : tie.Need-rows-hold-requires
-rows-hold-requires c κs = (
-  (c .before .before .before .products .ensures, c .before .before .row-checks .ensures),
-  le-of-eq (sym (test-length _ _ (sym (c .before .before .before .before .before .test-refusal .ensures) ∙ c .before .before .before .before .if1 .left))),
-)
+rows-hold-requires c κs =
+    let test-refusal = c .before .before .before .before .before .test-refusal in
+    let if1 = c .before .before .before .before .if1 in
+    let products = c .before .before .before .products in
+    let row-checks = c .before .before .row-checks in (
+      (products .ensures, row-checks .ensures),
+      le-of-eq (sym (test-length _ _ (sym (test-refusal .ensures) ∙ if1 .left))),
+    )
 
 returns-2 : tie.Need-returns-2
-returns-2 c = tested-no-row _ _ (c .before .before .before .before .before .before .before .test-refusal .ensures) (c .before .before .before .before .before .before .if1 .left) (c .before .rows-hold .ensures) (not-true _ (c .if2 .taken))
+returns-2 c =
+    let test-refusal = c .before .before .before .before .before .before .before .test-refusal in
+    let if1 = c .before .before .before .before .before .before .if1 in
+    tested-no-row _ _ (test-refusal .ensures) (if1 .left) (c .before .rows-hold .ensures) (not-true _ (c .if2 .taken))
 
 slice-aggregate-levels-hold : tie.Need-slice-aggregate-levels-hold
 slice-aggregate-levels-hold c = search needs
 
 levels-hold-requires : tie.Need-levels-hold-requires
-levels-hold-requires c κs = (
-  (c .before .before .before .before .before .before .before .products .ensures, c .before .before .before .before .before .before .row-checks .ensures),
-  le-of-eq (sym (test-length _ _ (sym (c .before .before .before .before .before .before .before .before .before .test-refusal .ensures) ∙ c .before .before .before .before .before .before .before .before .if1 .left))),
-)
+levels-hold-requires c κs =
+    let test-refusal = c .before .before .before .before .before .before .before .before .before .test-refusal in
+    let if1 = c .before .before .before .before .before .before .before .before .if1 in
+    let products = c .before .before .before .before .before .before .before .products in
+    let row-checks = c .before .before .before .before .before .before .row-checks in (
+      (products .ensures, row-checks .ensures),
+      le-of-eq (sym (test-length _ _ (sym (test-refusal .ensures) ∙ if1 .left))),
+    )
 
 returns-3 : tie.Need-returns-3
-returns-3 c = tested-no-level _ _ (c .before .before .before .before .before .before .before .before .before .before .before .test-refusal .ensures) (c .before .before .before .before .before .before .before .before .before .before .if1 .left) (c .before .before .before .before .before .rows-hold .ensures) (c .before .levels-hold .ensures) (not-false _ (c .before .before .before .before .if2 .left)) (not-true _ (c .if3 .taken))
+returns-3 c =
+    let test-refusal = c .before .before .before .before .before .before .before .before .before .before .before .test-refusal in
+    let if1 = c .before .before .before .before .before .before .before .before .before .before .if1 in
+    let rows-hold = c .before .before .before .before .before .rows-hold in
+    let if2 = c .before .before .before .before .if2 in
+    tested-no-level _ _ (test-refusal .ensures) (if1 .left) (rows-hold .ensures) (c .before .levels-hold .ensures)
+    (not-false _ (if2 .left)) (not-true _ (c .if3 .taken))
 
 returns-4 : tie.Need-returns-4
-returns-4 c = tested-yes _ _ (c .before .before .before .before .before .before .before .before .before .before .before .test-refusal .ensures) (c .before .before .before .before .before .before .before .before .before .before .if1 .left) (c .before .before .before .before .before .rows-hold .ensures) (c .before .levels-hold .ensures) (not-false _ (c .before .before .before .before .if2 .left)) (not-false _ (c .if3 .left))
+returns-4 c =
+    let test-refusal = c .before .before .before .before .before .before .before .before .before .before .before .test-refusal in
+    let if1 = c .before .before .before .before .before .before .before .before .before .before .if1 in
+    let rows-hold = c .before .before .before .before .before .rows-hold in
+    let if2 = c .before .before .before .before .if2 in
+    tested-yes _ _ (test-refusal .ensures) (if1 .left) (rows-hold .ensures) (c .before .levels-hold .ensures)
+    (not-false _ (if2 .left)) (not-false _ (c .if3 .left))
 
 pub is-codeword-spec : {M : Type 1} → statement M
 is-codeword-spec =

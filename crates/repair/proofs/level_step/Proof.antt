@@ -12,21 +12,32 @@ bench-refusal-requires c κs = search needs
 
 returns : tie.Need-returns
 unfolding unasked stepped
-returns c = step-refused (c .before .before .before .before .before .before .args .t1) (c .before .bench-refusal .ensures) (c .if1 .taken)
+returns c =
+    let start = c .before .before .before .before .before .before in
+    step-refused (start .args .t1) (c .before .bench-refusal .ensures) (c .if1 .taken)
 
 levels-requires : tie.Need-levels-requires
 levels-requires c κs = search needs
 
 returns-2 : tie.Need-returns-2
 unfolding unasked stepped
-returns-2 c = step-top (c .before .before .before .before .before .before .before .before .args .t1) (c .before .before .before .bench-refusal .ensures) (c .before .before .if1 .left) (rw (c .before .levels .ensures) at (c .if2 .taken))
+returns-2 c =
+    let start = c .before .before .before .before .before .before .before .before in
+    let bench-refusal = c .before .before .before .bench-refusal in
+    let if1 = c .before .before .if1 in
+    step-top (start .args .t1) (bench-refusal .ensures) (if1 .left) (rw (c .before .levels .ensures) at (c .if2 .taken))
 
 raise-requires : tie.Need-raise-requires
 raise-requires c κs = rw (c .before .levels .ensures) at (c .if2 .left)
 
 returns-3 : tie.Need-returns-3
 unfolding unasked
-returns-3 c = c .raise .ensures ∙ step-on (c .before .before .before .before .before .before .before .before .before .args .t1) (c .before .before .before .before .bench-refusal .ensures) (c .before .before .before .if1 .left) (rw (c .before .before .levels .ensures) at (c .before .if2 .left))
+returns-3 c =
+    let start = c .before .before .before .before .before .before .before .before .before in
+    let bench-refusal = c .before .before .before .before .bench-refusal in
+    let if1 = c .before .before .before .if1 in
+    let levels = c .before .before .levels in
+    c .raise .ensures ∙ step-on (start .args .t1) (bench-refusal .ensures) (if1 .left) (rw (levels .ensures) at (c .before .if2 .left))
 
 pub level-step-spec : {M : Type 1} → statement M
 level-step-spec =

@@ -1,16 +1,12 @@
-use Rattle.linear.proofs.Turns.{Adding, adding-start, adding-turn, adding-end, added-none}
-use Rattle.field.proofs.Fields.{our-field}
+-- `system::add_row` meets its contract. Assumes nothing.
+use Prim.Native.Nat.{_-_}
+use borrow.Author.Needs.{needs}
 use Rattle.field.specs.Ours.{fieldOf}
 use Rattle.field.specs.Field.{_⊕_}
-use Prim.Native.Nat.{_-_}
--- `system::add_row` meets its contract. Assumes nothing.
-use native.Mathlib.Omega.{arith}
-use borrow.Author.Needs.{needs}
+use Rattle.field.proofs.Fields.{our-field}
+use Rattle.linear.proofs.Turns.{Adding, adding-start, adding-turn, adding-end, added-none}
 use Rattle.linear.proofs.system.add_row.Statement.{statement}
 use Rattle.linear.proofs.system.add_row.Tie as tie
-use Rattle.linear.proofs.system.add_row.Reads as reads
-use Rattle.linear.proofs.system.add_row.Lts as lts
-use Rattle.field.proofs.product.Reads as product-reads
 
 abbrev Inv-loop : tie.InvT-loop
 Inv-loop q table a₀ w i p c f s t j₀ a j = Adding (fieldOf q) a₀ a w i p f j

@@ -1,18 +1,14 @@
-use mathlib.Core.Path.{refl}
-use Rattle.linear.proofs.Turns.{Clearing, clearing-start, clearing-skip, clearing-turn, clearing-end}
-use Rattle.linear.proofs.Rows.{row-fits}
-use Rattle.field.specs.Ours.{fieldOf}
-use mathlib.Core.Logic.{⊎-elim}
-use mathlib.Core.Path.{_∙_}
-use Prim.Native.Nat.{_-_}
 -- `system::clear_column` meets its contract. Assumes nothing.
+use mathlib.Core.Path.{refl, _∙_}
+use mathlib.Core.Logic.{⊎-elim}
+use Prim.Native.Nat.{_-_}
 use native.Mathlib.Omega.{arith}
 use borrow.Author.Needs.{needs}
+use Rattle.field.specs.Ours.{fieldOf}
+use Rattle.linear.proofs.Turns.{Clearing, clearing-start, clearing-skip, clearing-turn, clearing-end}
+use Rattle.linear.proofs.Rows.{row-fits}
 use Rattle.linear.proofs.system.clear_column.Statement.{statement}
 use Rattle.linear.proofs.system.clear_column.Tie as tie
-use Rattle.linear.proofs.system.clear_column.Reads as reads
-use Rattle.linear.proofs.system.clear_column.Lts as lts
-use Rattle.linear.proofs.system.add_row.Reads as add-row-reads
 
 abbrev Inv-loop : tie.InvT-loop
 Inv-loop q table a₀ m w p c i₀ a i = Clearing (fieldOf q) a₀ a w p c i
@@ -36,13 +32,9 @@ add-row-requires : tie.Need-add-row-requires Inv-loop μ-loop
 add-row-requires c κs = let s = c .before .before .before .before .before .before in
     let inv = c .before .before .before .before .loop .inv in
     let here = row-fits (s .args .m) (s .args .w) (c .before .before .before .before .loop .i) (omega arith) in
-    let there = row-fits (s .args .m) (s .args .w) (s .args .p) (omega arith) in (
-      s .pre .0,
-      (
-        (omega (arith, inv .size, here), omega (arith, inv .size, there), omega arith),
-        (inv .elements, λ j l. inv .kept j (omega arith) ∙ s .pre .1 .1 .1 j l),
-      ),
-    )
+    let there = row-fits (s .args .m) (s .args .w) (s .args .p) (omega arith) in
+    (s .pre .0, ((omega (arith, inv .size, here), omega (arith, inv .size, there), omega arith),
+    (inv .elements, λ j l. inv .kept j (omega arith) ∙ s .pre .1 .1 .1 j l)))
 
 add-i : tie.Need-add-i Inv-loop μ-loop
 add-i c = search needs

@@ -1,14 +1,11 @@
-use Rattle.linear.proofs.Elimination.{free-away, dependent-yes, dependent-no}
-use Rattle.field.proofs.Fields.{our-field}
-use lib.Seq.{getD-set-same, getD-set-other}
 -- `system::find_dependency` meets its contract. Assumes nothing.
 use native.Mathlib.Omega.{arith}
 use borrow.Author.Needs.{needs}
+use lib.Seq.{getD-set-same, getD-set-other}
+use Rattle.field.proofs.Fields.{our-field}
+use Rattle.linear.proofs.Elimination.{free-away, dependent-yes, dependent-no}
 use Rattle.linear.proofs.system.find_dependency.Statement.{statement}
 use Rattle.linear.proofs.system.find_dependency.Tie as tie
-use Rattle.linear.proofs.system.find_dependency.Reads as reads
-use Rattle.linear.proofs.system.find_dependency.Lts as lts
-use Rattle.linear.proofs.system.read_off.Reads as read-off-reads
 
 returns : tie.Need-returns
 returns c = let s = c .before .before .before .before in dependent-no _ (our-field (s .args .q)) _ _ _ _ _ _ _ (s .pre .1 .1 .0) (s .pre .1 .1 .1) (c .if1 .taken)

@@ -1,15 +1,13 @@
-use Rattle.linear.proofs.Rows.{row-fits}
-use borrow.Author.Count.{below-more}
-use Rattle.linear.specs.System.{ent}
+-- `system::find_row` meets its contract. Assumes nothing.
 use mathlib.Core.Path.{_≡_}
 use Prim.Native.Nat.{ℕ, _≤_, _<_, _-_}
--- `system::find_row` meets its contract. Assumes nothing.
 use native.Mathlib.Omega.{arith}
+use borrow.Author.Count.{below-more}
 use borrow.Author.Needs.{needs}
+use Rattle.linear.specs.System.{ent}
+use Rattle.linear.proofs.Rows.{row-fits}
 use Rattle.linear.proofs.system.find_row.Statement.{statement}
 use Rattle.linear.proofs.system.find_row.Tie as tie
-use Rattle.linear.proofs.system.find_row.Reads as reads
-use Rattle.linear.proofs.system.find_row.Lts as lts
 
 abbrev Inv-loop : tie.InvT-loop
 Inv-loop a m w r c i₀ i = (r ≤ i) × (i ≤ m) × ((x : ℕ) → x < i → r ≤ x → ent a w x c ≡ 0)

@@ -1,14 +1,10 @@
-use Rattle.linear.proofs.Elimination.{consistent-yes, consistent-no}
-use Rattle.field.proofs.Fields.{our-field}
 -- `system::find_solution` meets its contract. Assumes nothing.
 use native.Mathlib.Omega.{arith}
 use borrow.Author.Needs.{needs}
+use Rattle.field.proofs.Fields.{our-field}
+use Rattle.linear.proofs.Elimination.{consistent-yes, consistent-no}
 use Rattle.linear.proofs.system.find_solution.Statement.{statement}
 use Rattle.linear.proofs.system.find_solution.Tie as tie
-use Rattle.linear.proofs.system.find_solution.Reads as reads
-use Rattle.linear.proofs.system.find_solution.Lts as lts
-use Rattle.linear.proofs.system.find_row.Reads as find-row-reads
-use Rattle.linear.proofs.system.read_off.Reads as read-off-reads
 
 add-find-row : tie.Need-add-find-row
 add-find-row c = search needs

@@ -1,19 +1,13 @@
-use Rattle.linear.proofs.Elimination.{added-zero, pivoted}
-use Rattle.linear.proofs.Rows.{row-fits}
-use Rattle.field.proofs.Fields.{our-field}
-use Rattle.field.specs.Field.{_⊕_, mul}
-use mathlib.Core.Path.{_∙_, ap}
 -- `system::pivot` meets its contract. Assumes nothing.
+use mathlib.Core.Path.{_∙_, ap}
 use native.Mathlib.Omega.{arith}
 use borrow.Author.Needs.{needs}
+use Rattle.field.specs.Field.{_⊕_, mul}
+use Rattle.field.proofs.Fields.{our-field}
+use Rattle.linear.proofs.Elimination.{added-zero, pivoted}
+use Rattle.linear.proofs.Rows.{row-fits}
 use Rattle.linear.proofs.system.pivot.Statement.{statement}
 use Rattle.linear.proofs.system.pivot.Tie as tie
-use Rattle.linear.proofs.system.pivot.Reads as reads
-use Rattle.linear.proofs.system.pivot.Lts as lts
-use Rattle.field.proofs.inverse.Reads as inverse-reads
-use Rattle.field.proofs.product.Reads as product-reads
-use Rattle.linear.proofs.system.add_row.Reads as add-row-reads
-use Rattle.linear.proofs.system.clear_column.Reads as clear-column-reads
 
 mul-x : tie.Need-mul-x
 mul-x c = let s = c .before in omega (arith, row-fits (s .args .m) (s .args .w) (s .args .r) (omega arith))
@@ -48,17 +42,10 @@ add-row-requires c κs = let s = c .before .before .before .before .before .befo
 clear-column-requires : tie.Need-clear-column-requires
 clear-column-requires c κs = let s = c .before .before .before .before .before .before .before .before .before .before in
     let added = c .before .before .before .add-row in
-    let low = s .pre .1 .1 .1 .1 in (
-      s .pre .0,
-      (
-        (omega (arith, added .kept .1 .1 .0), omega arith, omega arith),
-        (
-          added .ensures .1,
-          λ j l. added-zero _ (our-field (s .args .q)) _ _ _ _ _ _ _ (added .ensures .0) (omega arith)
-              (low (s .args .r) (omega arith) (omega arith) j l) (low (s .args .i) (omega arith) (omega arith) j l),
-        ),
-      ),
-    )
+    let low = s .pre .1 .1 .1 .1 in
+    (s .pre .0, ((omega (arith, added .kept .1 .1 .0), omega arith, omega arith), (added .ensures .1,
+    λ j l. added-zero _ (our-field (s .args .q)) _ _ _ _ _ _ _ (added .ensures .0) (omega arith)
+    (low (s .args .r) (omega arith) (omega arith) j l) (low (s .args .i) (omega arith) (omega arith) j l))))
 
 same-length : tie.Need-same-length
 same-length c = search needs

@@ -1,22 +1,17 @@
-use lib.ListN.{length-set}
-use mathlib.Core.Path.{refl}
+-- `system::read_off` meets its contract. Assumes nothing.
+use mathlib.Core.Path.{refl, _≡_}
+use Prim.Native.Nat.{_+_, _-_, _≤_}
+use native.Mathlib.Omega.{arith}
+use borrow.Author.Needs.{needs}
+use lib.ListN.{length-set, length}
+use Rattle.field.specs.Ours.{fieldOf}
+use Rattle.field.proofs.Fields.{our-field}
+use Rattle.linear.specs.System.{vec, ent, ReadOff}
 use Rattle.linear.proofs.Turns.{reading-turn}
 use Rattle.linear.proofs.Elimination.{read-start}
 use Rattle.linear.proofs.Rows.{row-fits}
-use Rattle.linear.specs.System.{vec, ent, ReadOff}
-use Rattle.field.proofs.Fields.{our-field}
-use Rattle.field.specs.Ours.{fieldOf}
-use lib.ListN.{length}
-use mathlib.Core.Path.{_≡_, _∙_}
-use Prim.Native.Nat.{_+_, _-_, _≤_}
--- `system::read_off` meets its contract. Assumes nothing.
-use native.Mathlib.Omega.{arith}
-use borrow.Author.Needs.{needs}
 use Rattle.linear.proofs.system.read_off.Statement.{statement}
 use Rattle.linear.proofs.system.read_off.Tie as tie
-use Rattle.linear.proofs.system.read_off.Reads as reads
-use Rattle.linear.proofs.system.read_off.Lts as lts
-use Rattle.linear.proofs.system.wipe.Reads as wipe-reads
 
 abbrev Inv-loop : tie.InvT-loop
 Inv-loop q a m k pivots r u z₀ w t₀ z t = (t ≤ r) × (length z ≡ length z₀) × ReadOff (fieldOf q) (ent a w) m k (vec pivots) u t (vec z)

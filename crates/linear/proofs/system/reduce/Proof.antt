@@ -1,17 +1,13 @@
-use Rattle.linear.proofs.Turns.{Reducing, reducing-start, reducing-skip, reducing-turn}
-use Rattle.field.specs.Ours.{fieldOf}
-use mathlib.Core.Logic.{⊎-elim}
-use mathlib.Core.Path.{_≡_, _∙_}
-use Prim.Native.Nat.{_-_}
 -- `system::reduce` meets its contract. Assumes nothing.
+use mathlib.Core.Logic.{⊎-elim}
+use mathlib.Core.Path.{_≡_}
+use Prim.Native.Nat.{_-_}
 use native.Mathlib.Omega.{arith}
 use borrow.Author.Needs.{needs}
+use Rattle.field.specs.Ours.{fieldOf}
+use Rattle.linear.proofs.Turns.{Reducing, reducing-start, reducing-skip, reducing-turn}
 use Rattle.linear.proofs.system.reduce.Statement.{statement}
 use Rattle.linear.proofs.system.reduce.Tie as tie
-use Rattle.linear.proofs.system.reduce.Reads as reads
-use Rattle.linear.proofs.system.reduce.Lts as lts
-use Rattle.linear.proofs.system.find_row.Reads as find-row-reads
-use Rattle.linear.proofs.system.pivot.Reads as pivot-reads
 
 abbrev Inv-loop : tie.InvT-loop
 Inv-loop q table a₀ m k pivots₀ w r₀ free₀ c₀ a pivots r free c = Reducing (fieldOf q) a₀ a pivots₀ pivots m k w r free c

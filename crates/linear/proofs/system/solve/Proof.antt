@@ -1,15 +1,9 @@
-use Rattle.linear.proofs.Elimination.{same-consistency, same-dependence}
-use Rattle.field.proofs.Fields.{our-field}
 -- `system::solve` meets its contract. Assumes nothing.
 use native.Mathlib.Omega.{arith}
-use borrow.Author.Needs.{needs}
+use Rattle.field.proofs.Fields.{our-field}
+use Rattle.linear.proofs.Elimination.{same-consistency, same-dependence}
 use Rattle.linear.proofs.system.solve.Statement.{statement}
 use Rattle.linear.proofs.system.solve.Tie as tie
-use Rattle.linear.proofs.system.solve.Reads as reads
-use Rattle.linear.proofs.system.solve.Lts as lts
-use Rattle.linear.proofs.system.find_dependency.Reads as find-dependency-reads
-use Rattle.linear.proofs.system.find_solution.Reads as find-solution-reads
-use Rattle.linear.proofs.system.reduce.Reads as reduce-reads
 
 reduce-requires : tie.Need-reduce-requires
 reduce-requires c κs = let pre = c .before .before .before .before .before .before .pre in (pre .0, ((pre .1 .0 .0, pre .1 .0 .1), pre .1 .1))
@@ -17,30 +11,28 @@ reduce-requires c κs = let pre = c .before .before .before .before .before .bef
 find-solution-requires : tie.Need-find-solution-requires
 find-solution-requires c κs = let pre = c .before .before .before .before .before .before .before .before .before .before .before .before .before .before .pre .1 .0 in
     let reduced = c .before .before .before .before .before .before .before .reduce in
-    let form = reduced .ensures .0 in (
-      (omega (arith, reduced .kept .1 .1 .0, pre .0), omega (arith, reduced .kept .1 .1 .1 .1 .1 .0, form .cols, pre .1), pre .2),
-      (reduced .ensures .1 .1 .1, form),
-    )
+    let form = reduced .ensures .0 in
+    ((omega (arith, reduced .kept .1 .1 .0, pre .0), omega (arith, reduced .kept .1 .1 .1 .1 .1 .0, form .cols, pre .1), pre .2),
+    (reduced .ensures .1 .1 .1, form))
 
 find-dependency-requires : tie.Need-find-dependency-requires
 find-dependency-requires c κs = let pre = c .before .before .before .before .before .before .before .before .before .before .before .before .before .before .before .before .before .before .before .before .pre .1 .0 in
     let reduced = c .before .before .before .before .before .before .before .before .before .before .before .before .before .reduce in
-    let form = reduced .ensures .0 in (
-      (omega (arith, reduced .kept .1 .1 .0, pre .0), omega (arith, reduced .kept .1 .1 .1 .1 .1 .0, form .cols, pre .1), pre .3),
-      (reduced .ensures .1 .1 .1, (form, reduced .ensures .1 .0)),
-    )
+    let form = reduced .ensures .0 in
+    ((omega (arith, reduced .kept .1 .1 .0, pre .0), omega (arith, reduced .kept .1 .1 .1 .1 .1 .0, form .cols, pre .1), pre .3),
+    (reduced .ensures .1 .1 .1, (form, reduced .ensures .1 .0)))
 
 same-length : tie.Need-same-length
-same-length c = search needs
+same-length c = c .before .before .before .before .before .before .before .before .before .before .before .before .before .before .before .before .reduce .kept .1 .1 .0
 
 same-length-2 : tie.Need-same-length-2
-same-length-2 c = search needs
+same-length-2 c = c .before .before .before .before .before .before .before .before .before .before .before .before .before .before .before .before .reduce .kept .1 .1 .1 .1 .1 .0
 
 same-length-3 : tie.Need-same-length-3
-same-length-3 c = search needs
+same-length-3 c = c .before .before .before .before .before .before .before .before .find-solution .kept .1 .1 .1 .1 .1 .1 .0
 
 same-length-4 : tie.Need-same-length-4
-same-length-4 c = search needs
+same-length-4 c = c .before .before .find-dependency .kept .1 .1 .1 .1 .1 .1 .1 .0
 
 returns : tie.Need-returns
 returns c = let s = c .before .before .before .before .before .before .before .before .before .before .before .before .before .before .before .before .before .before .before .before .before .before .before in

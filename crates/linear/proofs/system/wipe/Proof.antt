@@ -1,19 +1,15 @@
-use lib.Seq.{getD-set-same, getD-set-other}
-use lib.ListN.{length-set, List·getD-eq-default}
-use borrow.Author.Count.{below-more}
-use native.Mathlib.Decide.{decLt}
-use mathlib.Core.Path.{_∙_}
-use Rattle.linear.specs.System.{vec}
-use lib.ListN.{length}
-use mathlib.Core.Path.{_≡_}
-use Prim.Native.Nat.{ℕ, _≤_, _<_, _-_}
 -- `system::wipe` meets its contract. Assumes nothing.
+use mathlib.Core.Path.{_∙_, _≡_}
+use Prim.Native.Nat.{ℕ, _≤_, _<_, _-_}
+use native.Mathlib.Decide.{decLt}
 use native.Mathlib.Omega.{arith}
+use borrow.Author.Count.{below-more}
 use borrow.Author.Needs.{needs}
+use lib.Seq.{getD-set-same, getD-set-other}
+use lib.ListN.{length-set, List·getD-eq-default, length}
+use Rattle.linear.specs.System.{vec}
 use Rattle.linear.proofs.system.wipe.Statement.{statement}
 use Rattle.linear.proofs.system.wipe.Tie as tie
-use Rattle.linear.proofs.system.wipe.Reads as reads
-use Rattle.linear.proofs.system.wipe.Lts as lts
 
 abbrev Inv-loop : tie.InvT-loop
 Inv-loop z₀ j₀ z j = (j ≤ length z) × (length z ≡ length z₀) × ((x : ℕ) → x < j → vec z x ≡ 0)
@@ -35,10 +31,10 @@ loop-less c = simp length-set (omega arith)
 
 loop-again : tie.Need-loop-again Inv-loop μ-loop
 loop-again c = let inv = c .before .loop .inv in (
-  simp length-set (omega arith),
-  simp length-set (inv .1),
-  below-more _ _ (λ x l. getD-set-other (c .before .loop .z) _ _ 0 0 (omega arith) ∙ inv .2 x l) (getD-set-same (c .before .loop .z) _ 0 0 (omega arith)),
-)
+      simp length-set (omega arith),
+      simp length-set (inv .1),
+      below-more _ _ (λ x l. getD-set-other (c .before .loop .z) _ _ 0 0 (omega arith) ∙ inv .2 x l) (getD-set-same (c .before .loop .z) _ 0 0 (omega arith)),
+    )
 
 same-length : tie.Need-same-length Inv-loop μ-loop
 same-length c = search needs

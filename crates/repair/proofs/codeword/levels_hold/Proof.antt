@@ -27,7 +27,10 @@ totals-hold-requires c κs =
     (start .pre .0, (start .pre .1, omega (arith, levels-most (start .args .plan), c .before .loop .inv .count)))
 
 returns : tie.Need-returns Inv-loop μ-loop
-returns c = levels-fail (c .before .before .before .loop .inv) (c .before .before .loop-test .taken) (c .before .totals-hold .ensures) (not-true _ (c .if1 .taken))
+returns c =
+    let head = c .before .before .before .loop in
+    let turn = c .before .before .loop-test in
+    levels-fail (head .inv) (turn .taken) (c .before .totals-hold .ensures) (not-true _ (c .if1 .taken))
 
 add-t : tie.Need-add-t Inv-loop μ-loop
 add-t c = search needs
@@ -36,7 +39,10 @@ loop-less : tie.Need-loop-less Inv-loop μ-loop
 loop-less c = search needs
 
 loop-again : tie.Need-loop-again Inv-loop μ-loop
-loop-again c = levels-turn (c .before .before .before .loop .inv) (c .before .before .loop-test .taken) (c .before .totals-hold .ensures) (not-false _ (c .if1 .left))
+loop-again c =
+    let head = c .before .before .before .loop in
+    let turn = c .before .before .loop-test in
+    levels-turn (head .inv) (turn .taken) (c .before .totals-hold .ensures) (not-false _ (c .if1 .left))
 
 returns-2 : tie.Need-returns-2 Inv-loop μ-loop
 returns-2 c = levels-end (c .before .loop .inv) (c .loop-test .left)

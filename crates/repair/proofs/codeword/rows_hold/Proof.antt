@@ -25,10 +25,14 @@ loop-holds : tie.Need-loop-holds Inv-loop μ-loop
 loop-holds c = record { is = numbers _ (c .before .facts-of .ensures); count = c .sums-to .ensures; walk = walking-starts _ _ _ }
 
 mul-start : tie.Need-mul-start Inv-loop μ-loop
-mul-start c = omega (arith, rows-within (c .before .before .before .before .before .before .pre .1) (c .before .before .before .before .before .before .pre .0 .1) (c .loop-test .taken) (c .before .loop .inv))
+mul-start c =
+    let start = c .before .before .before .before .before .before in
+    omega (arith, rows-within (start .pre .1) (start .pre .0 .1) (c .loop-test .taken) (c .before .loop .inv))
 
 add-end : tie.Need-add-end Inv-loop μ-loop
-add-end c = omega (arith, rows-within (c .before .before .before .before .before .before .pre .1) (c .before .before .before .before .before .before .pre .0 .1) (c .loop-test .taken) (c .before .loop .inv))
+add-end c =
+    let start = c .before .before .before .before .before .before in
+    omega (arith, rows-within (start .pre .1) (start .pre .0 .1) (c .loop-test .taken) (c .before .loop .inv))
 
 sub-vanishes : tie.Need-sub-vanishes Inv-loop μ-loop
 sub-vanishes c = omega arith
@@ -37,13 +41,22 @@ part-vanishes-start : tie.Need-part-vanishes-start Inv-loop μ-loop
 part-vanishes-start c = search needs
 
 part-vanishes-end : tie.Need-part-vanishes-end Inv-loop μ-loop
-part-vanishes-end c = rows-within (c .before .before .before .before .before .before .pre .1) (c .before .before .before .before .before .before .pre .0 .1) (c .loop-test .taken) (c .before .loop .inv)
+part-vanishes-end c =
+    let start = c .before .before .before .before .before .before in
+    rows-within (start .pre .1) (start .pre .0 .1) (c .loop-test .taken) (c .before .loop .inv)
 
 vanishes-requires : tie.Need-vanishes-requires Inv-loop μ-loop
-vanishes-requires c κs = (c .before .before .before .before .before .before .before .pre .0 .0, rows-checks (c .before .before .before .before .before .before .before .pre .1) (c .before .before .before .before .before .before .before .pre .0 .1) (c .before .loop-test .taken) (c .before .before .loop .inv))
+vanishes-requires c κs =
+    let start = c .before .before .before .before .before .before .before in
+    let head = c .before .before .loop in
+    (start .pre .0 .0, rows-checks (start .pre .1) (start .pre .0 .1) (c .before .loop-test .taken) (head .inv))
 
 returns : tie.Need-returns Inv-loop μ-loop
-returns c = rows-fail (c .before .before .before .before .before .before .before .before .before .pre .1) (c .before .before .before .before .before .before .before .before .before .pre .0 .1) (c .before .before .before .loop-test .taken) (c .before .before .before .before .loop .inv) (c .before .vanishes .ensures) (not-true _ (c .if1 .taken))
+returns c =
+    let start = c .before .before .before .before .before .before .before .before .before in
+    let head = c .before .before .before .before .loop in
+    let turn = c .before .before .before .loop-test in
+    rows-fail (start .pre .1) (start .pre .0 .1) (turn .taken) (head .inv) (c .before .vanishes .ensures) (not-true _ (c .if1 .taken))
 
 add-r : tie.Need-add-r Inv-loop μ-loop
 add-r c = search needs
@@ -52,7 +65,11 @@ loop-less : tie.Need-loop-less Inv-loop μ-loop
 loop-less c = search needs
 
 loop-again : tie.Need-loop-again Inv-loop μ-loop
-loop-again c = rows-turn (c .before .before .before .before .before .before .before .before .before .pre .1) (c .before .before .before .before .before .before .before .before .before .pre .0 .1) (c .before .before .before .loop-test .taken) (c .before .before .before .before .loop .inv) (c .before .vanishes .ensures) (not-false _ (c .if1 .left))
+loop-again c =
+    let start = c .before .before .before .before .before .before .before .before .before in
+    let head = c .before .before .before .before .loop in
+    let turn = c .before .before .before .loop-test in
+    rows-turn (start .pre .1) (start .pre .0 .1) (turn .taken) (head .inv) (c .before .vanishes .ensures) (not-false _ (c .if1 .left))
 
 returns-2 : tie.Need-returns-2 Inv-loop μ-loop
 returns-2 c = rows-end (search needs) (c .before .loop .inv)

@@ -1,13 +1,18 @@
 -- `codeword::test_refusal` meets its contract: the tests in their order. Assumes nothing.
 use mathlib.Core.Path.{_≡_, refl, sym, ap, _∙_}
-use mathlib.Core.Bool.{true}
+use mathlib.Core.Bool.{Bool, true}
+use mathlib.Core.List.{List}
+use Prim.Native.Nat.{ℕ}
 use borrow.Author.Needs.{needs}
 use borrow.Author.Tests.{not-true, not-false, eq-eqb, ne-eqb}
 use denote.Ref.{now}
+use Rattle.field.specs.Field.{size}
 use Rattle.field.proofs.Ring.{size-pos}
-use Rattle.repair.specs.Plan.{planOf, known}
+use Rattle.repair.specs.Plan.{Plan, planOf, known}
 use Rattle.repair.specs.Refusal.{unasked, inMemory, stripeFits, allBelow}
 use Rattle.repair.specs.Codeword.{testRefusal}
+use Rattle.repair.specs.Tables.{FactsOf}
+use Rattle.repair.specs.declared.plan.Facts.{Facts}
 use Rattle.repair.proofs.Refusals.{none-fails, passes, fails}
 use Rattle.repair.proofs.codeword.test_refusal.Statement.{statement}
 use Rattle.repair.proofs.codeword.test_refusal.Tie as tie
@@ -18,6 +23,10 @@ is-known c = sym (c .before .is-known .ensures) ∙ not-false _ (c .if1 .left)
 fits : (c : tie.Else2) → let a = c .before .before .before .before .before .args in stripeFits (planOf (a .plan)) (now (a .stripe)) ≡ true
 unfolding stripeFits
 fits c = eq-eqb _ _ (c .if2 .left ∙ c .before .facts-of .ensures .symbols)
+
+-- the test of the symbols, by the field's number
+below : (P : Plan) (stripe : List ℕ) {f : Facts} {b : Bool} → FactsOf P f → b ≡ allBelow (f .field) stripe → allBelow (size (P .field)) stripe ≡ b
+below P stripe is e = ap (λ q. allBelow q stripe) (sym (is .field .its-size)) ∙ sym e
 
 is-known-requires : tie.Need-is-known-requires
 is-known-requires c κs = search needs
@@ -42,16 +51,19 @@ all-below-requires c κs = rw (c .before .facts-of .ensures .field .its-size) (s
 returns-3 : tie.Need-returns-3
 unfolding unasked inMemory testRefusal
 returns-3 c =
+    let facts-of = c .before .before .before .facts-of in
     sym
     (passes 10 _ (is-known (c .before .before .before .before)) ∙ passes 11 _ (fits (c .before .before)) ∙ passes 15 _ refl ∙ passes 12 _ refl
-    ∙ fails 13 _ (ap (λ q. allBelow q (now (c .before .before .before .before .before .before .before .args .stripe))) (sym (c .before .before .before .facts-of .ensures .field .its-size)) ∙ sym (c .before .all-below .ensures) ∙ not-true _ (c .if3 .taken)))
+    ∙ fails 13 _ (below _ _ (facts-of .ensures) (c .before .all-below .ensures) ∙ not-true _ (c .if3 .taken)))
 
 returns-4 : tie.Need-returns-4
 unfolding unasked inMemory testRefusal
 returns-4 c =
+    let facts-of = c .before .before .before .facts-of in
     sym
     (passes 10 _ (is-known (c .before .before .before .before)) ∙ passes 11 _ (fits (c .before .before)) ∙ passes 15 _ refl ∙ passes 12 _ refl
-    ∙ passes 13 _ (ap (λ q. allBelow q (now (c .before .before .before .before .before .before .before .args .stripe))) (sym (c .before .before .before .facts-of .ensures .field .its-size)) ∙ sym (c .before .all-below .ensures) ∙ not-false _ (c .if3 .left)) ∙ passes 14 _ refl ∙ passes 16 _ refl ∙ none-fails)
+    ∙ passes 13 _ (below _ _ (facts-of .ensures) (c .before .all-below .ensures) ∙ not-false _ (c .if3 .left))
+    ∙ passes 14 _ refl ∙ passes 16 _ refl ∙ none-fails)
 
 pub test-refusal-spec : {M : Type 1} → statement M
 test-refusal-spec =

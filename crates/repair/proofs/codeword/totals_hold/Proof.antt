@@ -1,16 +1,16 @@
 -- `codeword::totals_hold` meets its contract: the invariant is that the totals of the checks passed are zero. Assumes nothing.
-use Prim.Native.Nat.{suc, _-_}
+use Prim.Native.Nat.{suc, _+_, _*_, _-_, _≤_}
 use mathlib.Core.Path.{sym, ap, _∙_}
 use native.Mathlib.Numerals.{add-one}
 use native.Mathlib.Omega.{arith}
 use borrow.Author.Needs.{needs}
 use borrow.Author.Tests.{not-true, not-false}
+use lib.ListN.{length}
+use Rattle.repair.proofs.Plans.{rows-most}
+use Rattle.repair.proofs.Sizes.{checks-length, weights-length}
 use Rattle.repair.proofs.Walk.{walking-starts}
 use Rattle.repair.proofs.Numbers.{weighing, check-within, check-rows, column-room, column-rows}
 use Rattle.repair.proofs.Holding.{TotalsHolding, totals-here, totals-weights, totals-turn, totals-fail, totals-end}
-use Rattle.repair.proofs.Plans.{rows-most}
-use Rattle.repair.proofs.Sizes.{checks-length, weights-length}
-use lib.ListN.{length}
 use Rattle.repair.proofs.codeword.totals_hold.Statement.{statement}
 use Rattle.repair.proofs.codeword.totals_hold.Tie as tie
 
@@ -46,17 +46,34 @@ sums-to-requires-2 : tie.Need-sums-to-requires-2 Inv-loop μ-loop
 sums-to-requires-2 c κs = search needs
 
 loop-holds : tie.Need-loop-holds Inv-loop μ-loop
-loop-holds c = record {
-  by = weighing _ _ (c .before .before .before .before .facts-of .ensures) (c .before .before .before .weights .ensures) (c .before .before .totals .ensures);
-  end = rw add-one at (c .sums-to2 .ensures);
-  walk = rw (c .before .sums-to .ensures) (walking-starts _ _ _);
-}
+loop-holds c =
+    let facts-of = c .before .before .before .before .facts-of in
+    let weights = c .before .before .before .weights in
+    let totals = c .before .before .totals in
+    record {
+      by = weighing _ _ (facts-of .ensures) (weights .ensures) (totals .ensures);
+      end = rw add-one at (c .sums-to2 .ensures);
+      walk = rw (c .before .sums-to .ensures) (walking-starts _ _ _);
+    }
+
+-- check j stands in the table
+inside : (c : tie.In-loop Inv-loop μ-loop)
+    → let start = c .before .before .before .before .before .before .before .before .before in
+    let n = c .before .before .before .before .before .before .facts-of .result .columns in c .before .loop .j * n + n ≤ length (start .args .checks .now)
+inside c =
+    let start = c .before .before .before .before .before .before .before .before .before in
+    let s = c .before .loop .inv in
+    check-within (s .by .is) (start .pre .0 .1) (suc (start .args .t)) (totals-here (start .pre .0 .1) (c .loop-test .taken) s)
 
 mul-start : tie.Need-mul-start Inv-loop μ-loop
-mul-start c = omega (arith, check-within (c .before .loop .inv .by .is) (c .before .before .before .before .before .before .before .before .before .pre .0 .1) (suc (c .before .before .before .before .before .before .before .before .before .args .t)) (totals-here (c .before .before .before .before .before .before .before .before .before .pre .0 .1) (c .loop-test .taken) (c .before .loop .inv)), checks-length (c .before .before .before .before .before .before .before .before .before .args .plan), ap length (c .before .before .before .before .before .before .before .before .before .pre .0 .1))
+mul-start c =
+    let start = c .before .before .before .before .before .before .before .before .before in
+    omega (arith, inside c, checks-length (start .args .plan), ap length (start .pre .0 .1))
 
 add-end : tie.Need-add-end Inv-loop μ-loop
-add-end c = omega (arith, check-within (c .before .loop .inv .by .is) (c .before .before .before .before .before .before .before .before .before .pre .0 .1) (suc (c .before .before .before .before .before .before .before .before .before .args .t)) (totals-here (c .before .before .before .before .before .before .before .before .before .pre .0 .1) (c .loop-test .taken) (c .before .loop .inv)), checks-length (c .before .before .before .before .before .before .before .before .before .args .plan), ap length (c .before .before .before .before .before .before .before .before .before .pre .0 .1))
+add-end c =
+    let start = c .before .before .before .before .before .before .before .before .before in
+    omega (arith, inside c, checks-length (start .args .plan), ap length (start .pre .0 .1))
 
 sub-across : tie.Need-sub-across Inv-loop μ-loop
 sub-across c = omega arith
@@ -65,12 +82,13 @@ part-across-start : tie.Need-part-across-start Inv-loop μ-loop
 part-across-start c = omega arith
 
 part-across-end : tie.Need-part-across-end Inv-loop μ-loop
-part-across-end c = check-within (c .before .loop .inv .by .is) (c .before .before .before .before .before .before .before .before .before .pre .0 .1) (suc (c .before .before .before .before .before .before .before .before .before .args .t)) (totals-here (c .before .before .before .before .before .before .before .before .before .pre .0 .1) (c .loop-test .taken) (c .before .loop .inv))
+part-across-end c = inside c
 
 across-requires : tie.Need-across-requires Inv-loop μ-loop
 across-requires c κs =
+    let head = c .before .before .loop in
     let start = c .before .before .before .before .before .before .before .before .before .before in
-    let s = c .before .before .loop .inv in
+    let s = head .inv in
     let here = totals-here (start .pre .0 .1) (c .before .loop-test .taken) s in (
       start .pre .0 .0,
       (
@@ -81,27 +99,44 @@ across-requires c κs =
 
 slice-aggregate-vanishes : tie.Need-slice-aggregate-vanishes Inv-loop μ-loop
 slice-aggregate-vanishes c =
-    sym (ap length (c .before .before .before .before .loop .inv .by .weighs) ∙ weights-length (c .before .before .before .before .before .before .before .before .before .before .before .before .args .plan) (suc (c .before .before .before .before .before .before .before .before .before .before .before .before .args .t)))
+    let start = c .before .before .before .before .before .before .before .before .before .before .before .before in
+    let head = c .before .before .before .before .loop in
+    sym (ap length (head .inv .by .weighs) ∙ weights-length (start .args .plan) (suc (start .args .t)))
 
 array-share-prefix-column : tie.Need-array-share-prefix-column Inv-loop μ-loop
 array-share-prefix-column c =
+    let head = c .before .before .before .before .loop in
+    let turn = c .before .before .before .loop-test in
     let start = c .before .before .before .before .before .before .before .before .before .before .before .before in
-    let s = c .before .before .before .before .loop .inv in
-    let here = totals-here (start .pre .0 .1) (c .before .before .before .loop-test .taken) s in
+    let s = head .inv in
+    let here = totals-here (start .pre .0 .1) (turn .taken) s in
     column-room (s .by .is) (start .pre .0 .1) (suc (start .args .t)) here (start .args .stripe .now) (c .before .across .ensures)
 
 slice-aggregate-vanishes-2 : tie.Need-slice-aggregate-vanishes-2 Inv-loop μ-loop
 slice-aggregate-vanishes-2 c =
+    let head = c .before .before .before .before .before .loop in
+    let turn = c .before .before .before .before .loop-test in
+    let across = c .before .before .across in
     let start = c .before .before .before .before .before .before .before .before .before .before .before .before .before in
-    let s = c .before .before .before .before .before .loop .inv in
-    let here = totals-here (start .pre .0 .1) (c .before .before .before .before .loop-test .taken) s in
-    sym (column-rows (s .by .is) (start .pre .0 .1) (suc (start .args .t)) here (start .args .stripe .now) (c .before .before .across .ensures))
+    let s = head .inv in
+    let here = totals-here (start .pre .0 .1) (turn .taken) s in
+    sym (column-rows (s .by .is) (start .pre .0 .1) (suc (start .args .t)) here (start .args .stripe .now) (across .ensures))
 
 vanishes-requires : tie.Need-vanishes-requires Inv-loop μ-loop
-vanishes-requires c κs = (c .before .before .before .before .before .before .before .before .before .before .before .before .before .pre .0 .0, totals-weights (c .before .before .before .before .before .before .before .before .before .before .before .before .before .pre .0 .1) (c .before .before .before .before .loop-test .taken) (c .before .before .before .before .before .loop .inv) (c .before .before .across .ensures))
+vanishes-requires c κs =
+    let start = c .before .before .before .before .before .before .before .before .before .before .before .before .before in
+    let head = c .before .before .before .before .before .loop in
+    let turn = c .before .before .before .before .loop-test in
+    let across = c .before .before .across in
+    (start .pre .0 .0, totals-weights (start .pre .0 .1) (turn .taken) (head .inv) (across .ensures))
 
 returns : tie.Need-returns Inv-loop μ-loop
-returns c = totals-fail (c .before .before .before .before .before .before .before .before .before .before .before .before .before .before .before .pre .0 .1) (c .before .before .before .before .before .before .loop-test .taken) (c .before .before .before .before .before .before .before .loop .inv) (c .before .before .before .before .across .ensures) (c .before .vanishes .ensures) (not-true _ (c .if1 .taken))
+returns c =
+    let start = c .before .before .before .before .before .before .before .before .before .before .before .before .before .before .before in
+    let head = c .before .before .before .before .before .before .before .loop in
+    let turn = c .before .before .before .before .before .before .loop-test in
+    let across = c .before .before .before .before .across in
+    totals-fail (start .pre .0 .1) (turn .taken) (head .inv) (across .ensures) (c .before .vanishes .ensures) (not-true _ (c .if1 .taken))
 
 add-j : tie.Need-add-j Inv-loop μ-loop
 add-j c = search needs
@@ -110,7 +145,12 @@ loop-less : tie.Need-loop-less Inv-loop μ-loop
 loop-less c = search needs
 
 loop-again : tie.Need-loop-again Inv-loop μ-loop
-loop-again c = totals-turn (c .before .before .before .before .before .before .before .before .before .before .before .before .before .before .before .pre .0 .1) (c .before .before .before .before .before .before .loop-test .taken) (c .before .before .before .before .before .before .before .loop .inv) (c .before .before .before .before .across .ensures) (c .before .vanishes .ensures) (not-false _ (c .if1 .left))
+loop-again c =
+    let start = c .before .before .before .before .before .before .before .before .before .before .before .before .before .before .before in
+    let head = c .before .before .before .before .before .before .before .loop in
+    let turn = c .before .before .before .before .before .before .loop-test in
+    let across = c .before .before .before .before .across in
+    totals-turn (start .pre .0 .1) (turn .taken) (head .inv) (across .ensures) (c .before .vanishes .ensures) (not-false _ (c .if1 .left))
 
 returns-2 : tie.Need-returns-2 Inv-loop μ-loop
 returns-2 c = totals-end (c .loop-test .left) (c .before .loop .inv)

@@ -1,6 +1,5 @@
 -- `codeword::vanishes` meets its contract: the invariant is that the checks passed give 0. Assumes nothing.
 use Prim.Native.Nat.{_-_}
-use mathlib.Core.Path.{sym}
 use native.Mathlib.Omega.{arith}
 use borrow.Author.Needs.{needs}
 use lib.ListN.{length}
@@ -22,10 +21,14 @@ loop-holds : tie.Need-loop-holds Inv-loop μ-loop
 loop-holds c = walking-starts _ _ _
 
 mul-start : tie.Need-mul-start Inv-loop μ-loop
-mul-start c = omega (arith, row-end (length (c .before .before .before .before .args .v .now)) (c .loop-test .taken), c .before .before .before .before .pre)
+mul-start c =
+    let start = c .before .before .before .before in
+    omega (arith, row-end (length (start .args .v .now)) (c .loop-test .taken), start .pre)
 
 add-end : tie.Need-add-end Inv-loop μ-loop
-add-end c = omega (arith, row-end (length (c .before .before .before .before .args .v .now)) (c .loop-test .taken), c .before .before .before .before .pre)
+add-end c =
+    let start = c .before .before .before .before in
+    omega (arith, row-end (length (start .args .v .now)) (c .loop-test .taken), start .pre)
 
 sub-row-sum : tie.Need-sub-row-sum Inv-loop μ-loop
 sub-row-sum c = search needs
@@ -34,7 +37,9 @@ part-row-sum-start : tie.Need-part-row-sum-start Inv-loop μ-loop
 part-row-sum-start c = search needs
 
 part-row-sum-end : tie.Need-part-row-sum-end Inv-loop μ-loop
-part-row-sum-end c = omega (arith, row-end (length (c .before .before .before .before .args .v .now)) (c .loop-test .taken), c .before .before .before .before .pre)
+part-row-sum-end c =
+    let start = c .before .before .before .before in
+    omega (arith, row-end (length (start .args .v .now)) (c .loop-test .taken), start .pre)
 
 row-sum-requires : tie.Need-row-sum-requires Inv-loop μ-loop
 row-sum-requires c κs =
@@ -43,7 +48,9 @@ row-sum-requires c κs =
     (start .pre .0, part-length _ n (start .args .checks .now) (omega (arith, row-end n (c .before .loop-test .taken), start .pre)))
 
 returns : tie.Need-returns Inv-loop μ-loop
-returns c = vanish-fails _ _ _ _ (search needs) (c .before .row-sum .ensures) (c .before .before .before .before .loop .inv) (c .if1 .taken)
+returns c =
+    let head = c .before .before .before .before .loop in
+    vanish-fails _ _ _ _ (search needs) (c .before .row-sum .ensures) (head .inv) (c .if1 .taken)
 
 add-i : tie.Need-add-i Inv-loop μ-loop
 add-i c = search needs
@@ -52,7 +59,9 @@ loop-less : tie.Need-loop-less Inv-loop μ-loop
 loop-less c = search needs
 
 loop-again : tie.Need-loop-again Inv-loop μ-loop
-loop-again c = vanish-turns _ _ _ _ (search needs) (c .before .row-sum .ensures) (c .before .before .before .before .loop .inv) (c .if1 .left)
+loop-again c =
+    let head = c .before .before .before .before .loop in
+    vanish-turns _ _ _ _ (search needs) (c .before .row-sum .ensures) (head .inv) (c .if1 .left)
 
 returns-2 : tie.Need-returns-2 Inv-loop μ-loop
 returns-2 c = vanish-ends _ _ _ _ (search needs) (c .before .loop .inv)

@@ -34,16 +34,21 @@ lossy-word-requires c κs = rw (c .before .before .rows .ensures) (rows-most (c 
 
 loop-holds : tie.Need-loop-holds Inv-loop μ-loop
 loop-holds c =
-    learned-starts _ _ _ _ (c .before .before .before .before .rows .ensures) (c .before .before .before .sums-to .ensures) (rw add-one at (c .before .before .sums-to2 .ensures)) (c .before .lossy-word .ensures)
+    let rows = c .before .before .before .before .rows in
+    let sums-to = c .before .before .before .sums-to in
+    let sums-to2 = c .before .before .sums-to2 in
+    learned-starts _ _ _ _ (rows .ensures) (sums-to .ensures) (rw add-one at (sums-to2 .ensures)) (c .before .lossy-word .ensures)
 
 learn-column-requires : tie.Need-learn-column-requires Inv-loop μ-loop
 learn-column-requires c κs =
+    let head = c .before .before .before .loop in
+    let turn = c .before .before .loop-test in
     let start = c .before .before .before .before .before .before .before .before .before .before in
-    let s = c .before .before .before .loop .inv in (
+    let s = head .inv in (
       start .pre .0,
       (
         omega (arith, symbols-most (start .args .plan)),
-        (omega (arith, levels-most (start .args .plan), start .pre), learned-here s (c .before .before .loop-test .taken), s .small),
+        (omega (arith, levels-most (start .args .plan), start .pre), learned-here s (turn .taken), s .small),
       ),
     )
 
@@ -51,38 +56,54 @@ enum-told : tie.Need-enum-told Inv-loop μ-loop
 enum-told c = search needs
 
 returns : tie.Need-returns Inv-loop μ-loop
-returns c = learned-blocked (c .before .before .before .before .before .before .loop .inv) (c .before .before .before .before .before .loop-test .taken) (c .before .before .learn-column .ensures .0) (c .enum-told .given .1)
+returns c =
+    let head = c .before .before .before .before .before .before .loop in
+    let turn = c .before .before .before .before .before .loop-test in
+    let learn-column = c .before .before .learn-column in
+    learned-blocked (head .inv) (turn .taken) (learn-column .ensures .0) (c .enum-told .given .1)
 
 enum-told-2 : tie.Need-enum-told-2 Inv-loop μ-loop
 enum-told-2 c = search needs
 
 returns-2 : tie.Need-returns-2 Inv-loop μ-loop
-returns-2 c = learned-failing (c .before .before .before .before .before .before .loop .inv) (c .before .before .before .before .before .loop-test .taken) (c .before .before .learn-column .ensures .0) (c .enum-told2 .given .1)
+returns-2 c =
+    let head = c .before .before .before .before .before .before .loop in
+    let turn = c .before .before .before .before .before .loop-test in
+    let learn-column = c .before .before .learn-column in
+    learned-failing (head .inv) (turn .taken) (learn-column .ensures .0) (c .enum-told2 .given .1)
 
 enum-told-3 : tie.Need-enum-told-3 Inv-loop μ-loop
 enum-told-3 c = search needs
 
 keep-column-requires : tie.Need-keep-column-requires Inv-loop μ-loop
 keep-column-requires c κs =
+    let head = c .before .before .before .before .before .before .before .before .loop in
+    let turn = c .before .before .before .before .before .before .before .loop-test in
     let start = c .before .before .before .before .before .before .before .before .before .before .before .before .before .before .before in
-    let s = c .before .before .before .before .before .before .before .before .loop .inv in (
+    let s = head .inv in (
       rw (s .high) (rows-most (start .args .plan)),
-      omega (arith, learned-here s (c .before .before .before .before .before .before .before .loop-test .taken), sums-most (start .args .plan) (suc (start .args .level))),
+      omega (arith, learned-here s (turn .taken), sums-most (start .args .plan) (suc (start .args .level))),
     )
 
 add-j : tie.Need-add-j Inv-loop μ-loop
 add-j c =
+    let head = c .before .before .before .before .before .before .before .before .before .loop in
+    let turn = c .before .before .before .before .before .before .before .before .loop-test in
     let start = c .before .before .before .before .before .before .before .before .before .before .before .before .before .before .before .before in
-    omega (arith, learned-here (c .before .before .before .before .before .before .before .before .before .loop .inv) (c .before .before .before .before .before .before .before .before .loop-test .taken), sums-most (start .args .plan) (suc (start .args .level)))
+    omega (arith, learned-here (head .inv) (turn .taken), sums-most (start .args .plan) (suc (start .args .level)))
 
 loop-less : tie.Need-loop-less Inv-loop μ-loop
 loop-less c = search needs
 
 loop-again : tie.Need-loop-again Inv-loop μ-loop
 loop-again c =
-    let column = c .before .before .before .before .before .learn-column .last .1 .1 .1 .1 .1 .1 .1 .0 in
-    learned-more (c .before .before .before .before .before .before .before .before .before .loop .inv) (c .before .before .before .before .before .before .before .before .loop-test .taken) (c .before .before .before .before .before .learn-column .ensures .0) column (c .before .before .before .enum-told3 .given .1)
-    (c .before .before .before .before .before .learn-column .ensures .1) (c .keep-column .ensures)
+    let head = c .before .before .before .before .before .before .before .before .before .loop in
+    let turn = c .before .before .before .before .before .before .before .before .loop-test in
+    let learn-column = c .before .before .before .before .before .learn-column in
+    let enum-told3 = c .before .before .before .enum-told3 in
+    let column = learn-column .last .1 .1 .1 .1 .1 .1 .1 .0 in
+    learned-more (head .inv) (turn .taken) (learn-column .ensures .0) column (enum-told3 .given .1)
+    (learn-column .ensures .1) (c .keep-column .ensures)
 
 returns-3 : tie.Need-returns-3 Inv-loop μ-loop
 returns-3 c = learned-ends (c .before .loop .inv) (c .loop-test .left)

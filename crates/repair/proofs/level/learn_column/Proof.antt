@@ -1,6 +1,6 @@
 -- `level::learn_column` meets its contract. Assumes nothing.
 use Prim.Native.Nat.{suc, _+_, _*_, _≤_}
-use mathlib.Core.Path.{_≡_, sym, ap, ap₂, _∙_}
+use mathlib.Core.Path.{sym, ap, ap₂, _∙_}
 use native.Mathlib.Omega.{arith}
 use borrow.Author.Needs.{needs}
 use lib.ListN.{length}
@@ -50,10 +50,14 @@ mul-size c =
     omega (arith, weights-within w, ap length (w .weighs), weights-length (start .args .plan) (suc (start .args .level)))
 
 mul-start : tie.Need-mul-start
-mul-start c = omega (arith, inside c, checks-length (c .before .before .before .before .before .args .plan), ap length (c .before .before .before .before .before .pre .0 .1))
+mul-start c =
+    let start = c .before .before .before .before .before in
+    omega (arith, inside c, checks-length (start .args .plan), ap length (start .pre .0 .1))
 
 add-end : tie.Need-add-end
-add-end c = omega (arith, inside c, checks-length (c .before .before .before .before .before .args .plan), ap length (c .before .before .before .before .before .pre .0 .1))
+add-end c =
+    let start = c .before .before .before .before .before in
+    omega (arith, inside c, checks-length (start .args .plan), ap length (start .pre .0 .1))
 
 sub-across : tie.Need-sub-across
 sub-across c = search needs
@@ -90,24 +94,31 @@ slice-aggregate-fill-2 c = sym (target-length (weighed (c .before .before .befor
 array-borrow-prefix-made : tie.Need-array-borrow-prefix-made
 array-borrow-prefix-made c =
     let start = c .before .before .before .before .before .before .before .before .before in
+    let across = c .before .before .across in
     let w = weighed (c .before .before .before .before) in
-    column-room (w .is) (start .pre .0 .1) (suc (start .args .level)) (start .pre .1 .1 .1) (start .args .symbols .now) (c .before .before .across .ensures)
+    column-room (w .is) (start .pre .0 .1) (suc (start .args .level)) (start .pre .1 .1 .1) (start .args .symbols .now) (across .ensures)
 
 slice-aggregate-fill-3 : tie.Need-slice-aggregate-fill-3
 slice-aggregate-fill-3 c =
     let start = c .before .before .before .before .before .before .before .before .before .before in
+    let across = c .before .before .before .across in
     let w = weighed (c .before .before .before .before .before) in
-    sym (column-rows (w .is) (start .pre .0 .1) (suc (start .args .level)) (start .pre .1 .1 .1) (start .args .symbols .now) (c .before .before .before .across .ensures))
+    sym (column-rows (w .is) (start .pre .0 .1) (suc (start .args .level)) (start .pre .1 .1 .1) (start .args .symbols .now) (across .ensures))
 
 fill-requires : tie.Need-fill-requires
 fill-requires c κs =
     let start = c .before .before .before .before .before .before .before .before .before .before in
+    let across = c .before .before .before .across in
     let w = weighed (c .before .before .before .before .before) in
     let long =
-    column-rows (w .is) (start .pre .0 .1) (suc (start .args .level)) (start .pre .1 .1 .1) (start .args .symbols .now) (c .before .before .before .across .ensures) in (
+    column-rows (w .is) (start .pre .0 .1) (suc (start .args .level)) (start .pre .1 .1 .1) (start .args .symbols .now) (across .ensures) in (
       start .pre .0 .0,
       (
-        (rw (target-length w) (omega (arith, few-totals w)), rw (long, w .is .high) (omega (arith, rows-most (start .args .plan))), rw (long, w .is .high) (start .pre .1 .1 .2)),
+        (
+          rw (target-length w) (omega (arith, few-totals w)),
+          rw (long, w .is .high) (omega (arith, rows-most (start .args .plan))),
+          rw (long, w .is .high) (start .pre .1 .1 .2),
+        ),
         (front-length w ∙ sym (ap₂ _*_ (target-length w) long), (front-lt w, target-lt w)),
       ),
     )
@@ -115,9 +126,10 @@ fill-requires c κs =
 returns : tie.Need-returns
 returns c =
     let start = c .before .before .before .before .before .before .before .before .before .before .before .before in
+    let across = c .before .before .before .before .before .across in
     let w = weighed (c .before .before .before .before .before .before .before) in
     let f = c .before .fill in
-    let made = c .before .before .before .before .before .across .ensures in
+    let made = across .ensures in
     let P = planOf (start .args .plan) in
     let is = filled-is w (start .pre .0 .1) (start .pre .1 .1 .1) (start .args .symbols .now) made (start .args .lossy) in
     let long = column-rows (w .is) (start .pre .0 .1) (suc (start .args .level)) (start .pre .1 .1 .1) (start .args .symbols .now) made in (

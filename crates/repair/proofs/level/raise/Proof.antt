@@ -3,7 +3,7 @@ use native.Mathlib.Omega.{arith}
 use borrow.Author.Needs.{needs}
 use Rattle.repair.specs.Steps.{stepped}
 use Rattle.repair.proofs.Plans.{levels-most}
-use Rattle.repair.proofs.Learning.{steps-blocked, steps-clash, steps-raised}
+use Rattle.repair.proofs.Learning.{stepFor, steps-by}
 use Rattle.repair.proofs.level.raise.Statement.{statement}
 use Rattle.repair.proofs.level.raise.Tie as tie
 
@@ -29,19 +29,31 @@ enum-told-3 : tie.Need-enum-told-3
 enum-told-3 c = search needs
 
 add-t26 : tie.Need-add-t26
-add-t26 c = omega (arith, levels-most (c .before .before .before .before .before .before .before .before .before .before .before .before .before .before .args .t1 .plan), c .before .before .before .before .before .before .before .before .before .before .before .before .before .before .pre)
+add-t26 c =
+    let start = c .before .before .before .before .before .before .before .before .before .before .before .before .before .before in
+    omega (arith, levels-most (start .args .t1 .plan), start .pre)
 
 returns : tie.Need-returns
-unfolding stepped
-returns c = steps-blocked (c .before .before .before .before .before .before .before .before .before .before .before .before .args .t1) (c .before .before .learn .ensures) (c .enum-told .given .1)
+unfolding stepped stepFor
+returns c =
+    let start = c .before .before .before .before .before .before .before .before .before .before .before .before in
+    let learn = c .before .before .learn in
+    steps-by (start .args .t1) (learn .ensures) (c .enum-told .given .1)
 
 returns-2 : tie.Need-returns-2
-unfolding stepped
-returns-2 c = steps-clash (c .before .before .before .before .before .before .before .before .before .before .before .before .args .t1) (c .before .before .learn .ensures) (c .enum-told2 .given .1)
+unfolding stepped stepFor
+returns-2 c =
+    let start = c .before .before .before .before .before .before .before .before .before .before .before .before in
+    let learn = c .before .before .learn in
+    steps-by (start .args .t1) (learn .ensures) (c .enum-told2 .given .1)
 
 returns-3 : tie.Need-returns-3
-unfolding stepped
-returns-3 c = steps-raised (c .before .before .before .before .before .before .before .before .before .before .before .before .before .before .args .t1) (c .before .before .before .before .learn .ensures) (c .before .before .enum-told3 .given .1)
+unfolding stepped stepFor
+returns-3 c =
+    let start = c .before .before .before .before .before .before .before .before .before .before .before .before .before .before in
+    let learn = c .before .before .before .before .learn in
+    let enum-told3 = c .before .before .enum-told3 in
+    steps-by (start .args .t1) (learn .ensures) (enum-told3 .given .1)
 
 pub raise-spec : {M : Type 1} → statement M
 raise-spec =

@@ -35,8 +35,9 @@ shr-mark c = search needs
 returns : tie.Need-returns Inv-loop μ-loop
 returns c =
     let a = c .before .before .before .before .before .args in
+    let row = now (a .row) in
     let at = c .before .before .before .loop-test .taken in
-    sym (row-up (a .q) (a .word) (now (a .row)) ∙ up-false _ _ _ at (fits-not (a .q) (a .word) (now (a .row)) _ at (c .if2 .taken) (c .before .if1 .taken)))
+    sym (row-up (a .q) (a .word) row ∙ up-false _ _ _ at (fits-not (a .q) (a .word) row _ at (c .if2 .taken) (c .before .if1 .taken)))
 
 add-c : tie.Need-add-c Inv-loop μ-loop
 add-c c = search needs
@@ -47,10 +48,12 @@ loop-less c = search needs
 loop-again : tie.Need-loop-again Inv-loop μ-loop
 loop-again c =
     let a = c .before .before .before .before .args in
+    let row = now (a .row) in
     let at = c .before .before .loop-test .taken in (
       refl,
       passing-more (c .before .before .before .loop .inv .1) at
-          (⊎-elim (λ w. fits-marked (a .q) (a .word) (now (a .row)) _ at (w .1 .left)) (λ w. fits-below (a .q) (bitsOf (length (now (a .row))) (a .word)) (now (a .row)) _ (w .left)) (c .if1 .came)),
+          (⊎-elim (λ w. fits-marked (a .q) (a .word) row _ at (w .1 .left)) (λ w. fits-below (a .q) (bitsOf (length row) (a .word)) row _ (w .left))
+          (c .if1 .came)),
     )
 
 returns-2 : tie.Need-returns-2 Inv-loop μ-loop

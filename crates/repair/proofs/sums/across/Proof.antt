@@ -23,10 +23,14 @@ loop-holds : tie.Need-loop-holds Inv-loop μ-loop
 loop-holds c = across-starts _ _ _ _ (search needs)
 
 mul-start : tie.Need-mul-start Inv-loop μ-loop
-mul-start c = omega (arith, row-end (length (c .before .before .before .before .args .check .now)) (c .loop-test .taken), c .before .before .before .before .pre)
+mul-start c =
+    let start = c .before .before .before .before in
+    omega (arith, row-end (length (start .args .check .now)) (c .loop-test .taken), start .pre)
 
 add-end : tie.Need-add-end Inv-loop μ-loop
-add-end c = omega (arith, row-end (length (c .before .before .before .before .args .check .now)) (c .loop-test .taken), c .before .before .before .before .pre)
+add-end c =
+    let start = c .before .before .before .before in
+    omega (arith, row-end (length (start .args .check .now)) (c .loop-test .taken), start .pre)
 
 sub-row-sum : tie.Need-sub-row-sum Inv-loop μ-loop
 sub-row-sum c = omega arith
@@ -35,7 +39,9 @@ part-row-sum-start : tie.Need-part-row-sum-start Inv-loop μ-loop
 part-row-sum-start c = omega arith
 
 part-row-sum-end : tie.Need-part-row-sum-end Inv-loop μ-loop
-part-row-sum-end c = omega (arith, row-end (length (c .before .before .before .before .args .check .now)) (c .loop-test .taken), c .before .before .before .before .pre)
+part-row-sum-end c =
+    let start = c .before .before .before .before in
+    omega (arith, row-end (length (start .args .check .now)) (c .loop-test .taken), start .pre)
 
 row-sum-requires : tie.Need-row-sum-requires Inv-loop μ-loop
 row-sum-requires c κs =

@@ -36,8 +36,10 @@ loop-less c = search needs
 loop-again : tie.Need-loop-again Inv-loop μ-loop
 unfolding _⊕_
 loop-again c =
-    let args = c .before .before .before .before .before .before .before .args in
-    let loop = c .before .before .before .before .loop in
+    let start = c .before .before .before .before .before .before .before in
+    let head = c .before .before .before .before .loop in
+    let args = start .args in
+    let loop = head in
     (refl, summing-turns (fieldOf (args .q)) (args .check .now) (args .row .now) (search needs) (search needs) (c .product .ensures) (loop .inv .1))
 
 returns : tie.Need-returns Inv-loop μ-loop

@@ -18,7 +18,7 @@ ghost use Rattle.repair.specs.Plan.{planOf};
 ghost use Rattle.repair.specs.Refusal.{lentRefusal};
 ghost use Rattle.repair.specs.Rounds.{mended, bare, endReport};
 ghost use Rattle.repair.specs.Learned.{benchOf};
-ghost use Rattle.repair.specs.Walk.{standingOf, Ended};
+ghost use Rattle.repair.specs.Walk.{standingOf, Ended, clashes};
 
 // How many of the rows have marks.
 fn rows_left(rows: usize, marks: &[u32]) -> usize
@@ -37,7 +37,7 @@ fn rows_left(rows: usize, marks: &[u32]) -> usize
 }
 
 // A report with nothing beside its answer.
-fn bare_report(answer: Answer) -> Report
+pub fn bare_report(answer: Answer) -> Report
     ensures { λ r. ⌜ r ≡ bare answer ⌝ }
 {
     Report {
@@ -71,14 +71,14 @@ fn end_report(plan: usize, level: usize, restored: [usize; 3], marks: &[u32]) ->
 }
 
 // Where the rounds ended: the report, and the bench's symbols and marks.
-struct Mended {
-    report: Report,
-    symbols: [u8; 256],
-    marks: [u32; 8],
+pub struct Mended {
+    pub report: Report,
+    pub symbols: [u8; 256],
+    pub marks: [u32; 8],
 }
 
 // Rounds on a fresh bench of what was lent, until they stop.
-fn rounds(plan: usize, stripe: &[u8], words: &[u32]) -> Mended
+pub fn rounds(plan: usize, stripe: &[u8], words: &[u32]) -> Mended
     requires { ⌜ lentRefusal plan (now stripe) (now words) ≡ 0 ⌝ }
     ensures { λ m. ⌜ Ended (mended plan (now (stripe .entry)) (now (words .entry))) (m .report) (m .symbols) (m .marks) ⌝ }
 {
@@ -117,4 +117,14 @@ fn rounds(plan: usize, stripe: &[u8], words: &[u32]) -> Mended
     }
     let report = end_report(plan, level, restored, &marks[..]);
     Mended { report: report, symbols: symbols, marks: marks }
+}
+
+// Whether the answer is Clash.
+pub fn is_clash(answer: Answer) -> bool
+    ensures { λ r. ⌜ r ≡ clashes answer ⌝ }
+{
+    match answer {
+        Answer::Clash(_) => true,
+        _ => false,
+    }
 }

@@ -1,4 +1,4 @@
--- `repair::mend::rounds` meets its contract. Assumes nothing.
+-- `repair::mending::rounds` meets its contract. Assumes nothing.
 use Prim.Native.Nat.{ℕ, suc, _-_}
 use mathlib.Core.Path.{_≡_, refl, sym, ap, _∙_}
 use mathlib.Core.Logic.{⊎-elim}
@@ -11,16 +11,16 @@ use Rattle.repair.proofs.Arms.{arm-blocked, arm-failing, arm-learned}
 use Rattle.repair.proofs.Rounding.{Rounding, rounding-starts, rounded-clash, rounded-top, rounded-blocked, rounded-failing, rounding-turns}
 use native.Mathlib.Omega.{arith}
 use borrow.Author.Needs.{needs}
-use Rattle.repair.proofs.mend.rounds.Statement.{statement}
-use Rattle.repair.proofs.mend.rounds.Tie as tie
-use Rattle.repair.proofs.mend.rounds.Reads as reads
-use Rattle.repair.proofs.mend.rounds.Lts as lts
+use Rattle.repair.proofs.mending.rounds.Statement.{statement}
+use Rattle.repair.proofs.mending.rounds.Tie as tie
+use Rattle.repair.proofs.mending.rounds.Reads as reads
+use Rattle.repair.proofs.mending.rounds.Lts as lts
 use Rattle.field.proofs.products.Reads as products-reads
 use Rattle.repair.proofs.copies.symbols_of.Reads as symbols-of-reads
 use Rattle.repair.proofs.copies.words_of.Reads as words-of-reads
 use Rattle.repair.proofs.level.learn.Reads as learn-reads
-use Rattle.repair.proofs.mend.bare_report.Reads as bare-report-reads
-use Rattle.repair.proofs.mend.end_report.Reads as end-report-reads
+use Rattle.repair.proofs.mending.bare_report.Reads as bare-report-reads
+use Rattle.repair.proofs.mending.end_report.Reads as end-report-reads
 use Rattle.repair.proofs.plan.levels.Reads as levels-reads
 use Rattle.repair.proofs.plan.row_checks.Reads as row-checks-reads
 use Rattle.repair.proofs.plan.rows.Reads as rows-reads

@@ -1,4 +1,4 @@
--- `repair::mend::end_report` meets its contract. Assumes nothing.
+-- `repair::mending::end_report` meets its contract. Assumes nothing.
 use mathlib.Core.Path.{_≡_, ap, _∙_}
 use mathlib.Core.List.{map}
 use native.Mathlib.Omega.{arith}
@@ -9,8 +9,8 @@ use Rattle.field.specs.Lists.{upFrom}
 use Rattle.linear.specs.Lists.{only}
 use Rattle.repair.proofs.Leaving.{lossyAt}
 use Rattle.repair.proofs.Rounding.{report-restored, report-stuck}
-use Rattle.repair.proofs.mend.end_report.Statement.{statement}
-use Rattle.repair.proofs.mend.end_report.Tie as tie
+use Rattle.repair.proofs.mending.end_report.Statement.{statement}
+use Rattle.repair.proofs.mending.end_report.Tie as tie
 
 rows-requires : tie.Need-rows-requires
 rows-requires c κs = search needs

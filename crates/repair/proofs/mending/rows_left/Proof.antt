@@ -1,11 +1,11 @@
--- `repair::mend::rows_left` meets its contract: the invariant is that the rows passed are counted. Assumes nothing.
+-- `repair::mending::rows_left` meets its contract: the invariant is that the rows passed are counted. Assumes nothing.
 use Rattle.repair.proofs.Leaving.{Leaving, leaving-starts, leaving-marked, leaving-unmarked, leaving-ends}
 use native.Mathlib.Omega.{arith}
 use borrow.Author.Needs.{needs}
-use Rattle.repair.proofs.mend.rows_left.Statement.{statement}
-use Rattle.repair.proofs.mend.rows_left.Tie as tie
-use Rattle.repair.proofs.mend.rows_left.Reads as reads
-use Rattle.repair.proofs.mend.rows_left.Lts as lts
+use Rattle.repair.proofs.mending.rows_left.Statement.{statement}
+use Rattle.repair.proofs.mending.rows_left.Tie as tie
+use Rattle.repair.proofs.mending.rows_left.Reads as reads
+use Rattle.repair.proofs.mending.rows_left.Lts as lts
 
 abbrev Inv-loop : tie.InvT-loop
 Inv-loop rows marks left₀ r₀ left r = Leaving rows marks r left

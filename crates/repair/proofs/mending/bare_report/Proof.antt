@@ -1,8 +1,8 @@
--- `repair::mend::bare_report` meets its contract. Assumes nothing.
+-- `repair::mending::bare_report` meets its contract. Assumes nothing.
 use mathlib.Core.Path.{refl}
 use Rattle.repair.specs.Rounds.{bare}
-use Rattle.repair.proofs.mend.bare_report.Statement.{statement}
-use Rattle.repair.proofs.mend.bare_report.Tie as tie
+use Rattle.repair.proofs.mending.bare_report.Statement.{statement}
+use Rattle.repair.proofs.mending.bare_report.Tie as tie
 
 returns : tie.Need-returns
 unfolding bare

@@ -1,0 +1,99 @@
+// Systems and vectors with known answers, over both fields. What the compiled code answers is held to the file `stdout`.
+ghost use Prim.Native.Nat.{_+_, _*_, _<_, _≤_};
+ghost use Rattle.field.specs.Ours.{fieldOf};
+ghost use lib.Dec.{T};
+ghost use Rattle.linear.proofs.Choices.{areSymbols};
+
+// 0 to 9, then a to f.
+fn digit(x: u8) -> u8 {
+    if x < 10 {
+        return b'0' + x;
+    }
+    if x < 16 {
+        return b'a' + (x - 10);
+    }
+    b'?'
+}
+
+fn flag(b: bool) -> u8 {
+    if b {
+        return b'1';
+    }
+    b'0'
+}
+
+// Answers a system of m equations in k unknowns, and writes a line: whether its columns are dependent, whether it has a solution,
+// a solution, a dependency. The last two are 0 where there is none.
+fn answer(q: usize, system: [u8; 12], m: usize, k: usize)
+    requires { ⌜ (m * (k + 1) ≤ 12) × (k ≤ 5) × T (areSymbols (fieldOf q) system) ⌝ }
+{
+    let table = field::products();
+    let mut a = system;
+    let mut pivots: [usize; 5] = [0; 5];
+    let mut x: [u8; 5] = [0; 5];
+    let mut z: [u8; 5] = [0; 5];
+    let s = linear::system::solve(q, &table, &mut a[..], m, k, &mut pivots[..], &mut x[..], &mut z[..]);
+    let flags = [flag(s.dependent), flag(s.consistent), b' '];
+    io::write_all(1, &flags);
+    write_symbols(x, b' ');
+    write_symbols(z, b'\n');
+}
+
+// Writes five symbols, and a byte behind them.
+fn write_symbols(x: [u8; 5], end: u8) {
+    let line = [digit(x[0]), digit(x[1]), digit(x[2]), digit(x[3]), digit(x[4]), end];
+    io::write_all(1, &line);
+}
+
+fn outcome(o: linear::Outcome) -> u8 {
+    match o {
+        linear::Outcome::Tied => b't',
+        linear::Outcome::None => b'n',
+        linear::Outcome::One => b'1',
+    }
+}
+
+// Fills v by three checks, and writes a line: the outcome, and v after it.
+fn filling(q: usize, checks: [u8; 15], target: [u8; 3], v: [u8; 5], marks: u32)
+    requires { ⌜ (marks < 32) × T (areSymbols (fieldOf q) checks) × T (areSymbols (fieldOf q) target) ⌝ }
+{
+    let table = field::products();
+    let mut w = v;
+    let o = linear::fill(q, &table, &checks[..], &target[..], &mut w[..], marks);
+    let head = [outcome(o), b' '];
+    io::write_all(1, &head);
+    write_symbols(w, b'\n');
+}
+
+fn main() {
+    // no columns: consistent, and not
+    answer(2, [0; 12], 3, 0);
+    answer(16, [0, 5, 0, 0, 0, 0, 0, 0, 0, 0, 0, 0], 2, 0);
+    // no equations in two unknowns: dependent and consistent
+    answer(16, [0; 12], 0, 2);
+    // one solution: x + y = 1, y = 1; 2 x + 3 y = 8, x + y = 7
+    answer(2, [1, 1, 1, 0, 1, 1, 0, 0, 0, 0, 0, 0], 2, 2);
+    answer(16, [2, 3, 8, 1, 1, 7, 0, 0, 0, 0, 0, 0], 2, 2);
+    // a pivot below the first row, and one that is not 1
+    answer(16, [0, 4, 8, 3, 0, 5, 3, 4, 13, 0, 0, 0], 3, 2);
+    // more columns than rows
+    answer(2, [1, 1, 0, 1, 1, 0, 1, 1, 0, 1, 0, 0], 2, 4);
+    answer(16, [7, 1, 9, 2, 4, 0, 3, 3, 5, 8, 1, 15], 2, 5);
+    // a zero column
+    answer(16, [1, 0, 0, 6, 0, 0, 2, 4, 0, 0, 0, 0], 2, 3);
+    answer(2, [0, 1, 0, 0, 0, 0, 0, 0, 0, 0, 0, 0], 2, 1);
+    // inconsistent, with dependent columns
+    answer(16, [1, 2, 3, 2, 4, 7, 0, 0, 0, 0, 0, 0], 2, 2);
+    answer(2, [1, 1, 0, 1, 1, 1, 0, 0, 0, 0, 0, 0], 2, 2);
+    // inconsistent, with independent columns: more equations than unknowns
+    answer(16, [1, 5, 2, 10, 1, 6, 0, 0, 0, 0, 0, 0], 3, 1);
+    // nothing marked: the sums are the target, and are not
+    filling(2, [1, 1, 1, 1, 1, 0, 1, 0, 1, 0, 1, 0, 1, 0, 1], [0, 1, 1], [1, 0, 1, 1, 1], 0);
+    filling(16, [1, 1, 1, 1, 1, 0, 1, 2, 3, 4, 0, 1, 4, 5, 3], [0, 0, 1], [0, 0, 0, 0, 0], 0);
+    // marked: what stands under a mark does not count
+    filling(16, [1, 1, 1, 1, 1, 0, 1, 2, 3, 4, 0, 1, 4, 5, 3], [0, 0, 0], [1, 99, 3, 255, 5], 10);
+    filling(16, [1, 1, 1, 1, 1, 0, 1, 2, 3, 4, 0, 1, 4, 5, 3], [0, 0, 0], [1, 7, 7, 7, 5], 14);
+    filling(2, [1, 1, 1, 1, 1, 0, 1, 0, 1, 0, 1, 0, 1, 0, 1], [0, 1, 1], [1, 9, 1, 9, 1], 10);
+    // more marks than checks
+    filling(16, [1, 1, 1, 1, 1, 0, 1, 2, 3, 4, 0, 1, 4, 5, 3], [0, 0, 0], [1, 2, 3, 4, 5], 31);
+}
