@@ -1,12 +1,12 @@
 -- The stripe file: what is read of what was written, and what is written of what was read. Assumes nothing.
 use mathlib.Core.Path.{_≡_, refl, sym, ap, ap₂, _∙_, subst}
-use mathlib.Core.Bool.{Bool, true, _&&_, and-true, and-false}
+use mathlib.Core.Bool.{Bool, true, false, _&&_, and-true, and-false}
 use mathlib.Core.List.{List, [], _∷_, _++_, map, flatMap, append-assoc}
 use Prim.Native.Nat.{ℕ, zero, suc, _+_, _*_, _-_, _/_, _%_, _^_, _≤_, _<_}
 use native.Mathlib.Nat.{div-add-mod', mod-eq-of-lt, zero-add, add-assoc, not-suc-le-zero, le-of-suc-le-suc, le-of-eq, le-trans}
 use native.Mathlib.Omega.{arith}
 use borrow.Author.Tests.{eq-eqb, ne-eqb}
-use lib.Dec.{T, eqb, leb, eqb→eq, le→leb}
+use lib.Dec.{T, eqb, leb, ltb, ltb→lt, eqb→eq, le→leb}
 use lib.ListN.{length, getD, take, drop, length-map, length-append, length-take, length-drop, take-append-drop}
 use lib.Pow.{pow-mono, shr-shr}
 use lib.Seq.{sets, getD-append-add, drop-cons, drop-at, take-at, take-all, take-add, drop-drop, ext-getD}
@@ -14,7 +14,7 @@ use Rattle.field.specs.Lists.{if_then_else_, upFrom}
 use Rattle.field.proofs.Lists.{length-up, getD-map-below}
 use Rattle.field.proofs.Test.{both-left, both-right, both}
 use Rattle.field.proofs.Words.{Fit, each-at}
-use Rattle.linear.specs.Lists.{same}
+use Rattle.linear.specs.Lists.{all, same}
 use Rattle.linear.proofs.Tests.{same→eq, same-refl}
 use Rattle.repair.specs.Plan.{Plan, planOf, known, marksOf}
 use Rattle.repair.specs.Refusal.{firstFailed, unasked, inMemory, inFile, stripeFits, wordsFit, marksFit, symbolsFit, lentRefusal}
@@ -165,6 +165,19 @@ module _ (a b c d e f g h : Bool) where
   all-pass t p =
       go-on 20 a _ t (go-on 10 b _ (p .plan) (go-on 21 c _ (p .agrees) (go-on 20 d _ (p .whole) (go-on 11 e _ (p .lengths)
       (go-on 12 f _ (p .marks) (go-on 13 g _ (p .symbols) (go-on 22 h _ (p .blank) refl)))))))
+
+first-below : (q : ℕ) → 0 < q → (ts : List (ℕ × Bool)) → T (all (λ t. ltb (t .0) q) ts) → firstFailed ts < q
+unfolding if_then_else_ all firstFailed
+first-below q z [] t = z
+first-below q z (x ∷ ts) t = go (x .1) (first-below q z ts (both-right (ltb (x .0) q) (all (λ t. ltb (t .0) q) ts) t))
+  where
+    go : (b : Bool) → firstFailed ts < q → (if b then firstFailed ts else x .0) < q
+    go true h = h
+    go false h = ltb→lt (x .0) q (both-left (ltb (x .0) q) (all (λ t. ltb (t .0) q) ts) t)
+
+pub refusal-below : (file : List ℕ) (lengths : Bool) → fileRefusal file lengths < 100
+unfolding all inFile fileRefusal
+refusal-below file lengths = first-below 100 (omega arith) _ tt
 
 pub record FileFit (file : List ℕ) : Type 0 where
   pub plan-known : T (known (planIn file))
@@ -330,6 +343,17 @@ module _ (p : ℕ) (stripe marks : List ℕ) (f : LentFit p stripe marks) where
 
 -- ---- what was read is written
 
+pub read-fit : {file : List ℕ} → FileFit file → LentFit (planIn file) (symbolsIn file) (marksIn file)
+read-fit {file} f =
+    let R = planOf (planIn file) in
+    record {
+      plan-known = f .plan-known;
+      long = length-symbols-in file (f .whole);
+      words = length-marks-in file;
+      mark-lt = marks-fit R (marksIn file) (f .marks);
+      row-fits = symbols-fit R (marksIn file) (symbolsIn file) (f .symbols);
+    }
+
 module _ (file : List ℕ) (bytes : Fit 256 file) where
   byte : (i : ℕ) → i < length file → getD file i 0 < 256
   byte = each-at (λ x. x < 256) file bytes
@@ -366,15 +390,6 @@ module _ (file : List ℕ) (bytes : Fit 256 file) where
   module _ (f : FileFit file) where
     abbrev R : Plan
     R = planOf (planIn file)
-
-    pub read-fit : LentFit (planIn file) (symbolsIn file) (marksIn file)
-    read-fit = record {
-      plan-known = f .plan-known;
-      long = length-symbols-in file (f .whole);
-      words = length-marks-in file;
-      mark-lt = marks-fit R (marksIn file) (f .marks);
-      row-fits = symbols-fit R (marksIn file) (symbolsIn file) (f .symbols);
-    }
 
     -- the file of what was read is the file
     pub file-of-read : fileOf (planIn file) (symbolsIn file) (marksIn file) ≡ file
@@ -485,7 +500,7 @@ module _ (file s m old : List ℕ) (bytes : Fit 256 file) (e : readRefusal file 
 
   pub write-read : writeRefusal (planIn file) (readStripe file s m) (readMarks file s m) old ≡ 0
   unfolding if_then_else_ readStripe readMarks
-  write-read = rw e (fit-write (planIn file) (symbolsIn file) (marksIn file) old (read-fit file bytes fit) (long ∙ fit .whole))
+  write-read = rw e (fit-write (planIn file) (symbolsIn file) (marksIn file) old (read-fit fit) (long ∙ fit .whole))
 
   pub file-written : writeFile (planIn file) (readStripe file s m) (readMarks file s m) old ≡ file
   unfolding if_then_else_ readStripe readMarks

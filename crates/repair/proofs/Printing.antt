@@ -1,12 +1,12 @@
 -- What mending leaves can be printed: its numbers are below 100, and its unmarked symbols are below q. Assumes nothing.
-use mathlib.Core.Path.{_≡_, refl, sym, ap, _∙_, subst}
+use mathlib.Core.Path.{_≡_, refl, sym, ap, _∙_, subst, subst₂}
 use mathlib.Core.Bool.{Bool, true, false, not}
-use mathlib.Core.List.{List, [], _∷_, map}
+use mathlib.Core.List.{List, [], _∷_, _++_, map}
 use Prim.Native.Nat.{ℕ, zero, suc, suc-le-suc, pred, _+_, _*_, _<_, _≤_}
 use native.Mathlib.Nat.{mul-le-mul}
 use native.Mathlib.Omega.{arith}
-use borrow.Author.Tests.{ltb-true}
-use lib.Dec.{T, eqb, ltb, lt→ltb, lit<}
+use borrow.Author.Tests.{ltb-true, ne-eqb}
+use lib.Dec.{T, eqb, ltb, lt→ltb}
 use lib.ListN.{length, take, drop, getD, set, replicate, length-set, length-map, take-append-drop}
 use lib.Seq.{length-take-le, getD-take}
 use Rattle.field.specs.Lists.{if_then_else_, upFrom}
@@ -21,12 +21,15 @@ use Rattle.repair.specs.Answers.{answerNumber, placeValues, answerValues
 use Rattle.repair.specs.Refusal.{unasked, allBelow, unmarkedBelow, symbolsFit, lentRefusal, benchRefusal}
 use Rattle.repair.specs.Steps.{fresh, stepped, unlessRefused, rowFill, putRow, rowStepBy, rowStep, lossy, Learned, blocked, failing, learned, levelFill, raise, levelStepBy, levelStep}
 use Rattle.repair.specs.Rounds.{Standing, Turn, on, end, clash, counted, afterRow, afterLevel, takeTurn, goOn, turns, mended, rowsLeft, endReport, bare, turnReport, turnStripe, turnMarks, mendReport, mendStripe, mendMarks}
+use Rattle.repair.specs.File.{planIn, symbolsIn, marksIn, fileRefusal}
+use Rattle.repair.specs.Text.{item, lineEnd, reportText, mendText, printed}
 use Rattle.repair.specs.declared.Bench.{Bench}
 use Rattle.repair.specs.declared.Stepped.{Stepped}
 use Rattle.repair.specs.declared.Step.{Step}
 use Rattle.repair.specs.declared.Step.the-variants.{Whole, Filled, Tied, Raised, Blocked, Top, Clash, Refused}
 use Rattle.repair.specs.declared.Place.the-variants.{Row, Across}
 use Rattle.repair.specs.declared.Answer.the-variants.{Restored, Stuck}
+use Rattle.repair.specs.declared.Report.{Report}
 use Rattle.repair.proofs.Rows.{row-end, row-append}
 use Rattle.repair.proofs.Shape.{Shape, shape}
 use Rattle.repair.proofs.Fit.{RowFits, LentFit, fit-symbols, lent-fit}
@@ -278,17 +281,57 @@ module _ (p : ℕ) (stripe marks : List ℕ) (e : lentRefusal p stripe marks ≡
       (below-more (rowsLeft (m .bench)) (m .restored) (left-low m a) (below-each (m .restored) (λ i. let w = a .few i in omega arith)))
 
   end-below : (m : Standing) → After p 27 m → (b : Bool)
-      → T (allBelow 100 (answerNumber (if b then Restored else Stuck)
-      ∷ answerValues (if b then Restored else Stuck) (m .bench .level ∷ rowsLeft (m .bench) ∷ m .restored)))
+      → (answerNumber (if b then Restored else Stuck) < 100)
+      × T (allBelow 100 (answerValues (if b then Restored else Stuck) (m .bench .level ∷ rowsLeft (m .bench) ∷ m .restored)))
   unfolding if_then_else_ answerNumber answerValues
-  end-below m a true = below-more 0 _ (omega arith) (beside m a)
-  end-below m a false = below-more 1 _ (omega arith) (beside m a)
+  end-below m a true = (omega arith, beside m a)
+  end-below m a false = (omega arith, beside m a)
 
-  pub report-below : T (allBelow 100 (answerNumber (mendReport p stripe marks .answer) ∷ reportValues (mendReport p stripe marks)))
+  pub report-below : (answerNumber (mendReport p stripe marks .answer) < 100) × T (allBelow 100 (reportValues (mendReport p stripe marks)))
   unfolding if_then_else_ reportValues answerNumber answerValues endReport bare turnReport mendReport
   report-below = rw e (go (mended p stripe marks) reached)
     where
-      go : (t : Turn) → Reached p 27 t → T (allBelow 100 (answerNumber (turnReport t .answer) ∷ reportValues (turnReport t)))
+      go : (t : Turn) → Reached p 27 t → (answerNumber (turnReport t .answer) < 100) × T (allBelow 100 (reportValues (turnReport t)))
       go (on m) a = end-below m a (eqb (rowsLeft (m .bench)) 0)
       go (end m) a = end-below m a (eqb (rowsLeft (m .bench)) 0)
-      go (clash place) a = below-more 2 (placeValues place) (omega arith) a
+      go (clash place) a = (omega arith, a)
+
+-- a report, a stripe and marks that can be printed
+pub record Printable (p : ℕ) (r : Report) (s m : List ℕ) : Type 0 where
+  pub plan-known : T (known p)
+  pub long : length s ≡ planOf p .rows * planOf p .columns
+  pub words : length m ≡ planOf p .rows
+  pub symbols : T (symbolsFit (planOf p) m s)
+  pub answer : answerNumber (r .answer) < 100
+  pub values : T (allBelow 100 (reportValues r))
+
+pub mend-printable : (p : ℕ) (stripe marks : List ℕ) → lentRefusal p stripe marks ≡ 0 → {r : Report} {s m : List ℕ} → r ≡ mendReport p stripe marks
+    → s ≡ mendStripe p stripe marks → m ≡ mendMarks p stripe marks → Printable p r s m
+mend-printable p stripe marks e er es em =
+    let f = lent-fit p stripe marks e in
+    let below = subst (λ r. (answerNumber (r .answer) < 100) × T (allBelow 100 (reportValues r))) (sym er) (report-below p stripe marks e) in
+    record {
+      plan-known = f .plan-known;
+      long = ap length es ∙ mend-stripe-length p stripe marks e ∙ f .long;
+      words = ap length em ∙ mend-marks-length p stripe marks e ∙ f .words;
+      symbols = subst₂ (λ m s. T (symbolsFit (planOf p) m s)) (sym em) (sym es) (mend-fits p stripe marks e);
+      answer = below .0;
+      values = below .1;
+    }
+
+-- the text of a report, a stripe and marks that are those of mending
+pub text-mended : (p : ℕ) (stripe marks : List ℕ) {r : Report} {s m : List ℕ} → r ≡ mendReport p stripe marks
+    → s ≡ mendStripe p stripe marks → m ≡ mendMarks p stripe marks
+    → mendText p stripe marks ≡ item "plan " p ++ item " answer " (answerNumber (r .answer)) ++ reportText p r (r .answer) s m
+unfolding mendText
+text-mended p stripe marks er es em = rw (er, es, em)
+
+-- ---- the text of a file
+
+pub text-refused : (file : List ℕ) → (fileRefusal file unasked ≡ 0 → ⊥) → printed file ≡ item "refused " (fileRefusal file unasked) ++ lineEnd
+unfolding if_then_else_ printed
+text-refused file h = rw (ne-eqb (fileRefusal file unasked) 0 h)
+
+pub text-loaded : (file : List ℕ) → fileRefusal file unasked ≡ 0 → printed file ≡ mendText (planIn file) (symbolsIn file) (marksIn file)
+unfolding if_then_else_ printed
+text-loaded file e = rw e

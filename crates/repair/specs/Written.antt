@@ -1,5 +1,5 @@
 -- What the inner functions that write bytes and read files answer.
-use Prim.Native.Nat.{ℕ, _+_}
+use Prim.Native.Nat.{ℕ, _+_, _≤_}
 use mathlib.Core.Path.{_≡_}
 use mathlib.Core.Bool.{Bool}
 use mathlib.Core.List.{List, [], _∷_}
@@ -17,4 +17,5 @@ contentTests P marks symbols = (12, marksFit P marks) ∷ (13, symbolsFit P mark
 -- the bytes xs were written into the buffer `old` from `at` up to `next`, which made it `new`
 pub record Put (old : List ℕ) (at : ℕ) (xs : List ℕ) (next : ℕ) (new : List ℕ) : Type 0 where
   pub reached : next ≡ at + length xs
+  pub inside : next ≤ length old
   pub written : new ≡ sets old at xs

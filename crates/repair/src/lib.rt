@@ -210,6 +210,7 @@ pub fn mend(plan: usize, stripe: &mut [u8], marks: &mut [u32]) -> Report
     copies::put_symbols(stripe, &symbols[..]);
     copies::put_words(marks, &words[..]);
     report
+}
 
 // Writes a stripe and its marks as a file, 0 under marks. Where it is refused the file is unchanged.
 pub fn write_file(plan: usize, stripe: &[u8], marks: &[u32], file: &mut [u8]) -> Outcome

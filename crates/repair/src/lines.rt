@@ -14,7 +14,8 @@ ghost use Rattle.field.specs.Lists.{if_then_else_};
 ghost use Rattle.linear.specs.Marks.{bitsOf};
 ghost use Rattle.repair.specs.Plan.{planOf, known};
 ghost use Rattle.repair.specs.Answers.{answerNumber, placeValues, reportValues};
-ghost use Rattle.repair.specs.Refusal.{allBelow, unmarkedBelow, symbolsFit, lentRefusal};
+ghost use Rattle.repair.specs.Refusal.{allBelow, unmarkedBelow, symbolsFit, unasked, lentRefusal};
+ghost use Rattle.repair.specs.File.{planIn, symbolsIn, marksIn, fileRefusal};
 ghost use Rattle.repair.specs.Written.{Put};
 ghost use Rattle.repair.specs.Text.{decimal, hex, «item» as itemOf, lineEnd, shown, «grid» as gridOf, placeText, summary, reportText};
 ghost use Rattle.repair.specs.Text.{mendText, printed};
@@ -221,6 +222,16 @@ fn answer_number(answer: Answer) -> usize
 
 // ---- the text
 
+// The plan and the number of the answer, from the front of `out` on.
+fn put_answer(plan: usize, answer: Answer, out: &mut [u8]) -> usize
+    requires { ⌜ (plan < 100) × (answerNumber answer < 100) × (17 ≤ length (now out)) ⌝ }
+    ensures { λ r. ⌜ Put (now (out .entry)) 0 (itemOf "plan " plan ++ itemOf " answer " (answerNumber answer)) r (now (out .exit)) ⌝ }
+    ensures { λ r. ⌜ r ≤ 17 ⌝ }
+{
+    let next = put_item(b"plan ", plan, out, 0);
+    put_item(b" answer ", answer_number(answer), out, next)
+}
+
 // What is printed of a stripe and its marks that are not refused, from the front of `out` on. It mends them.
 fn put_mended(plan: usize, stripe: &mut [u8], marks: &mut [u32], out: &mut [u8]) -> usize
     requires { ⌜ lentRefusal plan (now stripe) (now marks) ≡ 0 ⌝ }
@@ -228,9 +239,34 @@ fn put_mended(plan: usize, stripe: &mut [u8], marks: &mut [u32], out: &mut [u8])
     ensures { λ r. ⌜ Put (now (out .entry)) 0 (mendText plan (now (stripe .entry)) (now (marks .entry))) r (now (out .exit)) ⌝ }
 {
     let report = crate::mend(plan, stripe, marks);
-    let at_answer = put_item(b"plan ", plan, out, 0);
-    let at_report = put_item(b" answer ", answer_number(report.answer), out, at_answer);
-    put_report(plan, report, stripe, marks, out, at_report)
+    let answer = report.answer;
+    let next = put_answer(plan, answer, out);
+    put_report(plan, report, stripe, marks, out, next)
+}
+
+// What is printed of a file that is not refused, from the front of `out` on.
+fn put_loaded(file: &[u8], out: &mut [u8]) -> usize
+    requires { ⌜ fileRefusal (now file) unasked ≡ 0 ⌝ }
+    requires { ⌜ 320 ≤ length (now out) ⌝ }
+    ensures { λ r. ⌜ Put (now (out .entry)) 0 (mendText (planIn (now (file .entry))) (symbolsIn (now (file .entry))) (marksIn (now (file .entry)))) r (now (out .exit)) ⌝ }
+{
+    let plan = file::plan_in(file);
+    let facts = plan::facts_of(plan);
+    let size = facts.symbols;
+    let rows = facts.rows;
+    let mut stripe = [0u8; 256];
+    let mut marks = [0u32; 8];
+    file::load(file, &mut stripe, &mut marks);
+    put_mended(plan, &mut stripe[..size], &mut marks[..rows], out)
+}
+
+// What is printed of a refusal, from the front of `out` on.
+fn put_refusal(number: usize, out: &mut [u8]) -> usize
+    requires { ⌜ (number < 100) × (11 ≤ length (now out)) ⌝ }
+    ensures { λ r. ⌜ Put (now (out .entry)) 0 (itemOf "refused " number ++ lineEnd) r (now (out .exit)) ⌝ }
+{
+    let end = put_item(b"refused ", number, out, 0);
+    buffer::put(b"\n", out, end)
 }
 
 // What is printed for a file, from the front of `out` on.
@@ -240,14 +276,7 @@ pub fn put_text(file: &[u8], out: &mut [u8]) -> usize
 {
     let number = file::file_refusal(file, true);
     if number != 0 {
-        let end = put_item(b"refused ", number, out, 0);
-        return buffer::put(b"\n", out, end);
+        return put_refusal(number, out);
     }
-    let plan = file::plan_in(file);
-    let rows = plan::rows(plan);
-    let size = rows * plan::columns(plan);
-    let mut stripe = [0u8; 256];
-    let mut marks = [0u32; 8];
-    file::load(file, &mut stripe, &mut marks);
-    put_mended(plan, &mut stripe[..size], &mut marks[..rows], out)
+    put_loaded(file, out)
 }

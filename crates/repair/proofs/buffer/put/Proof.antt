@@ -2,7 +2,7 @@ use mathlib.Core.Path.{_≡_, refl}
 use Prim.Native.Nat.{_-_}
 use native.Mathlib.Omega.{arith}
 use lib.ListN.{length}
-use Rattle.repair.proofs.Writing.{Writing, writing-starts, writing-length, writing-turns, writing-ends}
+use Rattle.repair.proofs.Writing.{Writing, writing-starts, writing-length, writing-turns, writing-put}
 use borrow.Author.Needs.{needs}
 use Rattle.repair.proofs.buffer.put.Statement.{statement}
 use Rattle.repair.proofs.buffer.put.Tie as tie
@@ -43,7 +43,7 @@ same-length : tie.Need-same-length Inv-loop μ-loop
 same-length c = writing-length _ _ _ (c .before .loop .inv .1)
 
 returns : tie.Need-returns Inv-loop μ-loop
-returns c = record { reached = refl; written = writing-ends _ _ _ (c .before .loop .inv .1) (omega arith) }
+returns c = writing-put _ _ _ (c .before .loop .inv .1) (omega arith) refl (omega arith)
 
 pub put-spec : {M : Type 1} → statement M
 put-spec =

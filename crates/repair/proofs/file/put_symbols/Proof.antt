@@ -1,3 +1,5 @@
+use Rattle.field.proofs.Lists.{length-up}
+use mathlib.Core.Path.{ap₂}
 use lib.Seq.{sets}
 use Rattle.repair.proofs.Shape.{shape}
 use Prim.Native.Nat.{_≤_}
@@ -86,8 +88,12 @@ same-length c = joining-length _ _ _ _ (c .before .loop .inv .2)
 returns : tie.Need-returns Inv-loop μ-loop
 returns c =
     let s = c .before .before .before .before .before .before in
-    counting-ends _ _ _ _ (c .before .loop .inv .2) (omega arith) .0
-    ∙ ap (sets _ _) (sym (blanked-rows (planOf (s .args .plan)) (s .args .marks .now) (s .args .stripe .now) (s .pre .1 .1 .0)))
+    let l = c .before .loop in
+    let P = planOf (s .args .plan) in
+    let all : l .r ≡ P .rows = omega (arith, l .inv .2 .within, length-up 0 (P .rows), s .pre .1 .0) in
+    counting-ends _ _ _ _ (l .inv .2) (omega arith)
+    (omega (arith, l .inv .1, ap₂ _*_ all (c .before .before .columns .ensures), s .pre .1 .1 .0, s .pre .1 .1 .1)) .written
+    ∙ ap (sets _ _) (sym (blanked-rows P (s .args .marks .now) (s .args .stripe .now) (s .pre .1 .1 .0)))
 
 pub put-symbols-spec : {M : Type 1} → statement M
 put-symbols-spec =

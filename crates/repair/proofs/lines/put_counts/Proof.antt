@@ -59,8 +59,8 @@ returns c =
     let s = c .before .before .before .before in
     let l = c .before .loop in
     let long = length-take-le (s .args .levels) (s .args .counts .now) (omega arith) in
-    let e = joining-ends _ _ _ _ (l .inv .1) (omega (arith, long)) in
-    (record { reached = e .1; written = e .0 }, omega (arith, l .inv .0, l .inv .1 .within, long))
+    let few = l .inv .1 .within in
+    (joining-ends _ _ _ _ (l .inv .1) (omega (arith, long)) (omega (arith, l .inv .0, few, long)), omega (arith, l .inv .0, few, long))
 
 pub put-counts-spec : {M : Type 1} → statement M
 put-counts-spec =

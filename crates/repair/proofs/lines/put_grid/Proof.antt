@@ -1,3 +1,5 @@
+use Rattle.field.proofs.Lists.{length-up}
+use mathlib.Core.Path.{ap₂}
 use Rattle.repair.proofs.Writing.{Joining, joining-starts, joining-length, counting-turns, counting-ends}
 use Rattle.repair.proofs.Texts.{fit-hex}
 use Rattle.repair.proofs.Stripes.{Cut, cut-inside, cut-length, cut-marks}
@@ -91,7 +93,12 @@ same-length c = joining-length _ _ _ _ (c .before .loop .inv .2)
 returns : tie.Need-returns Inv-loop μ-loop
 unfolding grid
 returns c =
-    let e = counting-ends _ _ _ _ (c .before .loop .inv .2) (omega arith) in record { reached = e .1; written = e .0 }
+    let s = c .before .before .before .before .before .before in
+    let l = c .before .loop in
+    let P = planOf (s .args .plan) in
+    let all : l .r ≡ P .rows = omega (arith, l .inv .2 .within, length-up 0 (P .rows), s .pre .1 .0) in
+    counting-ends _ _ _ _ (l .inv .2) (omega arith)
+    (omega (arith, l .inv .1, ap₂ _*_ all (c .before .before .columns .ensures), shape _ (s .pre .0), s .pre .1 .1 .1 .1))
 
 pub put-grid-spec : {M : Type 1} → statement M
 put-grid-spec =

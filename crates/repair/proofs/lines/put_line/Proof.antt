@@ -69,7 +69,8 @@ unfolding lineEnd
 returns c =
     let a = c .before .before .before .before .args in
     let long = length-row-shown (a .word) (a .row .now) in
-    (put-one (writing-put _ _ _ (c .before .loop .inv .1) (omega (arith, long)) (ap (λ n. a .at + n) (sym long))) 10, refl)
+    let kept = writing-length _ _ _ (c .before .loop .inv .1) in
+    (put-one (writing-put _ _ _ (c .before .loop .inv .1) (omega (arith, long)) (ap (λ n. a .at + n) (sym long)) (omega arith)) (omega (arith, kept)) 10, refl)
 
 pub put-line-spec : {M : Type 1} → statement M
 put-line-spec =

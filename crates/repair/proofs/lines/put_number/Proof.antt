@@ -30,7 +30,7 @@ returns : tie.Need-returns
 returns c =
     let a = c .before .args in
     let e = one-digit (a .n) (c .if1 .taken) in
-    (record { reached = ap (λ l. a .at + length l) (sym e); written = ap (sets _ _) (sym e) }, omega arith)
+    (record { reached = ap (λ l. a .at + length l) (sym e); inside = omega arith; written = ap (sets _ _) (sym e) }, omega arith)
 
 cast-out : tie.Need-cast-out
 cast-out c = search needs
@@ -57,7 +57,7 @@ returns-2 : tie.Need-returns-2
 returns-2 c =
     let a = c .before .args in
     let e = two-digits (a .n) (c .if1 .left) (omega arith) in
-    (record { reached = ap (λ l. a .at + length l) (sym e); written = rw add-one (ap (sets _ _) (sym e)) }, omega arith)
+    (record { reached = ap (λ l. a .at + length l) (sym e); inside = omega arith; written = rw add-one (ap (sets _ _) (sym e)) }, omega arith)
 
 pub put-number-spec : {M : Type 1} → statement M
 put-number-spec =
