@@ -67,7 +67,8 @@ module _ (F : Field) (K : IsField F) (m n : ℕ) (checks target v : List ℕ) (m
   split-zeros w a i l =
       inner-split F K at k n (ent checks n i) (vec w) (λ _. 0) within (P .apart) (λ t _. refl)
       (λ c lc free. agrees-unmarked F n marks (zeros ms) w a c lc (unplaced c free) ∙ zeros-at ms c)
-      ∙ ap₂ _⊕_ (inner-zero F _ _ n (λ c _. mul-zero F K _)) (inner-same F _ _ _ _ k (λ t lt. ap (λ x. mul F x (vec w (at t))) (sym (G .coefficient i l t lt))))
+      ∙ ap₂ _⊕_ (inner-zero F _ _ n (λ c _. mul-zero F K _))
+      (inner-same F _ _ _ _ k (λ t lt. ap (λ x. mul F x (vec w (at t))) (sym (G .coefficient i l t lt))))
       ∙ zero-⊕ _
 
   -- ---- fillings and solutions
@@ -139,13 +140,16 @@ module _ (F : Field) (K : IsField F) (m n : ℕ) (checks target v : List ℕ) (m
 
   independent : (z : ℕ → ℕ) → Dependence F M m k false z → Independent F rows ms
   unfolding ms rows
-  independent z D = independent-of F rows ms (λ w d. T-not (vanish w) (d .nonzero) (vanish-of w (λ c l. none-left w d c (rw (agrees-size F n marks (zeros ms) w (d .agrees)) at l))))
+  independent z D =
+      independent-of F rows ms (λ w d. T-not (vanish w) (d .nonzero)
+      (vanish-of w (λ c l. none-left w d c (rw (agrees-size F n marks (zeros ms) w (d .agrees)) at l))))
     where
       none-left : (w : List ℕ) → Dependency F rows ms w → (c : ℕ) → c < n → vec w c ≡ 0
       none-left w d c l = elim (ℕ-discrete (bitAt marks c) 1) [
         | yes e ↦
             let r = P .every c e in
-            rw (← r .2) (D .none refl (λ t. vec w (at t)) (λ t lt. agrees-marked F n marks (zeros ms) w (d .agrees) (at t) (within t lt) (P .marked t lt))
+            rw (← r .2)
+            (D .none refl (λ t. vec w (at t)) (λ t lt. agrees-marked F n marks (zeros ms) w (d .agrees) (at t) (within t lt) (P .marked t lt))
             (dependency-ker w d) (r .0) (r .1))
         | no ne ↦ agrees-unmarked F n marks (zeros ms) w (d .agrees) c l ne ∙ zeros-at ms c
       ]
@@ -189,11 +193,11 @@ outcomes q checks target v marks k places M dependent consistent x z P fit G S =
       let e = answer-tied _ (our-field q) _ _ checks target v marks k _ _ M P fit G hole seen refl refl z (rw d at (S .dependence)) in (rw e, rw e);
   none = λ d c.
       let e = answer-none _ (our-field q) _ _ checks target v marks k _ _ M P fit G hole seen refl refl x z
-          (rw d at (S .dependence)) (rw c at (S .consistency)) in
+      (rw d at (S .dependence)) (rw c at (S .consistency)) in
       (rw e, rw e);
   one = λ d c.
       let e = answer-one _ (our-field q) _ _ checks target v marks k _ _ M P fit G hole seen refl refl x z
-          (rw d at (S .dependence)) (rw c at (S .consistency)) in
+      (rw d at (S .dependence)) (rw c at (S .consistency)) in
       (rw e, rw e);
 }
   where
@@ -233,8 +237,8 @@ module _ (q : ℕ) (checks target v : List ℕ) (marks : ℕ) (free : marks ≡ 
   unfolding fillOf answerOf vectorOf rows-of bits-of
   unmarked-none e =
       let f = fill-none (fieldOf q) rows-of target bits-of v no-columns (λ w g.
-          absurd (subst T (sym e) (subst (λ l. T (same (sumsOf (fieldOf q) rows-of l) target)) (only-self w (g .agrees))
-          (subst (λ l. T (same (sumsOf (fieldOf q) rows-of w) l)) (g .meets) (same-refl _))))) in
+      absurd (subst T (sym e) (subst (λ l. T (same (sumsOf (fieldOf q) rows-of l) target)) (only-self w (g .agrees))
+      (subst (λ l. T (same (sumsOf (fieldOf q) rows-of w) l)) (g .meets) (same-refl _))))) in
       (rw f, rw f)
     where
       only-self : (w : List ℕ) → Agrees (fieldOf q) bits-of v w → w ≡ v

@@ -255,15 +255,19 @@ module _ (F : Field) (K : IsField F) where
   dependent-no M m k at r free z R G full = record { dependency = λ e. absurd (false≢true e); none = λ _. only-zero }
     where
       only-zero : (y : ℕ → ℕ) → ((j : ℕ) → j < k → y j < size F) → Ker F M m k y → (j : ℕ) → j < k → y j ≡ 0
-      only-zero y small h j l = ⊎-elim
-          (λ a. sym (K .unit (y j) (small j l))
-          ∙ ap (λ v. mul F v (y j)) (sym (R .unit j (omega (arith, a .1))) ∙ ap (M j) (a .2 j (omega (arith, a .1))))
-          ∙ sym (inner-one F K (M j) y j k l (λ x lx ne.
-          ap (λ v. mul F v (y x)) (ap (M j) (sym (a .2 x (omega (arith, a .1)))) ∙ R .gone x (omega (arith, a .1)) j (omega (arith, a .1, R .rows)) (omega arith))
-          ∙ zero-mul F K _))
-          ∙ h j (omega (arith, a .1, R .rows)))
-          (λ b. absurd (omega (arith, b .0)))
-          G
+      only-zero y small h j l = ⊎-elim (λ a. each (a .1) (a .2) y small h j l) (λ b. absurd (omega (arith, b .0))) G
+        where
+          each : r ≡ k → ((t : ℕ) → t < r → at t ≡ t) → (y : ℕ → ℕ) → ((j : ℕ) → j < k → y j < size F) → Ker F M m k y → (j : ℕ) → j < k → y j ≡ 0
+          each full at-t y small h j l =
+              sym (K .unit (y j) (small j l)) ∙ ap (λ v. mul F v (y j)) (sym one) ∙ sym (inner-one F K (M j) y j k l other) ∙ h j (omega (arith, R .rows))
+            where
+              one : M j j ≡ 1
+              one = ap (M j) (sym (at-t j (omega arith))) ∙ R .unit j (omega arith)
+
+              other : (x : ℕ) → x < k → x ≢ j → mul F (M j x) (y x) ≡ 0
+              other x lx ne =
+                  ap (λ v. mul F v (y x)) (ap (M j) (sym (at-t x (omega arith))) ∙ R .gone x (omega arith) j (omega (arith, R .rows)) (omega arith))
+                  ∙ zero-mul F K _
 
   -- ---- and so of the matrix before: both speak of the vectors that give 0
 

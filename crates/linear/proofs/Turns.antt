@@ -178,8 +178,8 @@ module _ (F : Field) where
 -- ---- `read_off`, at row t
 
 pub reading-turn : (F : Field) (K : IsField F) (a at : List ℕ) (m k r u : ℕ) → Elements F (vec a) → Form (ent a (k + 1)) m (vec at) r k
-    → (z : List ℕ) (t : ℕ) → k ≤ length z → t < r → ReadOff F (ent a (k + 1)) m k (vec at) u t (vec z)
+    → (z : List ℕ) (t : ℕ) → vec at t < length z → t < r → ReadOff F (ent a (k + 1)) m k (vec at) u t (vec z)
     → ReadOff F (ent a (k + 1)) m k (vec at) u (t + 1) (vec (set z (vec at t) (ent a (k + 1) t u)))
 reading-turn F K a at m k r u h R z t fit l Z =
     read-step F K (ent a (k + 1)) m k (vec at) r u t (vec z) _ R l (h _) Z
-    (λ j ne. getD-set-other z (vec at t) j _ 0 ne) (getD-set-same z (vec at t) _ 0 (omega (arith, R .col t l)))
+    (λ j ne. getD-set-other z (vec at t) j _ 0 ne) (getD-set-same z (vec at t) _ 0 fit)

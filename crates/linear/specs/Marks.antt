@@ -11,7 +11,7 @@ use Rattle.field.specs.Lists.{if_then_else_, upFrom}
 use Rattle.field.specs.Field.{Field, _⊕_}
 use Rattle.field.specs.Ours.{fieldOf}
 use Rattle.linear.specs.Fill.{Fill, tied, none, one, fill}
-use Rattle.linear.specs.System.{vec, Matrix, ent, inner}
+use Rattle.linear.specs.System.{vec, Matrix, ent, inner, Elements}
 use Rattle.linear.specs.declared.Outcome.{Outcome}
 use Rattle.linear.specs.declared.Outcome.the-variants.{Tied, None, One}
 
@@ -36,6 +36,16 @@ bitAt w c = w / 2 ^ c % 2
 -- the marks of n columns: bit c of the mark word marks column c
 unfoldable pub bitsOf : ℕ → ℕ → List Bool
 bitsOf n w = map (λ c. eqb (bitAt w c) 1) (upFrom 0 n)
+
+-- what the code takes: a row of coefficients for each target sum, as many as there are columns; marks of columns alone;
+-- coefficients and target sums that are elements of the field. The vector's symbols may be any numbers
+pub record Fit (q : ℕ) (checks target v : List ℕ) (marks : ℕ) : Type 0 where
+  pub few : length target ≤ mostChecks
+  pub narrow : length v ≤ mostColumns
+  pub shape : length checks ≡ length target * length v
+  pub within : marks < 2 ^ length v
+  pub coefficients : Elements (fieldOf q) (vec checks)
+  pub sums : Elements (fieldOf q) (vec target)
 
 -- `fill` in field q, with a check for each target sum
 unfoldable pub fillOf : ℕ → List ℕ → List ℕ → List ℕ → ℕ → Fill

@@ -3,18 +3,20 @@ pub mod system;
 
 ghost use mathlib.Core.Path.{_≡_};
 ghost use Prim.Native.Nat.{ℕ, _+_, _*_, _^_, _<_, _≤_};
-ghost use lib.Dec.{eqb};
 ghost use lib.ListN.{length};
 ghost use Rattle.field.specs.Ours.{fieldOf, products};
 ghost use Rattle.linear.specs.Lists.{same};
 ghost use Rattle.linear.specs.Fill.{sumsOf};
 ghost use Rattle.linear.specs.System.{vec, ent, inner, Elements};
-ghost use Rattle.linear.specs.Marks.{mostChecks, mostColumns, room, rowsOf, fillOf, answerOf, vectorOf, Places, hidden, Copied, Gathered, scattered};
+ghost use Rattle.linear.specs.Marks.{Fit, rowsOf, fillOf, answerOf, vectorOf};
+ghost use Rattle.linear.specs.Marks.{mostColumns, room, Places, hidden, Copied, Gathered, scattered};
 
 // How many checks and columns `fill` takes at most, and the room that its system takes.
 pub const CHECKS: usize = 16;
+
 pub const COLUMNS: usize = 32;
-const ROOM: usize = 528;
+
+const ROOM: usize = CHECKS * (COLUMNS + 1);
 
 // The marked columns are dependent; they are not, and nothing fills; or the one vector that does is in place.
 pub enum Outcome {
@@ -111,7 +113,8 @@ fn gather(
     requires { ⌜ (length (now target) * n ≤ length (now checks)) × (length (now target) * (k + 1) ≤ length (now a)) ⌝ }
     requires { ⌜ (n ≤ length (now shown)) × (k ≤ length (now places)) × ((t : ℕ) → t < k → vec (now places) t < n) ⌝ }
     requires { ⌜ Elements (fieldOf q) (vec (now checks)) × Elements (fieldOf q) (vec (now target)) × Elements (fieldOf q) (vec (now a)) ⌝ }
-    ensures { λ _. ⌜ Gathered (fieldOf q) (now (checks .entry)) (now (target .entry)) (vec (now (shown .entry))) n k (vec (now (places .entry))) (ent (now (a .exit)) (k + 1)) (length (now (target .entry))) ⌝ }
+    ensures { λ _. ⌜ Gathered (fieldOf q) (now (checks .entry)) (now (target .entry)) (vec (now (shown .entry))) n k (vec (now (places .entry)))
+        (ent (now (a .exit)) (k + 1)) (length (now (target .entry))) ⌝ }
     ensures { λ _. ⌜ Elements (fieldOf q) (vec (now (a .exit))) ⌝ }
 {
     let mut i = 0;
@@ -127,7 +130,9 @@ fn gather(
 fn has_sums(q: usize, table: &[u8; 256], checks: &[u8], target: &[u8], v: &[u8]) -> bool
     requires { ⌜ now table ≡ products ⌝ }
     requires { ⌜ length (now checks) ≡ length (now target) * length (now v) ⌝ }
-    ensures { λ r. ⌜ r ≡ same (sumsOf (fieldOf q) (rowsOf (length (now (target .entry))) (length (now (v .entry))) (now (checks .entry))) (now (v .entry))) (now (target .entry)) ⌝ }
+    ensures { λ r. ⌜ r ≡ same
+        (sumsOf (fieldOf q) (rowsOf (length (now (target .entry))) (length (now (v .entry))) (now (checks .entry))) (now (v .entry)))
+        (now (target .entry)) ⌝ }
 {
     let n = v.len();
     let mut i = 0;
@@ -165,12 +170,11 @@ fn gather_marked(
     a: &mut [u8],
 ) -> usize
     requires { ⌜ now table ≡ products ⌝ }
-    requires { ⌜ (length (now target) ≤ mostChecks) × (length (now v) ≤ mostColumns) × (marks < 2 ^ length (now v)) ⌝ }
-    requires { ⌜ length (now checks) ≡ length (now target) * length (now v) ⌝ }
-    requires { ⌜ (length (now places) ≡ mostColumns) × (length (now a) ≡ room) ⌝ }
-    requires { ⌜ Elements (fieldOf q) (vec (now checks)) × Elements (fieldOf q) (vec (now target)) × Elements (fieldOf q) (vec (now a)) ⌝ }
+    requires { ⌜ Fit q (now checks) (now target) (now v) marks ⌝ }
+    requires { ⌜ (length (now places) ≡ mostColumns) × (length (now a) ≡ room) × Elements (fieldOf q) (vec (now a)) ⌝ }
     ensures { λ k. ⌜ (k ≤ length (now (v .entry))) × Places marks k (vec (now (places .exit))) ⌝ }
-    ensures { λ k. ⌜ Gathered (fieldOf q) (now (checks .entry)) (now (target .entry)) (hidden marks (now (v .entry))) (length (now (v .entry))) k (vec (now (places .exit))) (ent (now (a .exit)) (k + 1)) (length (now (target .entry))) ⌝ }
+    ensures { λ k. ⌜ Gathered (fieldOf q) (now (checks .entry)) (now (target .entry)) (hidden marks (now (v .entry))) (length (now (v .entry))) k
+        (vec (now (places .exit))) (ent (now (a .exit)) (k + 1)) (length (now (target .entry))) ⌝ }
     ensures { λ _. ⌜ Elements (fieldOf q) (vec (now (a .exit))) ⌝ }
 {
     let n = v.len();
@@ -182,21 +186,44 @@ fn gather_marked(
 }
 
 // Fills the marked places by the system of the marked columns.
-fn fill_marked(q: usize, table: &[u8; 256], checks: &[u8], target: &[u8], v: &mut [u8], marks: u32) -> Outcome
+fn fill_marked(
+    q: usize,
+    table: &[u8; 256],
+    checks: &[u8],
+    target: &[u8],
+    v: &mut [u8],
+    marks: u32,
+) -> Outcome
     requires { ⌜ now table ≡ products ⌝ }
-    requires { ⌜ (length (now target) ≤ mostChecks) × (length (now v) ≤ mostColumns) × (marks < 2 ^ length (now v)) ⌝ }
-    requires { ⌜ length (now checks) ≡ length (now target) * length (now v) ⌝ }
-    requires { ⌜ Elements (fieldOf q) (vec (now checks)) × Elements (fieldOf q) (vec (now target)) ⌝ }
+    requires { ⌜ Fit q (now checks) (now target) (now v) marks ⌝ }
     ensures { λ r. ⌜ r ≡ answerOf (fillOf q (now (checks .entry)) (now (target .entry)) (now (v .entry)) marks) ⌝ }
     ensures { λ _. ⌜ now (v .exit) ≡ vectorOf (fillOf q (now (checks .entry)) (now (target .entry)) (now (v .entry)) marks) (now (v .entry)) ⌝ }
 {
     let mut places: [usize; COLUMNS] = [0; COLUMNS];
     let mut a: [u8; ROOM] = [0; ROOM];
-    let k = gather_marked(q, table, checks, target, &v[..], marks, &mut places[..], &mut a[..]);
+    let k = gather_marked(
+        q,
+        table,
+        checks,
+        target,
+        &v[..],
+        marks,
+        &mut places[..],
+        &mut a[..],
+    );
     let mut pivots: [usize; COLUMNS] = [0; COLUMNS];
     let mut solution: [u8; COLUMNS] = [0; COLUMNS];
     let mut dependency: [u8; COLUMNS] = [0; COLUMNS];
-    let s = system::solve(q, table, &mut a[..], target.len(), k, &mut pivots[..], &mut solution[..], &mut dependency[..]);
+    let s = system::solve(
+        q,
+        table,
+        &mut a[..],
+        target.len(),
+        k,
+        &mut pivots[..],
+        &mut solution[..],
+        &mut dependency[..],
+    );
     if s.dependent {
         return Outcome::Tied;
     }
@@ -207,14 +234,19 @@ fn fill_marked(q: usize, table: &[u8; 256], checks: &[u8], target: &[u8], v: &mu
     Outcome::One
 }
 
-// Fills the marked places of v, in field `q`, so that its sums are the target: `checks` has a row of as many coefficients as v
-// has symbols for each sum, and bit c of `marks` marks column c. Writes v only where the answer is `One`, and never reads what
-// stands under a mark. Where nothing is marked, the sums are compared.
-pub fn fill(q: usize, table: &[u8; 256], checks: &[u8], target: &[u8], v: &mut [u8], marks: u32) -> Outcome
+// Fills the marked places of v, in field `q`, so that its sums are the target: for each sum `checks` has a row of coefficients, as
+// many as v has symbols, and bit c of `marks` marks column c. v changes only where the answer is `One`, and no answer depends on
+// what stands under a mark. Where nothing is marked the sums are compared; else the system of the marked columns is solved.
+pub fn fill(
+    q: usize,
+    table: &[u8; 256],
+    checks: &[u8],
+    target: &[u8],
+    v: &mut [u8],
+    marks: u32,
+) -> Outcome
     requires { ⌜ now table ≡ products ⌝ }
-    requires { ⌜ (length (now target) ≤ mostChecks) × (length (now v) ≤ mostColumns) × (marks < 2 ^ length (now v)) ⌝ }
-    requires { ⌜ length (now checks) ≡ length (now target) * length (now v) ⌝ }
-    requires { ⌜ Elements (fieldOf q) (vec (now checks)) × Elements (fieldOf q) (vec (now target)) ⌝ }
+    requires { ⌜ Fit q (now checks) (now target) (now v) marks ⌝ }
     ensures { λ r. ⌜ r ≡ answerOf (fillOf q (now (checks .entry)) (now (target .entry)) (now (v .entry)) marks) ⌝ }
     ensures { λ _. ⌜ now (v .exit) ≡ vectorOf (fillOf q (now (checks .entry)) (now (target .entry)) (now (v .entry)) marks) (now (v .entry)) ⌝ }
 {

@@ -7,7 +7,8 @@ ghost use mathlib.Core.Logic.{_≢_};
 ghost use Prim.Native.Nat.{ℕ, _+_, _*_, _<_, _≤_};
 ghost use lib.ListN.{length};
 ghost use Rattle.field.specs.Ours.{fieldOf, products};
-ghost use Rattle.linear.specs.System.{vec, ent, Elements, Consistency, Dependence, Solved, Same, Found, Added, Cleared, Pivoted, Form, Free, ReadOff};
+ghost use Rattle.linear.specs.System.{vec, ent, Elements, Consistency, Dependence, Solved};
+ghost use Rattle.linear.specs.System.{Same, Found, Added, Cleared, Pivoted, Form, Free, ReadOff};
 
 // Adds f times row p to row i, from column c on: before it row p is 0. i may be p.
 fn add_row(q: usize, table: &[u8; 256], a: &mut [u8], w: usize, i: usize, p: usize, c: usize, f: u8)
@@ -69,7 +70,16 @@ fn clear_column(q: usize, table: &[u8; 256], a: &mut [u8], m: usize, w: usize, p
 
 // Makes column c the unit vector of row r, by row i, whose entry there is not 0. i is r or a row below it; the rows from r on are
 // 0 before column c.
-fn pivot(q: usize, table: &[u8; 256], a: &mut [u8], m: usize, w: usize, r: usize, c: usize, i: usize)
+fn pivot(
+    q: usize,
+    table: &[u8; 256],
+    a: &mut [u8],
+    m: usize,
+    w: usize,
+    r: usize,
+    c: usize,
+    i: usize,
+)
     requires { ⌜ now table ≡ products ⌝ }
     requires { ⌜ (m * w ≤ length (now a)) × (r ≤ i) × (i < m) × (c < w) ⌝ }
     requires { ⌜ Elements (fieldOf q) (vec (now a)) ⌝ }
@@ -92,7 +102,14 @@ struct Reduced {
 }
 
 // Makes unit vectors of the first k columns, as far as they are independent. pivots[t] becomes the column whose 1 is in row t.
-fn reduce(q: usize, table: &[u8; 256], a: &mut [u8], m: usize, k: usize, pivots: &mut [usize]) -> Reduced
+fn reduce(
+    q: usize,
+    table: &[u8; 256],
+    a: &mut [u8],
+    m: usize,
+    k: usize,
+    pivots: &mut [usize],
+) -> Reduced
     requires { ⌜ now table ≡ products ⌝ }
     requires { ⌜ (m * (k + 1) ≤ length (now a)) × (k ≤ length (now pivots)) ⌝ }
     requires { ⌜ Elements (fieldOf q) (vec (now a)) ⌝ }
@@ -116,7 +133,10 @@ fn reduce(q: usize, table: &[u8; 256], a: &mut [u8], m: usize, k: usize, pivots:
         }
         c += 1;
     }
-    Reduced { rank: r, free: free }
+    Reduced {
+        rank: r,
+        free: free,
+    }
 }
 
 // Writes 0 everywhere.
@@ -131,7 +151,16 @@ fn wipe(z: &mut [u8])
 }
 
 // Writes the first r entries of column u to z, each at its row's pivot column, and 0 elsewhere.
-fn read_off(q: usize, a: &[u8], m: usize, k: usize, pivots: &[usize], r: usize, u: usize, z: &mut [u8])
+fn read_off(
+    q: usize,
+    a: &[u8],
+    m: usize,
+    k: usize,
+    pivots: &[usize],
+    r: usize,
+    u: usize,
+    z: &mut [u8],
+)
     requires { ⌜ (m * (k + 1) ≤ length (now a)) × (r ≤ length (now pivots)) × (k ≤ length (now z)) × (u ≤ k) ⌝ }
     requires { ⌜ Elements (fieldOf q) (vec (now a)) ⌝ }
     requires { ⌜ Form (ent (now a) (k + 1)) m (vec (now pivots)) r k ⌝ }
@@ -148,7 +177,15 @@ fn read_off(q: usize, a: &[u8], m: usize, k: usize, pivots: &[usize], r: usize, 
 }
 
 // Whether a reduced system has a solution; writes one to x where it has.
-fn find_solution(q: usize, a: &[u8], m: usize, k: usize, pivots: &[usize], r: usize, x: &mut [u8]) -> bool
+fn find_solution(
+    q: usize,
+    a: &[u8],
+    m: usize,
+    k: usize,
+    pivots: &[usize],
+    r: usize,
+    x: &mut [u8],
+) -> bool
     requires { ⌜ (m * (k + 1) ≤ length (now a)) × (r ≤ length (now pivots)) × (k ≤ length (now x)) ⌝ }
     requires { ⌜ Elements (fieldOf q) (vec (now a)) ⌝ }
     requires { ⌜ Form (ent (now a) (k + 1)) m (vec (now pivots)) r k ⌝ }
@@ -162,7 +199,16 @@ fn find_solution(q: usize, a: &[u8], m: usize, k: usize, pivots: &[usize], r: us
 }
 
 // Whether the columns of a reduced system are dependent; writes a dependency to z where they are.
-fn find_dependency(q: usize, a: &[u8], m: usize, k: usize, pivots: &[usize], r: usize, free: usize, z: &mut [u8]) -> bool
+fn find_dependency(
+    q: usize,
+    a: &[u8],
+    m: usize,
+    k: usize,
+    pivots: &[usize],
+    r: usize,
+    free: usize,
+    z: &mut [u8],
+) -> bool
     requires { ⌜ (m * (k + 1) ≤ length (now a)) × (r ≤ length (now pivots)) × (k ≤ length (now z)) ⌝ }
     requires { ⌜ Elements (fieldOf q) (vec (now a)) ⌝ }
     requires { ⌜ Form (ent (now a) (k + 1)) m (vec (now pivots)) r k ⌝ }
@@ -198,7 +244,8 @@ pub fn solve(
     requires { ⌜ now table ≡ products ⌝ }
     requires { ⌜ (m * (k + 1) ≤ length (now a)) × (k ≤ length (now pivots)) × (k ≤ length (now solution)) × (k ≤ length (now dependency)) ⌝ }
     requires { ⌜ Elements (fieldOf q) (vec (now a)) ⌝ }
-    ensures { λ s. ⌜ Solved (fieldOf q) (ent (now (a .entry)) (k + 1)) m k (s .dependent) (s .consistent) (vec (now (solution .exit))) (vec (now (dependency .exit))) ⌝ }
+    ensures { λ s. ⌜ Solved (fieldOf q) (ent (now (a .entry)) (k + 1)) m k (s .dependent) (s .consistent)
+        (vec (now (solution .exit))) (vec (now (dependency .exit))) ⌝ }
 {
     let s = reduce(q, table, a, m, k, pivots);
     let rank = s.rank;

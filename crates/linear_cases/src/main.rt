@@ -32,7 +32,16 @@ fn answer(q: usize, system: [u8; 12], m: usize, k: usize)
     let mut pivots: [usize; 5] = [0; 5];
     let mut x: [u8; 5] = [0; 5];
     let mut z: [u8; 5] = [0; 5];
-    let s = linear::system::solve(q, &table, &mut a[..], m, k, &mut pivots[..], &mut x[..], &mut z[..]);
+    let s = linear::system::solve(
+        q,
+        &table,
+        &mut a[..],
+        m,
+        k,
+        &mut pivots[..],
+        &mut x[..],
+        &mut z[..],
+    );
     let flags = [flag(s.dependent), flag(s.consistent), b' '];
     io::write_all(1, &flags);
     write_symbols(x, b' ');
@@ -41,7 +50,14 @@ fn answer(q: usize, system: [u8; 12], m: usize, k: usize)
 
 // Writes five symbols, and a byte behind them.
 fn write_symbols(x: [u8; 5], end: u8) {
-    let line = [digit(x[0]), digit(x[1]), digit(x[2]), digit(x[3]), digit(x[4]), end];
+    let line = [
+        digit(x[0]),
+        digit(x[1]),
+        digit(x[2]),
+        digit(x[3]),
+        digit(x[4]),
+        end,
+    ];
     io::write_all(1, &line);
 }
 
@@ -88,12 +104,48 @@ fn main() {
     // inconsistent, with independent columns: more equations than unknowns
     answer(16, [1, 5, 2, 10, 1, 6, 0, 0, 0, 0, 0, 0], 3, 1);
     // nothing marked: the sums are the target, and are not
-    filling(2, [1, 1, 1, 1, 1, 0, 1, 0, 1, 0, 1, 0, 1, 0, 1], [0, 1, 1], [1, 0, 1, 1, 1], 0);
-    filling(16, [1, 1, 1, 1, 1, 0, 1, 2, 3, 4, 0, 1, 4, 5, 3], [0, 0, 1], [0, 0, 0, 0, 0], 0);
+    filling(
+        2,
+        [1, 1, 1, 1, 1, 0, 1, 0, 1, 0, 1, 0, 1, 0, 1],
+        [0, 1, 1],
+        [1, 0, 1, 1, 1],
+        0,
+    );
+    filling(
+        16,
+        [1, 1, 1, 1, 1, 0, 1, 2, 3, 4, 0, 1, 4, 5, 3],
+        [0, 0, 1],
+        [0, 0, 0, 0, 0],
+        0,
+    );
     // marked: what stands under a mark does not count
-    filling(16, [1, 1, 1, 1, 1, 0, 1, 2, 3, 4, 0, 1, 4, 5, 3], [0, 0, 0], [1, 99, 3, 255, 5], 10);
-    filling(16, [1, 1, 1, 1, 1, 0, 1, 2, 3, 4, 0, 1, 4, 5, 3], [0, 0, 0], [1, 7, 7, 7, 5], 14);
-    filling(2, [1, 1, 1, 1, 1, 0, 1, 0, 1, 0, 1, 0, 1, 0, 1], [0, 1, 1], [1, 9, 1, 9, 1], 10);
+    filling(
+        16,
+        [1, 1, 1, 1, 1, 0, 1, 2, 3, 4, 0, 1, 4, 5, 3],
+        [0, 0, 0],
+        [1, 99, 3, 255, 5],
+        10,
+    );
+    filling(
+        16,
+        [1, 1, 1, 1, 1, 0, 1, 2, 3, 4, 0, 1, 4, 5, 3],
+        [0, 0, 0],
+        [1, 7, 7, 7, 5],
+        14,
+    );
+    filling(
+        2,
+        [1, 1, 1, 1, 1, 0, 1, 0, 1, 0, 1, 0, 1, 0, 1],
+        [0, 1, 1],
+        [1, 9, 1, 9, 1],
+        10,
+    );
     // more marks than checks
-    filling(16, [1, 1, 1, 1, 1, 0, 1, 2, 3, 4, 0, 1, 4, 5, 3], [0, 0, 0], [1, 2, 3, 4, 5], 31);
+    filling(
+        16,
+        [1, 1, 1, 1, 1, 0, 1, 2, 3, 4, 0, 1, 4, 5, 3],
+        [0, 0, 0],
+        [1, 2, 3, 4, 5],
+        31,
+    );
 }

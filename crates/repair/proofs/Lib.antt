@@ -1,4 +1,4 @@
--- What is shown of the definitions.
+-- What is shown of the definitions: cases and samples; plans by their numbers, and what their tables hold; the refusals, and start.
 pub mod Sheet
 pub mod Samples
 -- the code's facts and tables of a plan
@@ -39,6 +39,10 @@ pub mod Stepping
 pub mod Keeping
 pub mod Joining
 pub mod Learning
+-- encoding and extraction
+pub mod Data
+pub mod Placing
+pub mod Carrying
 -- the stripe file
 pub mod Sames
 pub mod Writing

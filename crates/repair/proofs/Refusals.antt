@@ -72,13 +72,13 @@ below-part q l m h e k n fits =
     ∙ up-true _ n (λ i l′.
     ap (λ x. ltb x q) (getD-drop k l i 0) ∙ up-each (λ j. ltb (getD l j 0) q) m (sym (all-take (λ x. ltb x q) 0 l m h) ∙ e) (k + i) (omega arith))
 
--- where each symbol is below q, the marks do not matter
-below-fits : (q : ℕ) (ms : List Bool) (xs : List ℕ) → allBelow q xs ≡ true → unmarkedBelow q ms xs ≡ true
+-- where each symbol is below q, each unmarked one is
+below-unmarked : (q : ℕ) (ms : List Bool) (xs : List ℕ) → allBelow q xs ≡ true → unmarkedBelow q ms xs ≡ true
 unfolding all allBelow unmarkedBelow
-below-fits q [] xs e = refl
-below-fits q (m ∷ ms) [] e = refl
-below-fits q (m ∷ ms) (x ∷ xs) e =
-    let h = true-and _ _ e in ap₂ _&&_ (ap (λ b. m || b) (h .0) ∙ or-true m) (below-fits q ms xs (h .1))
+below-unmarked q [] xs e = refl
+below-unmarked q (m ∷ ms) [] e = refl
+below-unmarked q (m ∷ ms) (x ∷ xs) e =
+    let h = true-and _ _ e in ap₂ _&&_ (ap (λ b. m || b) (h .0) ∙ or-true m) (below-unmarked q ms xs (h .1))
 
 -- row r's test
 abbrev pub rowFits : Plan → List ℕ → List ℕ → ℕ → Bool
@@ -108,7 +108,7 @@ module _ (P : Plan) (marks symbols : List ℕ) (room : P .rows * P .columns ≤ 
   unfolding symbolsFit rowAt
   symbols-below e =
       up-true (rowFits P marks symbols) (P .rows) (λ r h.
-      below-fits _ (marksAt P marks r) _ (below-part _ symbols (P .rows * P .columns) room e (r * P .columns) (P .columns) (row-ends P r h)))
+      below-unmarked _ (marksAt P marks r) _ (below-part _ symbols (P .rows * P .columns) room e (r * P .columns) (P .columns) (row-ends P r h)))
 
   pub turn : {f : Facts} → FactsOf P f → (r at : ℕ) → r < f .rows → at ≡ r * f .columns → Turn P marks symbols f r at
   unfolding rowAt marksAt

@@ -2,6 +2,7 @@
 mod buffer;
 mod codeword;
 mod copies;
+mod encoding;
 mod file;
 mod level;
 mod lines;
@@ -16,7 +17,7 @@ ghost use mathlib.Core.Path.{_≡_};
 ghost use lib.ListN.{length};
 ghost use Rattle.repair.specs.Steps.{started, rowStep, levelStep};
 ghost use Rattle.repair.specs.Rounds.{mendReport, mendStripe, mendMarks};
-ghost use Rattle.repair.specs.Codeword.{tested, outcomeOf};
+ghost use Rattle.repair.specs.Codeword.{tested, outcomeOf, encodeRefusal, encodeStripe, extractRefusal, extractData};
 ghost use Rattle.repair.specs.File.{writeRefusal, writeFile, readRefusal, readStripe, readMarks};
 ghost use Rattle.repair.specs.Tables.{padded};
 ghost use Rattle.repair.specs.Text.{printed};
@@ -130,7 +131,14 @@ pub fn row_step(bench: Bench, row: usize) -> Stepped
 {
     let plan = bench.plan;
     let level = bench.level;
-    let number = refusal::bench_refusal(plan, level, &bench.symbols, &bench.marks, &bench.sums, row < plan::rows(plan));
+    let number = refusal::bench_refusal(
+        plan,
+        level,
+        &bench.symbols,
+        &bench.marks,
+        &bench.sums,
+        row < plan::rows(plan),
+    );
     if number != 0 {
         return Stepped {
             bench: bench,
@@ -177,15 +185,10 @@ pub fn is_codeword(plan: usize, stripe: &[u8]) -> Verdict
     if number != 0 {
         return Verdict::Refused(number);
     }
-    let table = field::products();
-    let checks = plan::row_checks(plan);
-    if !codeword::rows_hold(plan, &table, &checks, stripe) {
-        return Verdict::No;
+    if codeword::holds(plan, stripe) {
+        return Verdict::Yes;
     }
-    if !codeword::levels_hold(plan, &table, &checks, stripe) {
-        return Verdict::No;
-    }
-    Verdict::Yes
+    Verdict::No
 }
 
 // Mends a stripe in one call, by rounds of row steps and level steps on a bench of its own. Restored and Stuck leave the restored
@@ -195,9 +198,9 @@ pub fn mend(plan: usize, stripe: &mut [u8], marks: &mut [u32]) -> Report
     ensures { λ _. ⌜ now (stripe .exit) ≡ mendStripe plan (now (stripe .entry)) (now (marks .entry)) ⌝ }
     ensures { λ _. ⌜ now (marks .exit) ≡ mendMarks plan (now (stripe .entry)) (now (marks .entry)) ⌝ }
 {
-    let number = refusal::lent_refusal(plan, &stripe[..], &marks[..]);
-    if number != 0 {
-        return mending::bare_report(Answer::Refused(number));
+    let refused = refusal::lent_refusal(plan, &stripe[..], &marks[..]);
+    if refused != 0 {
+        return mending::bare_report(Answer::Refused(refused));
     }
     let ended = mending::rounds(plan, &stripe[..], &marks[..]);
     let report = ended.report;
@@ -210,6 +213,38 @@ pub fn mend(plan: usize, stripe: &mut [u8], marks: &mut [u32]) -> Report
     copies::put_symbols(stripe, &symbols[..]);
     copies::put_words(marks, &words[..]);
     report
+}
+
+// Encoding: the data at the places that are not check places, row by row, and the check places such that the stripe is a codeword.
+// What stood in the stripe is not read; refused, it stays as it is.
+pub fn encode(plan: usize, data: &[u8], stripe: &mut [u8]) -> Outcome
+    ensures { λ r. ⌜ r ≡ outcomeOf (encodeRefusal plan (now («data» .entry)) (now (stripe .entry))) ⌝ }
+    ensures { λ _. ⌜ now (stripe .exit) ≡ encodeStripe plan (now («data» .entry)) (now (stripe .entry)) ⌝ }
+{
+    let number = encoding::encode_refusal(plan, data, &stripe[..]);
+    if number != 0 {
+        return Outcome::Refused(number);
+    }
+    let mut words = plan::check_places(plan);
+    let rows = plan::rows(plan);
+    encoding::place(plan, &words[..rows], data, stripe);
+    mend(plan, stripe, &mut words[..rows]);
+    Outcome::Done
+}
+
+// Extraction: the data of a codeword, from the places that are not check places. Refused, the room for the data stays as it is.
+pub fn extract(plan: usize, stripe: &[u8], data: &mut [u8]) -> Outcome
+    ensures { λ r. ⌜ r ≡ outcomeOf (extractRefusal plan (now (stripe .entry)) (now («data» .entry))) ⌝ }
+    ensures { λ _. ⌜ now («data» .exit) ≡ extractData plan (now (stripe .entry)) (now («data» .entry)) ⌝ }
+{
+    let number = encoding::extract_refusal(plan, stripe, &data[..]);
+    if number != 0 {
+        return Outcome::Refused(number);
+    }
+    let words = plan::check_places(plan);
+    let rows = plan::rows(plan);
+    encoding::take(plan, &words[..rows], stripe, data);
+    Outcome::Done
 }
 
 // Writes a stripe and its marks as a file, 0 under marks. Where it is refused the file is unchanged.

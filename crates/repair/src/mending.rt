@@ -1,11 +1,12 @@
 // Mending in one call: rounds on a bench of its own, until they stop.
+use crate::Answer;
+use crate::Place;
+use crate::Report;
 use crate::copies;
 use crate::level;
 use crate::level::Learning;
 use crate::plan;
 use crate::steps;
-use crate::{Answer, Place, Report};
-
 ghost use mathlib.Core.Path.{_≡_};
 ghost use mathlib.Core.Bool.{not};
 ghost use mathlib.Core.List.{[], map};
@@ -92,11 +93,26 @@ pub fn rounds(plan: usize, stripe: &[u8], words: &[u32]) -> Mended
     let mut restored = [0usize; 3];
     let mut level = 1;
     loop {
-        let walk = steps::walk_rows(plan, level, &table, &checks, &mut symbols[..], &mut marks[..], &sums[..]);
+        let walk = steps::walk_rows(
+            plan,
+            level,
+            &table,
+            &checks,
+            &mut symbols[..],
+            &mut marks[..],
+            &sums[..],
+        );
         let row = walk.row;
         if row < rows {
-            let report = bare_report(Answer::Clash(Place::Row { row: row, level: level }));
-            return Mended { report: report, symbols: symbols, marks: marks };
+            let report = bare_report(Answer::Clash(Place::Row {
+                row: row,
+                level: level,
+            }));
+            return Mended {
+                report: report,
+                symbols: symbols,
+                marks: marks,
+            };
         }
         restored[level - 1] = walk.filled;
         if level == levels {
@@ -108,7 +124,11 @@ pub fn rounds(plan: usize, stripe: &[u8], words: &[u32]) -> Mended
             }
             Learning::Failing => {
                 let report = bare_report(Answer::Clash(Place::Across { level: level + 1 }));
-                return Mended { report: report, symbols: symbols, marks: marks };
+                return Mended {
+                    report: report,
+                    symbols: symbols,
+                    marks: marks,
+                };
             }
             Learning::Learned => {
                 level += 1;
@@ -116,7 +136,11 @@ pub fn rounds(plan: usize, stripe: &[u8], words: &[u32]) -> Mended
         }
     }
     let report = end_report(plan, level, restored, &marks[..]);
-    Mended { report: report, symbols: symbols, marks: marks }
+    Mended {
+        report: report,
+        symbols: symbols,
+        marks: marks,
+    }
 }
 
 // Whether the answer is Clash.

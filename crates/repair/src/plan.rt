@@ -93,18 +93,21 @@ pub fn is_known(plan: usize) -> bool
     0 < plan && plan < 4
 }
 
+// How many rows a stripe has.
 pub fn rows(plan: usize) -> usize
     ensures { λ r. ⌜ r ≡ planOf plan .rows ⌝ }
 {
     facts_of(plan).rows
 }
 
+// How many columns a stripe has.
 pub fn columns(plan: usize) -> usize
     ensures { λ r. ⌜ r ≡ planOf plan .columns ⌝ }
 {
     facts_of(plan).columns
 }
 
+// The last level.
 pub fn levels(plan: usize) -> usize
     ensures { λ r. ⌜ r ≡ length (planOf plan .levels) ⌝ }
 {
@@ -141,6 +144,7 @@ pub fn carried(plan: usize) -> usize
     facts_of(plan).carried
 }
 
+// How many bytes a stripe file has.
 pub fn file_length(plan: usize) -> usize
     ensures { λ r. ⌜ r ≡ fileLength (planOf plan) ⌝ }
 {
@@ -223,7 +227,7 @@ pub fn check_places(plan: usize) -> [u32; 8]
     ensures { λ r. ⌜ r ≡ placeTable (planOf plan) ⌝ }
 {
     match plan {
-        1 => [0x40, 0x40, 0x74, 0x0, 0x0, 0x0, 0x0, 0x0],
+        1 => [0x40, 0x40, 0x74, 0, 0, 0, 0, 0],
         2 => [
             0x8000001f,
             0x8000001f,

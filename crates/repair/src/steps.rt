@@ -1,22 +1,23 @@
 // Row steps: a row filled, the rows of a round, and the step on a bench.
+use crate::Bench;
+use crate::Step;
+use crate::Stepped;
 use crate::plan;
 use crate::sums;
-use crate::{Bench, Step, Stepped};
-
 ghost use mathlib.Core.Path.{_≡_};
 ghost use Prim.Native.Nat.{ℕ, _+_, _*_, _^_, _<_, _≤_};
 ghost use lib.Dec.{T};
 ghost use lib.ListN.{length, getD};
 ghost use lib.Seq.{sets};
 ghost use Rattle.field.specs.Ours.{products};
-ghost use Rattle.linear.specs.Marks.{bitsOf, answerOf, vectorOf};
-ghost use Rattle.linear.specs.Fill.{sumsOf, fill};
+ghost use Rattle.linear.specs.Marks.{answerOf, vectorOf};
+ghost use Rattle.linear.specs.Fill.{sumsOf};
 ghost use Rattle.repair.specs.Plan.{planOf, known, checksTo, rowAt};
-ghost use Rattle.repair.specs.Refusal.{sumsAt, sumsFit, benchRefusal, unasked};
+ghost use Rattle.repair.specs.Refusal.{sumsFit, benchRefusal, unasked};
 ghost use Rattle.repair.specs.Steps.{rowFill, rowStepBy};
 ghost use Rattle.repair.specs.Tables.{checkTable};
 ghost use Rattle.repair.specs.Learned.{benchOf};
-ghost use Rattle.repair.specs.Walk.{Arrays, Walked};
+ghost use Rattle.repair.specs.Walk.{Arrays, fillAt, Walked};
 
 // The sum of row `row` under check j of levels 1 to t.
 fn check_sum(
@@ -58,8 +59,13 @@ fn fill_row(
     requires { ⌜ now checks ≡ checkTable (planOf plan) ⌝ }
     requires { ⌜ T (known plan) × (row < planOf plan .rows) × (word < 2 ^ planOf plan .columns) × T (sumsFit (planOf plan) level (now sums)) ⌝ }
     requires { ⌜ (length (now symbols) ≡ 256) × (length (now sums) ≡ 128) ⌝ }
-    ensures { λ r. ⌜ r ≡ answerOf (fill (planOf plan .field) (checksTo (planOf plan) level) (sumsAt (planOf plan) level (now (sums .entry)) row) (bitsOf (planOf plan .columns) word) (rowAt (planOf plan) (now (symbols .entry)) row)) ⌝ }
-    ensures { λ r. ⌜ now (symbols .exit) ≡ sets (now (symbols .entry)) (row * planOf plan .columns) (vectorOf (fill (planOf plan .field) (checksTo (planOf plan) level) (sumsAt (planOf plan) level (now (sums .entry)) row) (bitsOf (planOf plan .columns) word) (rowAt (planOf plan) (now (symbols .entry)) row)) (rowAt (planOf plan) (now (symbols .entry)) row)) ⌝ }
+    ensures { λ r. ⌜ r ≡ answerOf (fillAt (planOf plan) level (now (sums .entry)) word (now (symbols .entry)) row) ⌝ }
+    ensures { λ _.
+        ⌜
+        now (symbols .exit)
+        ≡ sets (now (symbols .entry)) (row * planOf plan .columns)
+        (vectorOf (fillAt (planOf plan) level (now (sums .entry)) word (now (symbols .entry)) row) (rowAt (planOf plan) (now (symbols .entry)) row))
+        ⌝ }
 {
     let facts = plan::facts_of(plan);
     let q = facts.field;
@@ -70,7 +76,14 @@ fn fill_row(
     let end = start + n;
     let first = row * 16;
     let last = first + m;
-    linear::fill(q, table, &checks[..size], &sums[first..last], &mut symbols[start..end], word)
+    linear::fill(
+        q,
+        table,
+        &checks[..size],
+        &sums[first..last],
+        &mut symbols[start..end],
+        word,
+    )
 }
 
 // Where the walk over a round's rows came to: the first row whose checks fail, or R; and how many rows it filled.
@@ -93,7 +106,11 @@ pub fn walk_rows(
     requires { ⌜ now checks ≡ checkTable (planOf plan) ⌝ }
     requires { ⌜ benchRefusal (benchOf plan level (now symbols) (now marks) (now sums)) unasked ≡ 0 ⌝ }
     requires { ⌜ Arrays (benchOf plan level (now symbols) (now marks) (now sums)) ⌝ }
-    ensures { λ w. ⌜ Walked (benchOf plan level (now (symbols .entry)) (now (marks .entry)) (now (sums .entry))) (benchOf plan level (now (symbols .exit)) (now (marks .exit)) (now (sums .entry))) (w .row) (w .filled) ⌝ }
+    ensures { λ w.
+        ⌜
+        Walked (benchOf plan level (now (symbols .entry)) (now (marks .entry)) (now (sums .entry)))
+        (benchOf plan level (now (symbols .exit)) (now (marks .exit)) (now (sums .entry))) (w .row) (w .filled)
+        ⌝ }
 {
     let rows = plan::rows(plan);
     let count = plan::sums_to(plan, level);
@@ -107,7 +124,9 @@ pub fn walk_rows(
         if word == 0 {
             let mut j = 0;
             while j < count {
-                if check_sum(plan, level, table, checks, &symbols[..], row, j) != sums[row * 16 + j] {
+                if check_sum(plan, level, table, checks, &symbols[..], row, j)
+                    != sums[row * 16 + j]
+                {
                     break 'rows row;
                 }
                 j += 1;
@@ -142,16 +161,43 @@ pub fn step_row(bench: Bench, row: usize) -> Stepped
     let word = marks[row];
     let table = field::products();
     let checks = plan::row_checks(plan);
-    match fill_row(plan, level, &table, &checks[..], &mut symbols[..], word, &sums[..], row) {
-        linear::Outcome::Tied => Stepped { bench: bench, answer: Step::Tied },
-        linear::Outcome::None => Stepped { bench: bench, answer: Step::Clash },
+    match fill_row(
+        plan,
+        level,
+        &table,
+        &checks[..],
+        &mut symbols[..],
+        word,
+        &sums[..],
+        row,
+    ) {
+        linear::Outcome::Tied => Stepped {
+            bench: bench,
+            answer: Step::Tied,
+        },
+        linear::Outcome::None => Stepped {
+            bench: bench,
+            answer: Step::Clash,
+        },
         linear::Outcome::One => {
             marks[row] = 0;
-            let filled = Bench { plan: plan, level: level, symbols: symbols, marks: marks, sums: sums };
+            let filled = Bench {
+                plan: plan,
+                level: level,
+                symbols: symbols,
+                marks: marks,
+                sums: sums,
+            };
             if word == 0 {
-                return Stepped { bench: filled, answer: Step::Whole };
+                return Stepped {
+                    bench: filled,
+                    answer: Step::Whole,
+                };
             }
-            Stepped { bench: filled, answer: Step::Filled }
+            Stepped {
+                bench: filled,
+                answer: Step::Filled,
+            }
         }
     }
 }

@@ -13,16 +13,23 @@ use Rattle.linear.proofs.Rows.{system-fits}
 use Rattle.linear.proofs.fill_marked.Statement.{statement}
 use Rattle.linear.proofs.fill_marked.Tie as tie
 
+-- the places before: the start, and the gathered system
+abbrev start : tie.After-gather-marked → tie.Start
+start c = c .before .before .before .before .before .before .before
+
+abbrev gathered-at : tie.After-solve → tie.After-gather-marked
+gathered-at c = c .before .before .before .before .before .before .before
+
 -- what the solved system says
-answers : (c : tie.After-solve) → let s = c .before .before .before .before .before .before .before .before .before .before .before .before .before .before .args in let r = c .solve .result in let k = c .before .before .before .before .before .before .before .gather-marked .result in
-    Outcomes (s .q) (s .checks .now) (s .target .now) (s .v .now) (s .marks) (r .dependent) (r .consistent)
-    (scattered (s .v .now) (vec (c .before .before .before .before .before .before .before .gather-marked .last .1 .1 .1 .1 .1 .1 .0)) (vec (c .solve .last .1 .1 .1 .1 .1 .1 .0)) k)
+answers : (c : tie.After-solve) → let s = start (gathered-at c) .args in let gathered = gathered-at c .gather-marked in
+    Outcomes (s .q) (s .checks .now) (s .target .now) (s .v .now) (s .marks) (c .solve .result .dependent) (c .solve .result .consistent)
+    (scattered (s .v .now) (vec (gathered .last .1 .1 .1 .1 .1 .1 .0)) (vec (c .solve .last .1 .1 .1 .1 .1 .1 .0)) (gathered .result))
 answers c =
-    let s = c .before .before .before .before .before .before .before .before .before .before .before .before .before .before in
-    let gathered = c .before .before .before .before .before .before .before .gather-marked in
+    let s = start (gathered-at c) in
+    let gathered = gathered-at c .gather-marked in
     outcomes (s .args .q) (s .args .checks .now) (s .args .target .now) (s .args .v .now) (s .args .marks) (gathered .result)
     (gathered .last .1 .1 .1 .1 .1 .1 .0) _ _ _ (vec (c .solve .last .1 .1 .1 .1 .1 .1 .0)) _
-    (gathered .ensures .0 .1) (s .pre .1 .0 .2) (gathered .ensures .1 .0) (c .solve .ensures)
+    (gathered .ensures .0 .1) (s .pre .1 .within) (gathered .ensures .1 .0) (c .solve .ensures)
 
 slice-aggregate-gather-marked : tie.Need-slice-aggregate-gather-marked
 slice-aggregate-gather-marked c = refl
@@ -32,7 +39,7 @@ slice-aggregate-gather-marked-2 c = refl
 
 gather-marked-requires : tie.Need-gather-marked-requires
 gather-marked-requires c κs = let s = c .before .before .before .before .before .before in
-    (s .pre .0, (s .pre .1 .0, (s .pre .1 .1 .0, ((refl, refl), (s .pre .1 .1 .1 .0, s .pre .1 .1 .1 .1, zero-elements _ (our-field (s .args .q)) 528)))))
+    (s .pre .0, (s .pre .1, (refl, refl, zero-elements _ (our-field (s .args .q)) 528)))
 
 slice-aggregate-solve : tie.Need-slice-aggregate-solve
 slice-aggregate-solve c = sym (c .before .before .before .gather-marked .kept .1 .1 .1 .1 .1 .1 .1 .0)
@@ -47,13 +54,22 @@ slice-aggregate-solve-4 : tie.Need-slice-aggregate-solve-4
 slice-aggregate-solve-4 c = refl
 
 solve-requires : tie.Need-solve-requires
-solve-requires c κs = let s = c .before .before .before .before .before .before .before .before .before .before .before .before .before in
-    let pre = s .pre .1 .0 in
+solve-requires c κs = let s = start (c .before .before .before .before .before .before) in
+    let fit = s .pre .1 in
     let gathered = c .before .before .before .before .before .before .gather-marked in
     let few = gathered .ensures .0 .0 in
-    let fits = system-fits (length (s .args .target .now)) (gathered .result) (pre .0) (omega (arith, few, pre .1)) in
-    (s .pre .0, ((omega (arith, gathered .kept .1 .1 .1 .1 .1 .1 .1 .0, fits), omega (arith, few, pre .1), omega (arith, few, pre .1),
-    omega (arith, few, pre .1)), gathered .ensures .1 .1))
+    let fits = system-fits (length (s .args .target .now)) (gathered .result) (fit .few) (omega (arith, few, fit .narrow)) in (
+      s .pre .0,
+      (
+        (
+          omega (arith, gathered .kept .1 .1 .1 .1 .1 .1 .1 .0, fits),
+          omega (arith, few, fit .narrow),
+          omega (arith, few, fit .narrow),
+          omega (arith, few, fit .narrow),
+        ),
+        gathered .ensures .1 .1,
+      ),
+    )
 
 same-length : tie.Need-same-length
 same-length c = refl
@@ -68,24 +84,32 @@ returns-2 : tie.Need-returns-2
 returns-2 c = answers (c .before .before .before .before .before .before .before) .none (c .before .before .if1 .left) (not-true _ (c .if2 .taken))
 
 slice-aggregate-scatter : tie.Need-slice-aggregate-scatter
-slice-aggregate-scatter c = sym (c .before .before .before .before .before .before .before .before .before .before .before .before .before .before .before .before .gather-marked .kept .1 .1 .1 .1 .1 .1 .0)
+slice-aggregate-scatter c =
+    sym (gathered-at (c .before .before .before .before .before .before .before .before .before) .gather-marked .kept .1 .1 .1 .1 .1 .1 .0)
 
 slice-aggregate-scatter-2 : tie.Need-slice-aggregate-scatter-2
-slice-aggregate-scatter-2 c = sym (c .before .before .before .before .before .before .before .before .before .before .solve .kept .1 .1 .1 .1 .1 .1 .0)
+slice-aggregate-scatter-2 c =
+    sym (c .before .before .before .before .before .before .before .before .before .before .solve .kept .1 .1 .1 .1 .1 .1 .0)
 
 scatter-requires : tie.Need-scatter-requires
-scatter-requires c κs = let s = c .before .before .before .before .before .before .before .before .before .before .before .before .before .before .before .before .before .before .before .before .before .before .before .before in
-    let pre = s .pre .1 .0 in
-    let gathered = c .before .before .before .before .before .before .before .before .before .before .before .before .before .before .before .before .before .gather-marked in
-    let few = gathered .ensures .0 .0 in
-    (omega (arith, gathered .kept .1 .1 .1 .1 .1 .1 .0, few, pre .1), omega (arith, c .before .before .before .before .before .before .before .before .before .before .solve .kept .1 .1 .1 .1 .1 .1 .0, few, pre .1),
-    λ t l. bit-bound _ (s .args .marks) _ (pre .2) (gathered .ensures .0 .1 .marked t l))
+scatter-requires c κs = let s = start (gathered-at (c .before .before .before .before .before .before .before .before .before .before)) in
+    let fit = s .pre .1 in
+    let gathered = gathered-at (c .before .before .before .before .before .before .before .before .before .before) .gather-marked in
+    let solved = c .before .before .before .before .before .before .before .before .before .before .solve in
+    let few = gathered .ensures .0 .0 in (
+      omega (arith, gathered .kept .1 .1 .1 .1 .1 .1 .0, few, fit .narrow),
+      omega (arith, solved .kept .1 .1 .1 .1 .1 .1 .0, few, fit .narrow),
+      λ t l. bit-bound _ (s .args .marks) _ (fit .within) (gathered .ensures .0 .1 .marked t l),
+    )
 
 same-length-3 : tie.Need-same-length-3
 same-length-3 c = c .before .before .scatter .kept .0
 
 returns-3 : tie.Need-returns-3
-returns-3 c = let a = answers (c .before .before .before .before .before .before .before .before .before .before .before .before .before) .one (c .before .before .before .before .before .before .before .before .if1 .left) (not-false _ (c .before .before .before .before .before .before .if2 .left)) in (a .0, c .before .before .scatter .ensures ∙ a .1)
+returns-3 c = let solved = c .before .before .before .before .before .before .before .before .before .before .before .before .before in
+    let independent = c .before .before .before .before .before .before .before .before .if1 .left in
+    let consistent = not-false _ (c .before .before .before .before .before .before .if2 .left) in
+    let a = answers solved .one independent consistent in (a .0, c .before .before .scatter .ensures ∙ a .1)
 
 pub fill-marked-spec : {M : Type 1} → statement M
 fill-marked-spec =

@@ -23,14 +23,24 @@ slice-aggregate-gather c = sym (c .before .before .hide .kept .1 .1 .0)
 
 gather-requires : tie.Need-gather-requires
 gather-requires c κs = let s = c .before .before .before .before .before .before .before .before .before .before .before .before .before .before .before in
-    let pre = s .pre .1 in
+    let fit = s .pre .1 .0 in
+    let room = s .pre .1 .1 in
     let listed = c .before .before .before .before .before .before .before .before .list-places in
     let few = listed .ensures .0 in
-    let fits = system-fits (length (s .args .target .now)) (listed .result) (pre .0 .0) (omega (arith, few, pre .0 .1)) in
-    (s .pre .0, ((omega (arith, pre .1 .0), omega (arith, fits, pre .1 .1 .0 .1)),
-    ((omega (arith, c .before .before .before .before .hide .kept .1 .1 .0, pre .0 .1), omega (arith, few, pre .0 .1, pre .1 .1 .0 .0, listed .kept .1 .1 .0),
-    λ t l. bit-bound _ (s .args .marks) _ (pre .0 .2) (listed .ensures .1 .marked t l)),
-    pre .1 .1 .1)))
+    let fits = system-fits (length (s .args .target .now)) (listed .result) (fit .few) (omega (arith, few, fit .narrow)) in (
+      s .pre .0,
+      (
+        (omega (arith, fit .shape), omega (arith, fits, room .1)),
+        (
+          (
+            omega (arith, c .before .before .before .before .hide .kept .1 .1 .0, fit .narrow),
+            omega (arith, few, fit .narrow, room .0, listed .kept .1 .1 .0),
+            λ t l. bit-bound _ (s .args .marks) _ (fit .within) (listed .ensures .1 .marked t l),
+          ),
+          (fit .coefficients, fit .sums, room .2),
+        ),
+      ),
+    )
 
 same-length : tie.Need-same-length
 same-length c = c .before .before .before .before .before .before .before .before .before .before .before .list-places .kept .1 .1 .0
@@ -40,8 +50,9 @@ same-length-2 c = c .before .before .gather .kept .1 .1 .1 .1 .1 .1 .1 .1 .0
 
 returns : tie.Need-returns
 returns c = let listed = c .before .before .before .before .before .before .before .before .before .before .before .list-places .ensures in
+    let shown = c .before .before .before .before .before .before .before .hide .ensures in
     let gathered = c .before .before .gather .ensures in
-    ((listed .0, listed .1), (gathered-same _ _ _ _ _ _ _ _ _ _ (c .before .before .before .before .before .before .before .hide .ensures) (gathered .0), gathered .1))
+    ((listed .0, listed .1), (gathered-same _ _ _ _ _ _ _ _ _ _ shown (gathered .0), gathered .1))
 
 pub gather-marked-spec : {M : Type 1} → statement M
 gather-marked-spec =

@@ -13,7 +13,8 @@ use Rattle.linear.proofs.gather_row.Statement.{statement}
 use Rattle.linear.proofs.gather_row.Tie as tie
 
 abbrev Inv-loop : tie.InvT-loop
-Inv-loop q checks n i places k a₀ r s t₀ a t = (t ≤ k) × (length a ≡ length a₀) × Elements (fieldOf q) (vec a) × Copied checks n i (vec places) a₀ a k t
+Inv-loop q checks n i places k a₀ r s t₀ a t =
+    (t ≤ k) × (length a ≡ length a₀) × Elements (fieldOf q) (vec a) × Copied checks n i (vec places) a₀ a k t
 
 abbrev μ-loop : tie.MeasureT-loop
 μ-loop q checks n i places k a₀ r s t₀ a t = k - t

@@ -33,9 +33,10 @@ shared-slice-read-if1 c = search needs
 
 returns : tie.Need-returns Inv-loop μ-loop
 returns c = let s = c .before .before .before .before .before .before .before .before in
-    ne-same _ _ (λ e. c .if1 .taken (c .before .before .row-sum .ensures
-    ∙ sym (sums-at _ (our-field (s .args .q)) _ _ (s .args .checks .now) (s .args .v .now) (le-refl _) (c .before .before .before .before .loop .i) (omega arith))
-    ∙ ap (λ l. vec l (c .before .before .before .before .loop .i)) e))
+    let i = c .before .before .before .before .loop .i in
+    let rows = length (s .args .target .now) in
+    let at-i = sums-at _ (our-field (s .args .q)) rows _ (s .args .checks .now) (s .args .v .now) (le-refl _) i (omega arith) in
+    ne-same _ _ (λ e. c .if1 .taken (c .before .before .row-sum .ensures ∙ sym at-i ∙ ap (λ l. vec l i) e))
 
 add-i : tie.Need-add-i Inv-loop μ-loop
 add-i c = search needs
@@ -44,7 +45,9 @@ loop-less : tie.Need-loop-less Inv-loop μ-loop
 loop-less c = search needs
 
 loop-again : tie.Need-loop-again Inv-loop μ-loop
-loop-again c = (omega arith, below-more _ _ (c .before .before .before .before .loop .inv .1) (sym (c .before .before .row-sum .ensures) ∙ c .if1 .left))
+loop-again c =
+    let inv = c .before .before .before .before .loop .inv in
+    (omega arith, below-more _ _ (inv .1) (sym (c .before .before .row-sum .ensures) ∙ c .if1 .left))
 
 returns-2 : tie.Need-returns-2 Inv-loop μ-loop
 returns-2 c = let s = c .before .before .before .before .before in

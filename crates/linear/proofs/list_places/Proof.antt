@@ -59,16 +59,17 @@ loop-less c = search needs
 
 loop-again : tie.Need-loop-again Inv-loop μ-loop
 loop-again c = let inv = c .before .loop .inv in (
-      simp length-set (inv .0),
-      placing-turn _ _ _ _ _ _ _ (inv .1) _ _ (c .before .before .pre .0) (omega arith) (next c)
-          (λ s l. getD-set-other (c .before .loop .places) _ s _ 0 (omega arith)) (getD-set-same (c .before .loop .places) _ _ 0 (room c)),
-    )
+  simp length-set (inv .0),
+  placing-turn _ _ _ _ _ _ _ (inv .1) _ _ (c .before .before .pre .0) (omega arith) (next c)
+      (λ s l. getD-set-other (c .before .loop .places) _ s _ 0 (omega arith)) (getD-set-same (c .before .loop .places) _ _ 0 (room c)),
+)
 
 same-length : tie.Need-same-length Inv-loop μ-loop
 same-length c = search needs
 
 returns : tie.Need-returns Inv-loop μ-loop
-returns c = (ones-le _ _ (c .before .before .pre .0), placing-end _ _ _ _ _ _ _ (c .before .loop .inv .1) (c .before .before .fits .marks .fits) (search needs))
+returns c = let s = c .before .before in
+    (ones-le _ _ (s .pre .0), placing-end _ _ _ _ _ _ _ (c .before .loop .inv .1) (s .fits .marks .fits) (search needs))
 
 pub list-places-spec : {M : Type 1} → statement M
 list-places-spec =

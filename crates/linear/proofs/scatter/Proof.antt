@@ -31,8 +31,12 @@ shared-slice-read-v c = search needs
 
 slice-write-v : tie.Need-slice-write-v Inv-loop μ-loop
 slice-write-v c = let s = c .before .before .before .before in
-    omega (arith, s .pre .2 (c .before .before .before .loop .t) (omega arith), ap length (c .before .before .before .loop .inv .1),
-    length-scattered (s .args .v .now) (vec (s .args .places .now)) (vec (s .args .x .now)) (c .before .before .before .loop .t))
+    omega (
+      arith,
+      s .pre .2 (c .before .before .before .loop .t) (omega arith),
+      ap length (c .before .before .before .loop .inv .1),
+      length-scattered (s .args .v .now) (vec (s .args .places .now)) (vec (s .args .x .now)) (c .before .before .before .loop .t),
+    )
 
 add-t : tie.Need-add-t Inv-loop μ-loop
 add-t c = search needs

@@ -25,7 +25,8 @@ slice-aggregate-solve-4 c = search needs
 solve-requires : tie.Need-solve-requires
 solve-requires c κs = let s = c .before .before .before .before .before .before in
     let size : length (s .args .system) ≡ 12 = search needs in
-    (c .before .before .before .before .before .products .ensures, ((omega arith, s .pre .1, s .pre .1, s .pre .1), symbols-at _ (s .args .system) (s .pre .2)))
+    let table = c .before .before .before .before .before .products .ensures in
+    (table, ((omega arith, s .pre .1, s .pre .1, s .pre .1), symbols-at _ (s .args .system) (s .pre .2)))
 
 flag-requires : tie.Need-flag-requires
 flag-requires c κs = search needs

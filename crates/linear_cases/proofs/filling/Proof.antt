@@ -23,9 +23,17 @@ fill-requires : tie.Need-fill-requires
 fill-requires c κs = let s = c .before .before .before .before .before in
     let width : length (s .args .v) ≡ 5 = search needs in
     let rows : length (s .args .t3) ≡ 3 = search needs in
-    let size : length (s .args .t2) ≡ 15 = search needs in
-    (c .before .before .before .before .products .ensures, ((omega arith, omega arith, rw width (s .pre .0)),
-    (rw (width, rows) size, (symbols-at _ (s .args .t2) (s .pre .1), symbols-at _ (s .args .t3) (s .pre .2)))))
+    let size : length (s .args .t2) ≡ 15 = search needs in (
+      c .before .before .before .before .products .ensures,
+      record {
+        few = omega arith;
+        narrow = omega arith;
+        shape = rw (width, rows) size;
+        within = rw width (s .pre .0);
+        coefficients = symbols-at _ (s .args .t2) (s .pre .1);
+        sums = symbols-at _ (s .args .t3) (s .pre .2);
+      },
+    )
 
 outcome-requires : tie.Need-outcome-requires
 outcome-requires c κs = search needs

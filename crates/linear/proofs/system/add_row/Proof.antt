@@ -63,7 +63,9 @@ same-length : tie.Need-same-length Inv-loop μ-loop
 same-length c = search needs
 
 returns-2 : tie.Need-returns-2 Inv-loop μ-loop
-returns-2 c = (adding-end _ (our-field (c .before .before .before .before .args .q)) _ _ _ _ _ _ _ (c .before .loop .inv) (search needs), c .before .loop .inv .elements)
+returns-2 c = let s = c .before .before .before .before in
+    let inv = c .before .loop .inv in
+    (adding-end _ (our-field (s .args .q)) _ _ _ _ _ _ _ inv (search needs), inv .elements)
 
 pub add-row-spec : {M : Type 1} → statement M
 add-row-spec =

@@ -8,10 +8,12 @@ use Rattle.linear.proofs.system.find_dependency.Statement.{statement}
 use Rattle.linear.proofs.system.find_dependency.Tie as tie
 
 returns : tie.Need-returns
-returns c = let s = c .before .before .before .before in dependent-no _ (our-field (s .args .q)) _ _ _ _ _ _ _ (s .pre .1 .1 .0) (s .pre .1 .1 .1) (c .if1 .taken)
+returns c = let s = c .before .before .before .before in
+    dependent-no _ (our-field (s .args .q)) _ _ _ _ _ _ _ (s .pre .1 .1 .0) (s .pre .1 .1 .1) (c .if1 .taken)
 
 read-off-requires : tie.Need-read-off-requires
-read-off-requires c κs = let s = c .before .before .before .before .before in ((omega arith, omega arith, omega arith, omega arith), (s .pre .1 .0, s .pre .1 .1 .0))
+read-off-requires c κs = let s = c .before .before .before .before .before in
+    ((omega arith, omega arith, omega arith, omega arith), (s .pre .1 .0, s .pre .1 .1 .0))
 
 slice-write-z : tie.Need-slice-write-z
 slice-write-z c = search needs

@@ -25,7 +25,8 @@ add-if1 : tie.Need-add-if1 Inv-loop μ-loop
 add-if1 c = omega (arith, row-fits (c .before .before .args .m) (c .before .before .args .w) (c .before .loop .i) (omega arith))
 
 shared-slice-read-if1 : tie.Need-shared-slice-read-if1 Inv-loop μ-loop
-shared-slice-read-if1 c = let s = c .before .before .before in omega (arith, row-fits (s .args .m) (s .args .w) (c .before .before .loop .i) (omega arith))
+shared-slice-read-if1 c = let s = c .before .before .before in
+    omega (arith, row-fits (s .args .m) (s .args .w) (c .before .before .loop .i) (omega arith))
 
 returns : tie.Need-returns Inv-loop μ-loop
 returns c = search needs

@@ -18,14 +18,16 @@ returns c = let s = c .before .before .before .before .before in
     consistent-no _ (our-field (s .args .q)) _ _ _ _ _ _ _ (s .pre .1 .1) (found .least) (c .if1 .taken) (found .nonzero (c .if1 .taken))
 
 read-off-requires : tie.Need-read-off-requires
-read-off-requires c κs = let s = c .before .before .before .before .before .before in ((omega arith, omega arith, omega arith, omega arith), (s .pre .1 .0, s .pre .1 .1))
+read-off-requires c κs = let s = c .before .before .before .before .before .before in
+    ((omega arith, omega arith, omega arith, omega arith), (s .pre .1 .0, s .pre .1 .1))
 
 same-length : tie.Need-same-length
 same-length c = search needs
 
 returns-2 : tie.Need-returns-2
 returns-2 c = let s = c .before .before .before .before .before .before .before .before .before in
-    consistent-yes _ (our-field (s .args .q)) _ _ _ _ _ _ (λ i b l. c .before .before .before .before .before .find-row .ensures .skipped i (omega arith) b) (c .before .before .read-off .ensures)
+    let found = c .before .before .before .before .before .find-row .ensures in
+    consistent-yes _ (our-field (s .args .q)) _ _ _ _ _ _ (λ i b l. found .skipped i (omega arith) b) (c .before .before .read-off .ensures)
 
 pub find-solution-spec : {M : Type 1} → statement M
 find-solution-spec =

@@ -1,6 +1,6 @@
 -- `system::read_off` meets its contract. Assumes nothing.
 use mathlib.Core.Path.{refl, _≡_}
-use Prim.Native.Nat.{_+_, _-_, _≤_}
+use Prim.Native.Nat.{_*_, _<_, _+_, _-_, _≤_}
 use native.Mathlib.Omega.{arith}
 use borrow.Author.Needs.{needs}
 use lib.ListN.{length-set, length}
@@ -26,7 +26,21 @@ wipe-requires : tie.Need-wipe-requires Inv-loop μ-loop
 wipe-requires c κs = search needs
 
 loop-holds : tie.Need-loop-holds Inv-loop μ-loop
-loop-holds c = (omega arith, refl, read-start _ (our-field (c .before .before .before .before .before .before .before .args .q)) _ _ _ _ _ _ (c .before .before .wipe .ensures))
+loop-holds c = let s = c .before .before .before .before .before .before .before in
+    (omega arith, refl, read-start _ (our-field (s .args .q)) _ _ _ _ _ _ (c .before .before .wipe .ensures))
+
+abbrev start : tie.In-loop Inv-loop μ-loop → tie.Start Inv-loop μ-loop
+start c = c .before .before .before .before .before .before .before .before .before
+
+-- row t lies in the buffer, and its pivot's column in z
+row : (c : tie.In-loop Inv-loop μ-loop) → let s = start c .args in c .before .loop .t * (s .k + 1) + (s .k + 1) ≤ length (s .a .now)
+row c =
+    let s = start c in omega (arith, row-fits (s .args .m) (s .args .k + 1) (c .before .loop .t) (omega (arith, s .pre .1 .1 .rows)))
+
+column : (c : tie.In-loop Inv-loop μ-loop) → vec (start c .args .pivots .now) (c .before .loop .t) < length (c .before .loop .z)
+column c =
+    let form = start c .pre .1 .1 in
+    omega (arith, form .col (c .before .loop .t) (omega arith), c .before .loop .inv .1, c .before .before .before .before .wipe .kept .0)
 
 mul-p : tie.Need-mul-p Inv-loop μ-loop
 mul-p c = search needs
@@ -35,17 +49,16 @@ shared-slice-read-p : tie.Need-shared-slice-read-p Inv-loop μ-loop
 shared-slice-read-p c = search needs
 
 mul-z : tie.Need-mul-z Inv-loop μ-loop
-mul-z c = let s = c .before .before .before .before .before .before .before .before .before .before in omega (arith, row-fits (s .args .m) (s .args .k + 1) (c .before .before .loop .t) (omega (arith, s .pre .1 .1 .rows)))
+mul-z c = omega (arith, row (c .before))
 
 add-z : tie.Need-add-z Inv-loop μ-loop
-add-z c = let s = c .before .before .before .before .before .before .before .before .before .before in omega (arith, row-fits (s .args .m) (s .args .k + 1) (c .before .before .loop .t) (omega (arith, s .pre .1 .1 .rows)))
+add-z c = omega (arith, row (c .before))
 
 shared-slice-read-z : tie.Need-shared-slice-read-z Inv-loop μ-loop
-shared-slice-read-z c = let s = c .before .before .before .before .before .before .before .before .before .before .before in omega (arith, row-fits (s .args .m) (s .args .k + 1) (c .before .before .before .loop .t) (omega (arith, s .pre .1 .1 .rows)))
+shared-slice-read-z c = omega (arith, row (c .before .before))
 
 slice-write-z : tie.Need-slice-write-z Inv-loop μ-loop
-slice-write-z c = let s = c .before .before .before .before .before .before .before .before .before .before .before in
-    omega (arith, s .pre .1 .1 .col (c .before .before .before .loop .t) (omega arith), c .before .before .before .loop .inv .1, c .before .before .before .before .before .before .wipe .kept .0)
+slice-write-z c = column (c .before .before)
 
 add-t : tie.Need-add-t Inv-loop μ-loop
 add-t c = search needs
@@ -58,15 +71,16 @@ loop-again c = let s = c .before .before .before .before .before .before .before
     let inv = c .before .before .before .loop .inv in (
       omega arith,
       simp length-set (inv .1),
-      reading-turn _ (our-field (s .args .q)) (s .args .a .now) (s .args .pivots .now) _ _ _ _ (s .pre .1 .0) (s .pre .1 .1) (c .before .before .before .loop .z) _
-          (omega (arith, inv .1, c .before .before .before .before .before .before .wipe .kept .0)) (omega arith) (inv .2),
+      reading-turn _ (our-field (s .args .q)) (s .args .a .now) (s .args .pivots .now) _ _ _ _ (s .pre .1 .0) (s .pre .1 .1)
+          (c .before .before .before .loop .z) _ (column (c .before .before)) (omega arith) (inv .2),
     )
 
 same-length : tie.Need-same-length Inv-loop μ-loop
 same-length c = search needs
 
 returns : tie.Need-returns Inv-loop μ-loop
-returns c = let e : c .before .loop .t ≡ c .before .before .before .before .before .before .before .before .before .args .r = omega arith in rw e at (c .before .loop .inv .2)
+returns c = let s = c .before .before .before .before .before .before .before .before .before in
+    let e : c .before .loop .t ≡ s .args .r = omega arith in rw e at (c .before .loop .inv .2)
 
 pub read-off-spec : {M : Type 1} → statement M
 read-off-spec =

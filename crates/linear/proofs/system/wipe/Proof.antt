@@ -30,17 +30,21 @@ loop-less : tie.Need-loop-less Inv-loop μ-loop
 loop-less c = simp length-set (omega arith)
 
 loop-again : tie.Need-loop-again Inv-loop μ-loop
-loop-again c = let inv = c .before .loop .inv in (
+loop-again c = let z = c .before .loop .z in
+    let inv = c .before .loop .inv in (
       simp length-set (omega arith),
       simp length-set (inv .1),
-      below-more _ _ (λ x l. getD-set-other (c .before .loop .z) _ _ 0 0 (omega arith) ∙ inv .2 x l) (getD-set-same (c .before .loop .z) _ 0 0 (omega arith)),
+      below-more _ _ (λ x l. getD-set-other z _ _ 0 0 (omega arith) ∙ inv .2 x l) (getD-set-same z _ 0 0 (omega arith)),
     )
 
 same-length : tie.Need-same-length Inv-loop μ-loop
 same-length c = search needs
 
 returns : tie.Need-returns Inv-loop μ-loop
-returns c = λ x. elim (decLt x (c .before .loop .j)) [ yes l ↦ c .before .loop .inv .2 x l | no n ↦ List·getD-eq-default (c .before .loop .z) 0 (omega arith) ]
+returns c = λ x. elim (decLt x (c .before .loop .j)) [
+  | yes l ↦ c .before .loop .inv .2 x l
+  | no n ↦ List·getD-eq-default (c .before .loop .z) 0 (omega arith)
+]
 
 pub wipe-spec : {M : Type 1} → statement M
 wipe-spec =

@@ -113,14 +113,14 @@ fill-requires c κs =
     let long =
     column-rows (w .is) (start .pre .0 .1) (suc (start .args .level)) (start .pre .1 .1 .1) (start .args .symbols .now) (across .ensures) in (
       start .pre .0 .0,
-      (
-        (
-          rw (target-length w) (omega (arith, few-totals w)),
-          rw (long, w .is .high) (omega (arith, rows-most (start .args .plan))),
-          rw (long, w .is .high) (start .pre .1 .1 .2),
-        ),
-        (front-length w ∙ sym (ap₂ _*_ (target-length w) long), (front-lt w, target-lt w)),
-      ),
+      record {
+        few = rw (target-length w) (omega (arith, few-totals w));
+        narrow = rw (long, w .is .high) (omega (arith, rows-most (start .args .plan)));
+        shape = front-length w ∙ sym (ap₂ _*_ (target-length w) long);
+        within = rw (long, w .is .high) (start .pre .1 .1 .2);
+        coefficients = front-lt w;
+        sums = target-lt w;
+      },
     )
 
 returns : tie.Need-returns

@@ -133,8 +133,8 @@ end-report-requires c κs = omega (arith, c .before .before .before .before .bef
 
 returns-3 : tie.Need-returns-3 Inv-loop μ-loop
 returns-3 c =
-    ⊎-elim 
-    (λ w. rounded-top _ _ _ _ _ _ _ _ (c .before .before .before .before .before .before .before .before .before .before .before .before .loop .inv) _ _ _ _ (c .before .before .before .before .before .before .walk-rows .ensures) (omega (arith, c .before .before .before .if1 .left, c .before .before .before .before .before .before .before .before .before .before .before .before .before .before .before .before .rows .ensures)) (w .taken ∙ c .before .before .before .before .before .before .before .before .before .before .before .before .before .before .before .levels .ensures) _ (c .end-report .ensures)) 
+    ⊎-elim
+    (λ w. rounded-top _ _ _ _ _ _ _ _ (c .before .before .before .before .before .before .before .before .before .before .before .before .loop .inv) _ _ _ _ (c .before .before .before .before .before .before .walk-rows .ensures) (omega (arith, c .before .before .before .if1 .left, c .before .before .before .before .before .before .before .before .before .before .before .before .before .before .before .before .rows .ensures)) (w .taken ∙ c .before .before .before .before .before .before .before .before .before .before .before .before .before .before .before .levels .ensures) _ (c .end-report .ensures))
     (λ w. rounded-blocked _ _ _ _ _ _ _ _ (c .before .before .before .before .before .before .before .before .before .before .before .before .loop .inv) _ _ _ _ (c .before .before .before .before .before .before .walk-rows .ensures) (omega (arith, c .before .before .before .if1 .left, c .before .before .before .before .before .before .before .before .before .before .before .before .before .before .before .before .rows .ensures)) (λ e. w .0 .left (e ∙ sym (c .before .before .before .before .before .before .before .before .before .before .before .before .before .before .before .levels .ensures))) _ _ (w .6 .ensures .0) (w .6 .ensures .1) (arm-blocked _ (w .7 .keys1)) _ (c .end-report .ensures))
     (c .before .before .if2 .came)
 

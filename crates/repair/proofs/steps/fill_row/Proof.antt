@@ -71,17 +71,27 @@ part-fill-end-2 c = omega (arith, row-end (lent (c .before .before)), c .before 
 
 fill-requires : tie.Need-fill-requires
 fill-requires c κs =
-    let l = lent (c .before .before .before) in
-    (c .before .before .before .before .before .before .before .before .pre .0, ((omega (arith, sums-count l, few l), narrow l, word-fits l _ (c .before .before .before .before .before .before .before .before .pre .1 .1 .0 .2)), (checks-count l, (checks-elements l, sums-elements l))))
+    let l = lent (c .before .before .before) in (
+      c .before .before .before .before .before .before .before .before .pre .0,
+      record {
+        few = omega (arith, sums-count l, few l);
+        narrow = narrow l;
+        shape = checks-count l;
+        within = word-fits l _ (c .before .before .before .before .before .before .before .before .pre .1 .1 .0 .2);
+        coefficients = checks-elements l;
+        sums = sums-elements l;
+      },
+    )
 
 same-length : tie.Need-same-length
 same-length c = search needs
 
 returns : tie.Need-returns
 returns c =
-    let l = lent (c .before .before .before .before .before .before) in
-    (c .before .before .fill .ensures .0 ∙ ap answerOf (fill-is l _),
-    put-back l (c .before .before .fill .last .1 .1 .1 .1 .0) (c .before .before .fill .kept .1 .1 .1 .1 .0) ∙ ap (sets _ _) (c .before .before .fill .ensures .1 ∙ ap₂ vectorOf (fill-is l _) (row-is l)))
+    let l = lent (c .before .before .before .before .before .before) in (
+      c .before .before .fill .ensures .0 ∙ ap answerOf (fill-is l _),
+      put-back l (c .before .before .fill .last .1 .1 .1 .1 .0) (c .before .before .fill .kept .1 .1 .1 .1 .0) ∙ ap (sets _ _) (c .before .before .fill .ensures .1 ∙ ap₂ vectorOf (fill-is l _) (row-is l)),
+    )
 
 pub fill-row-spec : {M : Type 1} → statement M
 fill-row-spec =

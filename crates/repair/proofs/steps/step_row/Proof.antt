@@ -52,9 +52,16 @@ slice-aggregate-fill-row-3 c = search needs
 
 fill-row-requires : tie.Need-fill-row-requires
 fill-row-requires c κs =
-    let s = sound (c .before .before .before .before .before .before .before .before .before) in
-    (c .before .before .before .before .before .products .ensures, (c .before .before .before .before .row-checks .ensures, ((s .fit .plan-known, c .before .before .before .before .before .before .before .before .before .pre .1, s .fit .mark-lt _ (c .before .before .before .before .before .before .before .before .before .pre .1), fit-sums _ _ _ (s .fit .sums-fits)),
-    (s .sized .symbols, s .sized .sums))))
+    let s = sound (c .before .before .before .before .before .before .before .before .before) in (
+      c .before .before .before .before .before .products .ensures,
+      (
+        c .before .before .before .before .row-checks .ensures,
+        (
+          (s .fit .plan-known, c .before .before .before .before .before .before .before .before .before .pre .1, s .fit .mark-lt _ (c .before .before .before .before .before .before .before .before .before .pre .1), fit-sums _ _ _ (s .fit .sums-fits)),
+          (s .sized .symbols, s .sized .sums),
+        ),
+      ),
+    )
 
 enum-told : tie.Need-enum-told
 enum-told c = search needs

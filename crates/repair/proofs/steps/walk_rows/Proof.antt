@@ -82,9 +82,16 @@ loop-again c = (search needs, below-more _ _ (c .before .before .before .before 
 
 fill-row-requires : tie.Need-fill-row-requires Inv-loop μ-loop Inv-rows μ-rows
 fill-row-requires c κs =
-    let w = c .before .before .before .before .rows .inv in
-    (c .before .before .before .before .before .before .before .before .before .before .before .pre .0, (c .before .before .before .before .before .before .before .before .before .before .before .pre .1 .0, ((w .sound .fit .plan-known, inside (c .before .before .before), w .sound .fit .mark-lt _ (inside (c .before .before .before)), fit-sums _ _ _ (w .sound .fit .sums-fits)),
-    (w .sound .sized .symbols, w .sound .sized .sums))))
+    let w = c .before .before .before .before .rows .inv in (
+      c .before .before .before .before .before .before .before .before .before .before .before .pre .0,
+      (
+        c .before .before .before .before .before .before .before .before .before .before .before .pre .1 .0,
+        (
+          (w .sound .fit .plan-known, inside (c .before .before .before), w .sound .fit .mark-lt _ (inside (c .before .before .before)), fit-sums _ _ _ (w .sound .fit .sums-fits)),
+          (w .sound .sized .symbols, w .sound .sized .sums),
+        ),
+      ),
+    )
 
 enum-told : tie.Need-enum-told Inv-loop μ-loop Inv-rows μ-rows
 enum-told c = search needs
