@@ -1,5 +1,6 @@
-use Rattle.repair.proofs.Files.{fit-file, read-fits, read-stripe-long, read-marks-long, unread-stripe, unread-marks, stripe-loaded, marks-loaded, outcome-refused, outcome-done}
-use Rattle.repair.specs.File.{planIn, fileRefusal, readRefusal}
+use Rattle.repair.proofs.Files.{fit-file, read-fits, read-stripe-long, read-marks-long, stripe-loaded, marks-loaded}
+use Rattle.repair.proofs.Carrying.{outcome-refused, outcome-done, left-old}
+use Rattle.repair.specs.File.{planIn, fileRefusal, readRefusal, readStripe, readMarks}
 use Rattle.repair.specs.Codeword.{outcomeOf}
 use Rattle.repair.specs.Refusal.{unasked, stripeFits, wordsFit}
 use Rattle.repair.specs.Plan.{planOf}
@@ -44,10 +45,10 @@ same-length-2 : tie.Need-same-length-2
 same-length-2 c = search needs
 
 returns : tie.Need-returns
+unfolding readStripe readMarks
 returns c =
     let e = refusal (c .before) in
-    (outcome-refused _ (c .if1 .taken) ∙ ap outcomeOf e,
-    (unread-stripe _ _ _ (λ z. c .if1 .taken (e ∙ z)), unread-marks _ _ _ (λ z. c .if1 .taken (e ∙ z))))
+    (outcome-refused e (c .if1 .taken), (left-old e _ _ (c .if1 .taken), left-old e _ _ (c .if1 .taken)))
 
 load-requires : tie.Need-load-requires
 unfolding unasked
@@ -66,9 +67,10 @@ same-length-4 c = search needs
 
 returns-2 : tie.Need-returns-2
 returns-2 c =
-    let e = sym (refusal (c .before .before .before .before .before .before .before .before)) ∙ c .before .before .before .before .before .before .before .if1 .left in
+    let e = refusal (c .before .before .before .before .before .before .before .before) in
+    let z = c .before .before .before .before .before .before .before .if1 .left in
     let loaded = c .before .before .before .before .load .ensures in
-    (outcome-done e, (loaded .0 ∙ stripe-loaded _ _ _ e, loaded .1 ∙ marks-loaded _ _ _ e))
+    (outcome-done e z, (loaded .0 ∙ stripe-loaded _ _ _ (sym e ∙ z), loaded .1 ∙ marks-loaded _ _ _ (sym e ∙ z)))
 
 pub read-file-spec : {M : Type 1} → statement M
 read-file-spec =

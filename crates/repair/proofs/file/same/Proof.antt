@@ -1,5 +1,5 @@
 use mathlib.Core.Path.{ap}
-use Rattle.repair.proofs.Sames.{same-true, same-false}
+use Rattle.linear.proofs.Flat.{eq-same, ne-same}
 use borrow.Author.Count.{below-none, below-more}
 use lib.Seq.{ext-getD}
 use lib.ListN.{length, getD}
@@ -28,7 +28,7 @@ shared-slice-read-if1-2 : tie.Need-shared-slice-read-if1-2 Inv-loop μ-loop
 shared-slice-read-if1-2 c = omega arith
 
 returns : tie.Need-returns Inv-loop μ-loop
-returns c = sym (same-false (λ e. c .if1 .taken (ap (λ l. getD l (c .before .before .before .before .loop .i) 0) e)))
+returns c = ne-same _ _ (λ e. c .if1 .taken (ap (λ l. getD l (c .before .before .before .before .loop .i) 0) e))
 
 add-i : tie.Need-add-i Inv-loop μ-loop
 add-i c = search needs
@@ -40,7 +40,7 @@ loop-again : tie.Need-loop-again Inv-loop μ-loop
 loop-again c = (refl, omega arith, below-more _ _ (c .before .before .before .before .loop .inv .2) (c .if1 .left))
 
 returns-2 : tie.Need-returns-2 Inv-loop μ-loop
-returns-2 c = sym (same-true (ext-getD 0 _ _ (c .before .before .pre) (λ i l. c .before .loop .inv .2 i (omega arith))))
+returns-2 c = eq-same _ _ (ext-getD 0 _ _ (c .before .before .pre) (λ i l. c .before .loop .inv .2 i (omega arith)))
 
 pub same-spec : {M : Type 1} → statement M
 same-spec =
