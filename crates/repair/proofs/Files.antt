@@ -9,7 +9,7 @@ use borrow.Author.Tests.{eq-eqb, ne-eqb}
 use lib.Dec.{T, eqb, leb, ltb, ltb→lt, eqb→eq, le→leb}
 use lib.ListN.{length, getD, take, drop, length-map, length-append, length-take, length-drop, take-append-drop}
 use lib.Pow.{pow-mono, shr-shr}
-use lib.Seq.{sets, getD-append-add, drop-cons, drop-at, take-at, take-all, take-add, drop-drop, ext-getD}
+use lib.Seq.{sets, getD-append-add, drop-cons, drop-at, take-all, take-add, drop-drop, ext-getD}
 use Rattle.field.specs.Lists.{if_then_else_, upFrom}
 use Rattle.field.proofs.Lists.{length-up, getD-map-below}
 use Rattle.field.proofs.Test.{both-left, both-right, both}

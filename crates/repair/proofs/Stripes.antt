@@ -1,16 +1,15 @@
 -- A stripe row by row, and its symbols with 0 under marks. Assumes nothing.
 use mathlib.Core.Path.{_≡_, refl, sym, ap, ap₂, _∙_, subst}
 use mathlib.Core.Bool.{Bool, true, false, _&&_}
-use mathlib.Core.List.{List, [], _∷_, _++_, map, flatMap, List·Memᴰ·head, List·Memᴰ·tail}
-use Prim.Native.Nat.{ℕ, zero, suc, _+_, _*_, _-_, _/_, _%_, _^_, _≤_, _<_}
-use native.Mathlib.Nat.{zero-mul, suc-mul, add-comm, add-zero, zero-add, suc-inj, not-suc-le-zero, le-of-suc-le-suc, mul-le-mul-right, le-of-eq}
+use mathlib.Core.List.{List, [], _∷_, _++_, flatMap, List·Memᴰ·head, List·Memᴰ·tail}
+use Prim.Native.Nat.{ℕ, zero, suc, _+_, _*_, _/_, _%_, _^_, _≤_, _<_}
+use native.Mathlib.Nat.{zero-mul, suc-mul, add-comm, add-zero, zero-add, suc-inj, not-suc-le-zero, le-of-suc-le-suc, le-of-eq}
 use native.Mathlib.Omega.{arith}
 use lib.Dec.{T, eqb, ltb, ltb→lt}
-use lib.ListN.{length, getD, take, drop, length-append, length-drop, length-map}
-use lib.Seq.{length-take-le, take-all, take-add, take-at, drop-at, drop-drop}
+use lib.ListN.{length, getD, take, drop}
+use lib.Seq.{take-all, take-add, take-at, drop-at, drop-drop}
 use Rattle.field.specs.Lists.{if_then_else_, upFrom}
 use Rattle.field.specs.Field.{size}
-use Rattle.field.proofs.Lists.{length-up, getD-map-below}
 use Rattle.field.proofs.Test.{both-right}
 use Rattle.linear.specs.Marks.{bitsOf}
 use Rattle.linear.proofs.Marked.{length-bits, bits-at}

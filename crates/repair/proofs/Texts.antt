@@ -1,7 +1,7 @@
 -- The text's digits and rows, place by place. Assumes nothing.
-use mathlib.Core.Path.{_≡_, refl, sym, ap, ap₂, _∙_, subst}
+use mathlib.Core.Path.{_≡_, refl, sym, ap, _∙_, subst}
 use mathlib.Core.Bool.{Bool, true, false, _||_}
-use mathlib.Core.List.{List, [], _∷_, _++_}
+use mathlib.Core.List.{List, [], _∷_}
 use Prim.Native.Nat.{ℕ, zero, suc, _+_, _/_, _%_, _^_, _≤_, _<_}
 use native.Mathlib.Nat.{suc-inj, not-suc-le-zero, le-of-suc-le-suc, le-trans}
 use native.Mathlib.Omega.{arith}
@@ -54,9 +54,11 @@ across-below {place} {level} {q} e t = below-at q (level ∷ []) (subst (λ p. T
 pub beside-below : (q level left : ℕ) (rows : List ℕ) → T (allBelow q (level ∷ left ∷ rows)) → (level < q) × (left < q) × T (allBelow q rows)
 unfolding all allBelow
 beside-below q level left rows t =
-    let u = both-right (ltb level q) (allBelow q (left ∷ rows)) t in
-    (ltb→lt level q (both-left (ltb level q) (allBelow q (left ∷ rows)) t), ltb→lt left q (both-left (ltb left q) (allBelow q rows) u),
-    both-right (ltb left q) (allBelow q rows) u)
+    let u = both-right (ltb level q) (allBelow q (left ∷ rows)) t in (
+      ltb→lt level q (both-left (ltb level q) (allBelow q (left ∷ rows)) t),
+      ltb→lt left q (both-left (ltb left q) (allBelow q rows) u),
+      both-right (ltb left q) (allBelow q rows) u,
+    )
 
 -- ---- rows
 

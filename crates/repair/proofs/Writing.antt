@@ -1,18 +1,18 @@
 -- Buffers written from a place on: runs of stores, and the loops that make them. Assumes nothing.
 use mathlib.Core.Path.{_≡_, refl, sym, ap, ap₂, _∙_, subst}
-use mathlib.Core.List.{List, [], _∷_, _++_, map, flatMap, append-nil, append-assoc}
+use mathlib.Core.List.{List, [], _∷_, _++_, map, flatMap, append-nil}
 use Prim.Native.Nat.{ℕ, zero, suc, _+_, _-_, _≤_, _<_}
-use native.Mathlib.Nat.{add-zero, add-suc, suc-add, zero-add, add-assoc}
+use native.Mathlib.Nat.{add-zero, zero-add, add-assoc}
 use native.Mathlib.Numerals.{add-one}
 use native.Mathlib.Omega.{arith}
 use lib.ListN.{length, getD, set, take, drop, replicate, length-append, length-replicate}
+use lib.Seq.{sets, sets-eq, length-sets, length-take-le, take-all, take-suc}
 use Rattle.field.specs.Lists.{upFrom}
 use Rattle.field.proofs.Lists.{length-up, getD-map-below}
 use Rattle.repair.specs.Tables.{padded}
 use Rattle.repair.specs.Written.{Put}
 use Rattle.repair.proofs.Rows.{take-sets, sets-append, sets-whole}
 use Rattle.repair.proofs.Flat.{flat-append}
-use lib.Seq.{sets, sets-eq, length-sets, length-take-le, take-all, take-suc}
 
 -- what was put behind what was put
 pub put-then : {old l k : List ℕ} {at i j : ℕ} {xs ys : List ℕ} → Put old at xs i l → Put l i ys j k → Put old at (xs ++ ys) j k

@@ -1,9 +1,11 @@
 // The text that `mend` prints, for any bytes that it reads.
+use crate::Answer;
+use crate::Place;
+use crate::Report;
 use crate::buffer;
 use crate::file;
 use crate::marks;
 use crate::plan;
-use crate::{Answer, Place, Report};
 ghost use mathlib.Core.Path.{_≡_};
 ghost use mathlib.Core.Bool.{false};
 ghost use mathlib.Core.List.{_∷_, _++_, flatMap};
@@ -168,7 +170,14 @@ fn put_place(place: Place, out: &mut [u8], at: usize) -> usize
 }
 
 // What follows the number of Restored and of Stuck.
-fn put_end(plan: usize, report: Report, stripe: &[u8], marks: &[u32], out: &mut [u8], at: usize) -> usize
+fn put_end(
+    plan: usize,
+    report: Report,
+    stripe: &[u8],
+    marks: &[u32],
+    out: &mut [u8],
+    at: usize,
+) -> usize
     requires { ⌜ T (known plan) ⌝ }
     requires { ⌜ length (now marks) ≡ planOf plan .rows ⌝ }
     requires { ⌜ length (now stripe) ≡ planOf plan .rows * planOf plan .columns ⌝ }
@@ -191,7 +200,14 @@ fn put_clash(place: Place, out: &mut [u8], at: usize) -> usize
 }
 
 // What follows an answer's number.
-fn put_report(plan: usize, report: Report, stripe: &[u8], marks: &[u32], out: &mut [u8], at: usize) -> usize
+fn put_report(
+    plan: usize,
+    report: Report,
+    stripe: &[u8],
+    marks: &[u32],
+    out: &mut [u8],
+    at: usize,
+) -> usize
     requires { ⌜ T (known plan) ⌝ }
     requires { ⌜ length (now marks) ≡ planOf plan .rows ⌝ }
     requires { ⌜ length (now stripe) ≡ planOf plan .rows * planOf plan .columns ⌝ }

@@ -1,24 +1,16 @@
-use Rattle.repair.proofs.Files.{fit-file, read-fits, read-stripe-long, read-marks-long, stripe-loaded, marks-loaded}
-use Rattle.repair.proofs.Carrying.{outcome-refused, outcome-done, left-old}
-use Rattle.repair.specs.File.{planIn, fileRefusal, readRefusal, readStripe, readMarks}
-use Rattle.repair.specs.Codeword.{outcomeOf}
+-- `repair::read_file` meets its contract: refused, stripe and marks stay; else both are read. Assumes nothing.
+use mathlib.Core.Bool.{_&&_}
+use mathlib.Core.Path.{_≡_, sym, ap, _∙_}
+use native.Mathlib.Nat.{le-of-eq}
+use borrow.Author.Needs.{needs}
+use denote.Ref.{now}
+use Rattle.repair.specs.File.{fileRefusal, readRefusal, readStripe, readMarks}
 use Rattle.repair.specs.Refusal.{unasked, stripeFits, wordsFit}
 use Rattle.repair.specs.Plan.{planOf}
-use lib.Seq.{sets}
-use denote.Ref.{now}
-use native.Mathlib.Nat.{le-of-eq}
-use mathlib.Core.Bool.{_&&_}
-use mathlib.Core.Path.{_≡_, refl, sym, ap, _∙_}
-use native.Mathlib.Omega.{arith}
-use borrow.Author.Needs.{needs}
+use Rattle.repair.proofs.Files.{fit-file, read-fits, read-stripe-long, read-marks-long, stripe-loaded, marks-loaded}
+use Rattle.repair.proofs.Carrying.{outcome-refused, outcome-done, left-old}
 use Rattle.repair.proofs.read_file.Statement.{statement}
 use Rattle.repair.proofs.read_file.Tie as tie
-use Rattle.repair.proofs.read_file.Reads as reads
-use Rattle.repair.proofs.read_file.Lts as lts
-use Rattle.repair.proofs.file.file_refusal.Reads as file-refusal-reads
-use Rattle.repair.proofs.file.load.Reads as load-reads
-use Rattle.repair.proofs.file.plan_in.Reads as plan-in-reads
-use Rattle.repair.proofs.refusal.lengths_fit.Reads as lengths-fit-reads
 
 refusal : (c : tie.After-file-refusal)
     → let a = c .before .before .before .before .before .before .before .before .args in c .file-refusal .result ≡ readRefusal (now (a .file)) (now (a .stripe)) (now (a .marks))
@@ -54,10 +46,13 @@ load-requires : tie.Need-load-requires
 unfolding unasked
 load-requires c κs =
     let a = c .before .before .before .before .before .before .before .before .before .before .before .args in
-    let e = sym (refusal (c .before .before .before)) ∙ c .before .before .if1 .left in
-    (fit-file _ unasked (read-fits (now (a .file)) (now (a .stripe)) (now (a .marks)) e .0) tt,
-    (le-of-eq (sym (read-stripe-long (now (a .file)) (now (a .stripe)) (now (a .marks)) e)),
-    le-of-eq (sym (read-marks-long (now (a .file)) (now (a .stripe)) (now (a .marks)) e))))
+    let e = sym (refusal (c .before .before .before)) ∙ c .before .before .if1 .left in (
+      fit-file _ unasked (read-fits (now (a .file)) (now (a .stripe)) (now (a .marks)) e .0) tt,
+      (
+        le-of-eq (sym (read-stripe-long (now (a .file)) (now (a .stripe)) (now (a .marks)) e)),
+        le-of-eq (sym (read-marks-long (now (a .file)) (now (a .stripe)) (now (a .marks)) e)),
+      ),
+    )
 
 same-length-3 : tie.Need-same-length-3
 same-length-3 c = search needs

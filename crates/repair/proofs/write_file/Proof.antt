@@ -1,17 +1,10 @@
-use Rattle.repair.proofs.Carrying.{outcome-refused, outcome-done, left-new, left-old}
-use mathlib.Core.Path.{ap}
-use Rattle.repair.specs.File.{writeFile}
-use Rattle.repair.specs.Codeword.{outcomeOf}
-use Rattle.field.specs.Lists.{if_then_else_}
-use mathlib.Core.Path.{_≡_, refl, sym, _∙_}
-use native.Mathlib.Omega.{arith}
+-- `repair::write_file` meets its contract: refused, the file stays; else it is written whole. Assumes nothing.
+use mathlib.Core.Path.{_∙_}
 use borrow.Author.Needs.{needs}
+use Rattle.repair.specs.File.{writeFile}
+use Rattle.repair.proofs.Carrying.{outcome-refused, outcome-done, left-new, left-old}
 use Rattle.repair.proofs.write_file.Statement.{statement}
 use Rattle.repair.proofs.write_file.Tie as tie
-use Rattle.repair.proofs.write_file.Reads as reads
-use Rattle.repair.proofs.write_file.Lts as lts
-use Rattle.repair.proofs.file.put_file.Reads as put-file-reads
-use Rattle.repair.proofs.file.write_refusal.Reads as write-refusal-reads
 
 write-refusal-requires : tie.Need-write-refusal-requires
 write-refusal-requires c κs = search needs

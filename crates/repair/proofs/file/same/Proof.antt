@@ -1,16 +1,14 @@
-use mathlib.Core.Path.{ap}
-use Rattle.linear.proofs.Flat.{eq-same, ne-same}
+-- `repair::file::same` meets its contract: the bytes passed are equal; one that differs tells the lists apart. Assumes nothing.
+use mathlib.Core.Path.{ap, _≡_, refl}
+use Prim.Native.Nat.{ℕ, _-_, _<_, _≤_}
+use native.Mathlib.Omega.{arith}
 use borrow.Author.Count.{below-none, below-more}
+use borrow.Author.Needs.{needs}
 use lib.Seq.{ext-getD}
 use lib.ListN.{length, getD}
-use Prim.Native.Nat.{ℕ, _-_, _<_, _≤_}
-use mathlib.Core.Path.{_≡_, refl, sym, _∙_}
-use native.Mathlib.Omega.{arith}
-use borrow.Author.Needs.{needs}
+use Rattle.linear.proofs.Flat.{eq-same, ne-same}
 use Rattle.repair.proofs.file.same.Statement.{statement}
 use Rattle.repair.proofs.file.same.Tie as tie
-use Rattle.repair.proofs.file.same.Reads as reads
-use Rattle.repair.proofs.file.same.Lts as lts
 
 abbrev Inv-loop : tie.InvT-loop
 Inv-loop a b i₀ i-end i = (i-end ≡ length a) × (i ≤ length a) × ((k : ℕ) → k < i → getD a k 0 ≡ getD b k 0)

@@ -1,20 +1,15 @@
-use Rattle.repair.proofs.Writing.{put-then, put-is}
-use Rattle.repair.proofs.Texts.{beside-below}
-use Rattle.repair.proofs.Plans.{levels-most}
-use Rattle.repair.specs.Text.{bytes, item, lineEnd, summary}
-use lib.ListN.{take}
+-- `repair::lines::put_summary` meets its contract: its parts stand one behind the other. Assumes nothing.
 use mathlib.Core.List.{flatMap}
 use mathlib.Core.Path.{sym, ap}
 use native.Mathlib.Omega.{arith}
 use borrow.Author.Needs.{needs}
+use lib.ListN.{take}
+use Rattle.repair.specs.Text.{bytes, item, lineEnd, summary}
+use Rattle.repair.proofs.Writing.{put-then, put-is}
+use Rattle.repair.proofs.Texts.{beside-below}
+use Rattle.repair.proofs.Plans.{levels-most}
 use Rattle.repair.proofs.lines.put_summary.Statement.{statement}
 use Rattle.repair.proofs.lines.put_summary.Tie as tie
-use Rattle.repair.proofs.lines.put_summary.Reads as reads
-use Rattle.repair.proofs.lines.put_summary.Lts as lts
-use Rattle.repair.proofs.buffer.put.Reads as put-reads
-use Rattle.repair.proofs.plan.levels.Reads as levels-reads
-use Rattle.repair.proofs.lines.put_counts.Reads as put-counts-reads
-use Rattle.repair.proofs.lines.put_reached.Reads as put-reached-reads
 
 put-reached-requires : tie.Need-put-reached-requires
 put-reached-requires c κs =
@@ -38,10 +33,14 @@ put-counts-requires c κs =
     let s = c .before .before .before .before .before .before .before .before .before .before .before .before .before .before in
     let levels = levels-most (s .args .plan) in
     let reached = c .before .before .before .before .before .before .before .before .before .before .put-reached in
-    let rows = c .before .before .before .before .before .put in
-    ((omega (arith, levels, c .before .before .levels .ensures), omega (arith, levels, c .before .before .levels .ensures, slice-aggregate-put-counts (c .before)),
-    beside-below 100 (s .args .report .level) (s .args .report .left) (s .args .report .rows) (s .pre .0) .2),
-    omega (arith, reached .ensures .1, reached .kept .1 .1 .0, rows .ensures .reached, rows .kept .1 .0, s .pre .1))
+    let rows = c .before .before .before .before .before .put in (
+      (
+        omega (arith, levels, c .before .before .levels .ensures),
+        omega (arith, levels, c .before .before .levels .ensures, slice-aggregate-put-counts (c .before)),
+        beside-below 100 (s .args .report .level) (s .args .report .left) (s .args .report .rows) (s .pre .0) .2,
+      ),
+      omega (arith, reached .ensures .1, reached .kept .1 .1 .0, rows .ensures .reached, rows .kept .1 .0, s .pre .1),
+    )
 
 slice-aggregate-put-2 : tie.Need-slice-aggregate-put-2
 slice-aggregate-put-2 c = search needs
@@ -59,9 +58,10 @@ returns c =
     let rows = c .before .before .before .before .before .before .before .before .before .before .before .before .before .put .ensures in
     let counts = c .before .before .before .before .before .before .before .put-counts .ensures in
     let end = c .before .before .put2 .ensures in
-    let levels = ap (λ n. flatMap (item " ") (take n (c .before .before .before .before .before .before .before .before .before .before .before .before .before .before .before .before .before .before .before .before .before .before .args .report .rows))) (sym (c .before .before .before .before .before .before .before .before .before .before .levels .ensures)) in
-    (put-then (put-then (put-then (reached .0) rows) (put-is levels (counts .0))) end,
-    omega (arith, reached .1, rows .reached, counts .1, end .reached))
+    let levels = ap (λ n. flatMap (item " ") (take n (c .before .before .before .before .before .before .before .before .before .before .before .before .before .before .before .before .before .before .before .before .before .before .args .report .rows))) (sym (c .before .before .before .before .before .before .before .before .before .before .levels .ensures)) in (
+      put-then (put-then (put-then (reached .0) rows) (put-is levels (counts .0))) end,
+      omega (arith, reached .1, rows .reached, counts .1, end .reached),
+    )
 
 pub put-summary-spec : {M : Type 1} → statement M
 put-summary-spec =
