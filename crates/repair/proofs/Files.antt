@@ -9,7 +9,7 @@ use borrow.Author.Tests.{eq-eqb, ne-eqb}
 use lib.Dec.{T, eqb, leb, ltb, ltb→lt, eqb→eq, le→leb}
 use lib.ListN.{length, getD, take, drop, length-map, length-append, length-take, length-drop, take-append-drop}
 use lib.Pow.{pow-mono, shr-shr}
-use lib.Seq.{sets, getD-append-add, drop-cons, drop-at, take-at, take-all, take-add, drop-drop, ext-getD}
+use lib.Seq.{sets, getD-append-add, drop-cons, drop-at, take-all, take-add, drop-drop, ext-getD}
 use Rattle.field.specs.Lists.{if_then_else_, upFrom}
 use Rattle.field.proofs.Lists.{length-up, getD-map-below}
 use Rattle.field.proofs.Test.{both-left, both-right, both}
@@ -18,9 +18,8 @@ use Rattle.linear.specs.Lists.{all, same}
 use Rattle.linear.proofs.Tests.{same→eq, same-refl}
 use Rattle.repair.specs.Plan.{Plan, planOf, known, marksOf}
 use Rattle.repair.specs.Refusal.{firstFailed, unasked, inMemory, inFile, stripeFits, wordsFit, marksFit, symbolsFit, lentRefusal}
-use Rattle.repair.specs.Codeword.{outcomeOf}
-use Rattle.repair.specs.declared.Outcome.the-variants.{Done, Refused}
 use Rattle.repair.specs.File.{bytes2, bytes4, marksOffset, symbolsOffset, fileLength, headerOf, blanked, fileOf, writeRefusal, writeFile, planIn, wordAt, marksIn, symbolsIn, fileRefusal, readRefusal, readStripe, readMarks}
+use Rattle.repair.proofs.Parts.{rest-of}
 use Rattle.repair.proofs.Rows.{sets-whole}
 use Rattle.repair.proofs.Writing.{front-set, sets-three}
 use Rattle.repair.proofs.Shape.{shape}
@@ -130,7 +129,7 @@ module _ {p n : ℕ} {file : List ℕ} (w : Whole p n file) where
   pub whole-cut : take (length file - (8 + 4 * n)) (drop (8 + 4 * n) file) ≡ symbolsIn file
   unfolding marksOffset symbolsOffset
   whole-cut =
-      take-all (length file - (8 + 4 * n)) (drop (8 + 4 * n) file) (le-of-eq (length-drop (8 + 4 * n) file))
+      rest-of (8 + 4 * n) file
       ∙ ap (λ k. drop (8 + 4 * k) file) (w .rows ∙ ap (λ k. planOf k .rows) (w .plan))
       ∙ sym (symbols-behind file (w .long ∙ ap (λ k. fileLength (planOf k)) (w .plan)))
 
@@ -232,38 +231,29 @@ fit-whole f is rows = record {
 }
 
 -- what reading leaves in the buffers lent to receive the file
-module _ (file s m : List ℕ) where
-  pub unread-stripe : (readRefusal file s m ≡ 0 → ⊥) → s ≡ readStripe file s m
+module _ (file s m : List ℕ) (e : readRefusal file s m ≡ 0) where
+  abbrev lent : Bool
+  lent = stripeFits (planOf (planIn file)) s && wordsFit (planOf (planIn file)) m
+
+  pub read-fits : FileFit file × T lent
+  unfolding readRefusal
+  read-fits = file-fit file lent e
+
+  pub read-stripe-long : length s ≡ planOf (planIn file) .rows * planOf (planIn file) .columns
+  unfolding stripeFits
+  read-stripe-long = eqb→eq (length s) _ (both-left (stripeFits (planOf (planIn file)) s) (wordsFit (planOf (planIn file)) m) (read-fits .1))
+
+  pub read-marks-long : length m ≡ planOf (planIn file) .rows
+  unfolding wordsFit
+  read-marks-long = eqb→eq (length m) _ (both-right (stripeFits (planOf (planIn file)) s) (wordsFit (planOf (planIn file)) m) (read-fits .1))
+
+  pub stripe-loaded : sets s 0 (symbolsIn file) ≡ readStripe file s m
   unfolding if_then_else_ readStripe
-  unread-stripe h = rw (ne-eqb (readRefusal file s m) 0 h)
+  stripe-loaded = rw e (sets-whole (symbolsIn file) s (length-symbols-in file (read-fits .0 .whole) ∙ sym read-stripe-long))
 
-  pub unread-marks : (readRefusal file s m ≡ 0 → ⊥) → m ≡ readMarks file s m
+  pub marks-loaded : sets m 0 (marksIn file) ≡ readMarks file s m
   unfolding if_then_else_ readMarks
-  unread-marks h = rw (ne-eqb (readRefusal file s m) 0 h)
-
-  module _ (e : readRefusal file s m ≡ 0) where
-    abbrev lent : Bool
-    lent = stripeFits (planOf (planIn file)) s && wordsFit (planOf (planIn file)) m
-
-    pub read-fits : FileFit file × T lent
-    unfolding readRefusal
-    read-fits = file-fit file lent e
-
-    pub read-stripe-long : length s ≡ planOf (planIn file) .rows * planOf (planIn file) .columns
-    unfolding stripeFits
-    read-stripe-long = eqb→eq (length s) _ (both-left (stripeFits (planOf (planIn file)) s) (wordsFit (planOf (planIn file)) m) (read-fits .1))
-
-    pub read-marks-long : length m ≡ planOf (planIn file) .rows
-    unfolding wordsFit
-    read-marks-long = eqb→eq (length m) _ (both-right (stripeFits (planOf (planIn file)) s) (wordsFit (planOf (planIn file)) m) (read-fits .1))
-
-    pub stripe-loaded : sets s 0 (symbolsIn file) ≡ readStripe file s m
-    unfolding if_then_else_ readStripe
-    stripe-loaded = rw e (sets-whole (symbolsIn file) s (length-symbols-in file (read-fits .0 .whole) ∙ sym read-stripe-long))
-
-    pub marks-loaded : sets m 0 (marksIn file) ≡ readMarks file s m
-    unfolding if_then_else_ readMarks
-    marks-loaded = rw e (sets-whole (marksIn file) m (length-marks-in file ∙ sym read-marks-long))
+  marks-loaded = rw e (sets-whole (marksIn file) m (length-marks-in file ∙ sym read-marks-long))
 
 -- ---- what was written is read
 
@@ -401,15 +391,6 @@ module _ (file : List ℕ) (bytes : Fit 256 file) where
 
 -- ---- both ways round
 
-pub outcome-refused : (n : ℕ) → (n ≡ 0 → ⊥) → Refused n ≡ outcomeOf n
-unfolding outcomeOf
-outcome-refused zero h = absurd (h refl)
-outcome-refused (suc n) h = refl
-
-pub outcome-done : {n : ℕ} → n ≡ 0 → Done ≡ outcomeOf n
-unfolding outcomeOf
-outcome-done e = rw e
-
 module _ (p : ℕ) (stripe marks old : List ℕ) where
   abbrev S : Plan
   S = planOf p
@@ -459,10 +440,6 @@ module _ (p : ℕ) (stripe marks old : List ℕ) where
   pub room-fits : length old ≡ fileLength S → writeRefusal p stripe marks old ≡ lentRefusal p stripe marks
   unfolding lentRefusal writeRefusal
   room-fits h = rw (eq-eqb (length old) (fileLength S) h, and-true)
-
-  pub unwritten : (writeRefusal p stripe marks old ≡ 0 → ⊥) → writeFile p stripe marks old ≡ old
-  unfolding if_then_else_ writeFile
-  unwritten h = rw (ne-eqb (writeRefusal p stripe marks old) 0 h)
 
   pub written : writeRefusal p stripe marks old ≡ 0 → writeFile p stripe marks old ≡ fileOf p stripe marks
   unfolding if_then_else_ writeFile

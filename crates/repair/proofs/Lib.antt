@@ -44,7 +44,6 @@ pub mod Data
 pub mod Placing
 pub mod Carrying
 -- the stripe file
-pub mod Sames
 pub mod Writing
 pub mod Stripes
 pub mod Files

@@ -24,10 +24,9 @@ use Rattle.repair.specs.Rounds.{Standing, Turn, on, end, clash, counted,
 use Rattle.repair.specs.File.{planIn, symbolsIn, marksIn, fileRefusal}
 use Rattle.repair.specs.Text.{item, lineEnd, reportText, mendText, printed}
 use Rattle.repair.specs.declared.Bench.{Bench}
-use Rattle.repair.specs.declared.Stepped.{Stepped}
 use Rattle.repair.specs.declared.Step.{Step}
 use Rattle.repair.specs.declared.Step.the-variants.{Whole, Filled, Tied, Raised, Blocked, Top, Clash, Refused}
-use Rattle.repair.specs.declared.Place.the-variants.{Row, Across}
+use Rattle.repair.specs.declared.Place.the-variants.{Row}
 use Rattle.repair.specs.declared.Answer.the-variants.{Restored, Stuck}
 use Rattle.repair.specs.declared.Report.{Report}
 use Rattle.repair.proofs.Rows.{row-end, row-append}

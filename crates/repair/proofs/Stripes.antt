@@ -1,23 +1,25 @@
 -- A stripe row by row, and its symbols with 0 under marks. Assumes nothing.
 use mathlib.Core.Path.{_≡_, refl, sym, ap, ap₂, _∙_, subst}
 use mathlib.Core.Bool.{Bool, true, false, _&&_}
-use mathlib.Core.List.{List, [], _∷_, _++_, map, flatMap, List·Memᴰ·head, List·Memᴰ·tail}
-use Prim.Native.Nat.{ℕ, zero, suc, _+_, _*_, _-_, _/_, _%_, _^_, _≤_, _<_}
-use native.Mathlib.Nat.{zero-mul, suc-mul, add-comm, add-zero, zero-add, suc-inj, not-suc-le-zero, le-of-suc-le-suc, mul-le-mul-right, le-of-eq}
+use mathlib.Core.List.{List, [], _∷_, _++_, flatMap, List·Memᴰ·head, List·Memᴰ·tail}
+use Prim.Native.Nat.{ℕ, zero, suc, _+_, _*_, _/_, _%_, _^_, _≤_, _<_}
+use native.Mathlib.Nat.{zero-mul, suc-mul, add-comm, add-zero, zero-add, suc-inj, not-suc-le-zero, le-of-suc-le-suc, le-of-eq}
 use native.Mathlib.Omega.{arith}
 use lib.Dec.{T, eqb, ltb, ltb→lt}
-use lib.ListN.{length, getD, take, drop, length-append, length-drop, length-map}
-use lib.Seq.{length-take-le, take-all, take-add, take-at, drop-at, drop-drop}
+use lib.ListN.{length, getD, take, drop}
+use lib.Seq.{take-all, take-add, take-at, drop-at, drop-drop}
 use Rattle.field.specs.Lists.{if_then_else_, upFrom}
 use Rattle.field.specs.Field.{size}
-use Rattle.field.proofs.Lists.{length-up, getD-map-below}
 use Rattle.field.proofs.Test.{both-right}
 use Rattle.linear.specs.Marks.{bitsOf}
+use Rattle.linear.proofs.Marked.{length-bits, bits-at}
 use Rattle.linear.proofs.Tests.{In, up-in, all-in, in-all}
 use Rattle.repair.specs.Plan.{Plan, known, rowAt, marksAt, marksOf}
 use Rattle.repair.specs.Refusal.{unmarkedBelow, symbolsFit}
 use Rattle.repair.specs.File.{blanked}
-use Rattle.repair.proofs.Scan.{length-bits}
+use Rattle.repair.proofs.Flat.{flat-length}
+use Rattle.repair.proofs.Parts.{part, part-of}
+use Rattle.repair.proofs.Sound.{marks-length}
 use Rattle.repair.proofs.Rows.{row-end, row-length}
 
 pub known-below : (p : ℕ) → T (known p) → p < 4
@@ -26,15 +28,7 @@ known-below p t = ltb→lt p 4 (both-right (ltb 0 p) (ltb p 4) t)
 
 -- ---- rows
 
-pub getD-bits : (n word c : ℕ) → c < n → getD (bitsOf n word) c false ≡ eqb (word / 2 ^ c % 2) 1
-unfolding bitsOf
-getD-bits n word c h = getD-map-below (λ k. eqb (word / 2 ^ k % 2) 1) n c false h
-
 module _ (P : Plan) where
-  pub length-marks : (marks : List ℕ) (r : ℕ) → length (marksAt P marks r) ≡ P .columns
-  unfolding marksAt
-  length-marks marks r = length-bits (P .columns) (getD marks r 0)
-
   rows-from : (l : List ℕ) (k n : ℕ) → flatMap (rowAt P l) (upFrom k n) ≡ take (n * P .columns) (drop (k * P .columns) l)
   unfolding flatMap upFrom rowAt
   rows-from l k zero = ap (λ n. take n (drop (k * P .columns) l)) (sym (zero-mul (P .columns)))
@@ -64,18 +58,15 @@ module _ {P : Plan} {l : List ℕ} {r n : ℕ} (k : Cut P l r n) where
   pub cut-inside : r * n + n ≤ length l
   cut-inside = subst (λ m. r * m + m ≤ length l) (sym (k .wide)) (row-inside P l (k .long) (k .below))
 
-  pub cut-row : take (r * n + n - r * n) (drop (r * n) l) ≡ rowAt P l r
+  pub cut-row : part (r * n) n l ≡ rowAt P l r
   unfolding rowAt
-  cut-row = ap₂ (λ i m. take i (drop (r * m) l)) (from (r * n) ∙ k .wide) (k .wide)
-    where
-      from : (i : ℕ) → i + n - i ≡ n
-      from i = omega arith
+  cut-row = part-of (r * n) n l ∙ ap (λ m. take m (drop (r * m) l)) (k .wide)
 
-  pub cut-length : length (take (r * n + n - r * n) (drop (r * n) l)) ≡ n
+  pub cut-length : length (part (r * n) n l) ≡ n
   cut-length = ap length cut-row ∙ row-length P l r (row-inside P l (k .long) (k .below)) ∙ sym (k .wide)
 
   -- what a function of a mark word and a row gives
-  pub cut-marks : {A : Type 0} (f : List Bool → List ℕ → A) (marks : List ℕ) → let row = take (r * n + n - r * n) (drop (r * n) l) in
+  pub cut-marks : {A : Type 0} (f : List Bool → List ℕ → A) (marks : List ℕ) → let row = part (r * n) n l in
       f (bitsOf (length row) (getD marks r 0)) row ≡ f (marksAt P marks r) (rowAt P l r)
   unfolding marksAt
   cut-marks f marks = ap₂ (λ m row. f (bitsOf m (getD marks r 0)) row) (cut-length ∙ k .wide) cut-row
@@ -122,18 +113,12 @@ module _ (word : ℕ) (row : List ℕ) where
   pub getD-kept : (c : ℕ) → c < length row
       → (if eqb (word / 2 ^ c % 2) 1 then 0 else getD row c 0) ≡ getD (blanked (bitsOf (length row) word) row) c 0
   getD-kept c h =
-      ap (λ b. if b then 0 else getD row c 0) (sym (getD-bits (length row) word c h))
+      ap (λ b. if b then 0 else getD row c 0) (sym (bits-at (length row) word c h))
       ∙ sym (getD-blanked (bitsOf (length row) word) row c (subst (λ n. c < n) (sym (length-bits (length row) word)) h))
 
 pub length-marks-of : (P : Plan) (marks : List ℕ) → length (marksOf P marks) ≡ P .rows * P .columns
-unfolding flatMap upFrom marksOf
-length-marks-of P marks = go 0 (P .rows)
-  where
-    go : (k n : ℕ) → length (flatMap (marksAt P marks) (upFrom k n)) ≡ n * P .columns
-    go k zero = sym (zero-mul (P .columns))
-    go k (suc n) =
-        length-append (marksAt P marks k) (flatMap (marksAt P marks) (upFrom (suc k) n))
-        ∙ ap₂ _+_ (length-marks P marks k) (go (suc k) n) ∙ add-comm (P .columns) (n * P .columns) ∙ sym (suc-mul n (P .columns))
+unfolding marksOf
+length-marks-of P marks = flat-length (marksAt P marks) (P .columns) 0 (P .rows) (λ r h. marks-length P marks r)
 
 blanked-flat : (a : ℕ → List Bool) (b : ℕ → List ℕ) (is : List ℕ) → ((i : ℕ) → In i is → length (a i) ≡ length (b i))
     → blanked (flatMap a is) (flatMap b is) ≡ flatMap (λ i. blanked (a i) (b i)) is
@@ -150,7 +135,7 @@ unfolding marksOf
 blanked-rows P marks stripe e =
     ap (blanked (marksOf P marks)) (sym (rows-joined P stripe e))
     ∙ blanked-flat (marksAt P marks) (rowAt P stripe) (upFrom 0 (P .rows))
-    (λ r m. length-marks P marks r ∙ sym (row-length P stripe r (row-inside P stripe e (below r (up-in 0 (P .rows) m .1)))))
+    (λ r m. marks-length P marks r ∙ sym (row-length P stripe r (row-inside P stripe e (below r (up-in 0 (P .rows) m .1)))))
   where
     below : (r : ℕ) → r < 0 + P .rows → r < P .rows
     below r h = omega arith
@@ -193,7 +178,7 @@ row-blanked P marks stripe e r h =
     wide : (i : ℕ) → i < P .rows → length (blanked (marksAt P marks i) (rowAt P stripe i)) ≡ P .columns
     wide i l =
         let row = row-length P stripe i (row-inside P stripe e l) in
-        length-blanked (marksAt P marks i) (rowAt P stripe i) (length-marks P marks i ∙ sym row) ∙ row
+        length-blanked (marksAt P marks i) (rowAt P stripe i) (marks-length P marks i ∙ sym row) ∙ row
 
 unmarked-blanked : (q : ℕ) (ms : List Bool) (xs : List ℕ) → unmarkedBelow q ms (blanked ms xs) ≡ unmarkedBelow q ms xs
 unfolding blanked unmarkedBelow

@@ -1,11 +1,11 @@
 -- The text's digits and rows, place by place. Assumes nothing.
-use mathlib.Core.Path.{_≡_, refl, sym, ap, ap₂, _∙_, subst}
+use mathlib.Core.Path.{_≡_, refl, sym, ap, _∙_, subst}
 use mathlib.Core.Bool.{Bool, true, false, _||_}
-use mathlib.Core.List.{List, [], _∷_, _++_}
+use mathlib.Core.List.{List, [], _∷_}
 use Prim.Native.Nat.{ℕ, zero, suc, _+_, _/_, _%_, _^_, _≤_, _<_}
 use native.Mathlib.Nat.{suc-inj, not-suc-le-zero, le-of-suc-le-suc, le-trans}
 use native.Mathlib.Omega.{arith}
-use borrow.Author.Tests.{lt-ltb, le-ltb, ltb-true}
+use borrow.Author.Tests.{lt-ltb, le-ltb}
 use lib.Dec.{T, eqb, ltb, ltb→lt, lt→ltb, lit<, lit≤}
 use lib.ListN.{length, getD}
 use Rattle.field.specs.Lists.{if_then_else_}
@@ -13,6 +13,7 @@ use Rattle.field.specs.Field.{size, gf2, gf16}
 use Rattle.field.proofs.Test.{both-left, both-right, both}
 use Rattle.linear.specs.Lists.{all}
 use Rattle.linear.specs.Marks.{bitsOf}
+use Rattle.linear.proofs.Marked.{length-bits, bits-at}
 use Rattle.repair.specs.Plan.{plan1, plan2, plan3, planOf, known, rowAt, marksAt}
 use Rattle.repair.specs.Refusal.{allBelow, unmarkedBelow, symbolsFit}
 use Rattle.repair.specs.Answers.{placeValues}
@@ -20,10 +21,8 @@ use Rattle.repair.specs.declared.Place.{Place}
 use Rattle.repair.specs.declared.Place.the-variants.{Row, Across}
 use Rattle.repair.specs.Text.{digitsIn, decimal, hex, shown}
 use Rattle.repair.proofs.Shape.{of-known}
-use Rattle.repair.proofs.Fit.{symbols-fit}
-use Rattle.repair.proofs.Scan.{length-bits, fitsIn, row-up, up-each}
-use Rattle.repair.proofs.Sames.{holds}
-use Rattle.repair.proofs.Stripes.{getD-bits}
+use Rattle.repair.proofs.Fit.{all-rows, symbols-fit}
+use Rattle.repair.proofs.Scan.{fitsIn, row-up}
 
 -- ---- numbers below 100
 
@@ -89,15 +88,15 @@ module _ (word : ℕ) (row : List ℕ) where
   module _ (c : ℕ) (h : c < length row) where
     pub getD-row-shown : (if eqb (word / 2 ^ c % 2) 1 then 63 else hex (getD row c 0)) ≡ getD (shown (bitsOf (length row) word) row) c 0
     getD-row-shown =
-        ap (λ b. if b then 63 else hex (getD row c 0)) (sym (getD-bits (length row) word c h))
+        ap (λ b. if b then 63 else hex (getD row c 0)) (sym (bits-at (length row) word c h))
         ∙ sym (getD-shown (bitsOf (length row) word) row c (subst (λ n. c < n) (sym (length-bits (length row) word)) h) h)
 
     -- a symbol that is not marked is one
     pub unmarked-at : (q : ℕ) → T (unmarkedBelow q (bitsOf (length row) word) row) → eqb (word / 2 ^ c % 2) 1 ≡ false → getD row c 0 < q
     unmarked-at q t e =
-        ltb-true (getD row c 0) q
-        (ap (λ b. b || ltb (getD row c 0) q) (sym (getD-bits (length row) word c h ∙ e))
-        ∙ up-each (fitsIn q word row) (length row) (sym (row-up q word row) ∙ holds (unmarkedBelow q (bitsOf (length row) word) row) t) c h)
+        ltb→lt (getD row c 0) q
+        (subst (λ b. T (b || ltb (getD row c 0) q)) (bits-at (length row) word c h ∙ e)
+        (all-rows (fitsIn q word row) (length row) (subst T (row-up q word row) t) c h))
 
 unmarked-le : (q r : ℕ) → q ≤ r → (ms : List Bool) (xs : List ℕ) → T (unmarkedBelow q ms xs) → T (unmarkedBelow r ms xs)
 unfolding unmarkedBelow

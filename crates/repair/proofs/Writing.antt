@@ -1,24 +1,18 @@
 -- Buffers written from a place on: runs of stores, and the loops that make them. Assumes nothing.
 use mathlib.Core.Path.{_≡_, refl, sym, ap, ap₂, _∙_, subst}
-use mathlib.Core.List.{List, [], _∷_, _++_, map, flatMap, append-nil, append-assoc}
+use mathlib.Core.List.{List, [], _∷_, _++_, map, flatMap, append-nil}
 use Prim.Native.Nat.{ℕ, zero, suc, _+_, _-_, _≤_, _<_}
-use native.Mathlib.Nat.{add-zero, add-suc, suc-add, zero-add, add-assoc}
+use native.Mathlib.Nat.{add-zero, zero-add, add-assoc}
 use native.Mathlib.Numerals.{add-one}
 use native.Mathlib.Omega.{arith}
 use lib.ListN.{length, getD, set, take, drop, replicate, length-append, length-replicate}
+use lib.Seq.{sets, sets-eq, length-sets, length-take-le, take-all, take-suc}
 use Rattle.field.specs.Lists.{upFrom}
 use Rattle.field.proofs.Lists.{length-up, getD-map-below}
 use Rattle.repair.specs.Tables.{padded}
 use Rattle.repair.specs.Written.{Put}
-use Rattle.repair.proofs.Rows.{take-sets, sets-whole}
-use lib.Seq.{sets, sets-eq, length-sets, length-take-le, take-all, take-suc}
-
--- a run of stores and then another is one
-pub sets-append : (a b l : List ℕ) (i : ℕ) → sets l i (a ++ b) ≡ sets (sets l i a) (i + length a) b
-sets-append [] b l i = ap (λ k. sets l k b) (sym (add-zero i))
-sets-append (v ∷ a) b l i =
-    sets-append a b (set l i v) (suc i)
-    ∙ ap (λ k. sets (sets (set l i v) (suc i) a) k b) (suc-add i (length a) ∙ sym (add-suc i (length a)))
+use Rattle.repair.proofs.Rows.{take-sets, sets-append, sets-whole}
+use Rattle.repair.proofs.Flat.{flat-append}
 
 -- what was put behind what was put
 pub put-then : {old l k : List ℕ} {at i j : ℕ} {xs ys : List ℕ} → Put old at xs i l → Put l i ys j k → Put old at (xs ++ ys) j k
@@ -101,11 +95,6 @@ getD-up n i h = ap (λ l. getD l i 0) (plain (upFrom 0 n)) ∙ getD-map-below (�
     plain (x ∷ l) = ap (λ k. x ∷ k) (plain l)
 
 module _ (f : ℕ → List ℕ) where
-  pub flat-last : (a : List ℕ) (x : ℕ) → flatMap f (a ++ (x ∷ [])) ≡ flatMap f a ++ f x
-  unfolding flatMap
-  flat-last [] x = append-nil (f x)
-  flat-last (y ∷ a) x = ap (λ k. f y ++ k) (flat-last a x) ∙ sym (append-assoc (f y) (flatMap f a) (f x))
-
   -- what f gives for the first i of xs is written from `at` up to `next`
   pub record Joining (old : List ℕ) (at : ℕ) (xs : List ℕ) (i : ℕ) (l : List ℕ) (next : ℕ) : Type 0 where
     pub within : i ≤ length xs
@@ -122,6 +111,7 @@ module _ (f : ℕ → List ℕ) where
 
     pub joining-turns : {i : ℕ} {l : List ℕ} {next : ℕ} {y l′ : List ℕ} {next′ : ℕ} → Joining old at xs i l next → i < length xs
         → y ≡ f (getD xs i 0) → l′ ≡ sets l next y → next′ ≡ next + length y → Joining old at xs (i + 1) l′ next′
+    unfolding flatMap
     joining-turns {i} {l} {next} {y} h more e w n = record {
       within = omega arith;
       written =
@@ -136,7 +126,9 @@ module _ (f : ℕ → List ℕ) where
         done = flatMap f (take i xs)
 
         grown : done ++ f (getD xs i 0) ≡ flatMap f (take (i + 1) xs)
-        grown = sym (flat-last (take i xs) (getD xs i 0)) ∙ ap (flatMap f) (sym (take-suc xs i 0 more)) ∙ ap (λ k. flatMap f (take k xs)) (sym (add-one i))
+        grown =
+            sym (flat-append f (take i xs) (getD xs i 0 ∷ []) ∙ ap (λ l. done ++ l) (append-nil (f (getD xs i 0))))
+            ∙ ap (flatMap f) (sym (take-suc xs i 0 more)) ∙ ap (λ k. flatMap f (take k xs)) (sym (add-one i))
 
     pub joining-ends : {i : ℕ} {l : List ℕ} {next : ℕ} → Joining old at xs i l next → length xs ≤ i → next ≤ length old
         → Put old at (flatMap f xs) next l

@@ -250,7 +250,7 @@ pub fn extract(plan: usize, stripe: &[u8], data: &mut [u8]) -> Outcome
 // Writes a stripe and its marks as a file, 0 under marks. Where it is refused the file is unchanged.
 pub fn write_file(plan: usize, stripe: &[u8], marks: &[u32], file: &mut [u8]) -> Outcome
     ensures { λ r. ⌜ r ≡ outcomeOf (writeRefusal plan (now (stripe .entry)) (now (marks .entry)) (now (file .entry))) ⌝ }
-    ensures { λ r. ⌜ now (file .exit) ≡ writeFile plan (now (stripe .entry)) (now (marks .entry)) (now (file .entry)) ⌝ }
+    ensures { λ _. ⌜ now (file .exit) ≡ writeFile plan (now (stripe .entry)) (now (marks .entry)) (now (file .entry)) ⌝ }
 {
     let number = file::write_refusal(plan, stripe, marks, file);
     if number != 0 {
@@ -263,8 +263,8 @@ pub fn write_file(plan: usize, stripe: &[u8], marks: &[u32], file: &mut [u8]) ->
 // Reads a file into a stripe and its marks. Where it is refused both are unchanged.
 pub fn read_file(file: &[u8], stripe: &mut [u8], marks: &mut [u32]) -> Outcome
     ensures { λ r. ⌜ r ≡ outcomeOf (readRefusal (now (file .entry)) (now (stripe .entry)) (now (marks .entry))) ⌝ }
-    ensures { λ r. ⌜ now (stripe .exit) ≡ readStripe (now (file .entry)) (now (stripe .entry)) (now (marks .entry)) ⌝ }
-    ensures { λ r. ⌜ now (marks .exit) ≡ readMarks (now (file .entry)) (now (stripe .entry)) (now (marks .entry)) ⌝ }
+    ensures { λ _. ⌜ now (stripe .exit) ≡ readStripe (now (file .entry)) (now (stripe .entry)) (now (marks .entry)) ⌝ }
+    ensures { λ _. ⌜ now (marks .exit) ≡ readMarks (now (file .entry)) (now (stripe .entry)) (now (marks .entry)) ⌝ }
 {
     let plan = file::plan_in(file);
     let lengths = refusal::lengths_fit(plan, stripe, marks);

@@ -1,23 +1,16 @@
-use Rattle.repair.proofs.Files.{fit-file, read-fits, read-stripe-long, read-marks-long, unread-stripe, unread-marks, stripe-loaded, marks-loaded, outcome-refused, outcome-done}
-use Rattle.repair.specs.File.{planIn, fileRefusal, readRefusal}
-use Rattle.repair.specs.Codeword.{outcomeOf}
+-- `repair::read_file` meets its contract: refused, stripe and marks stay; else both are read. Assumes nothing.
+use mathlib.Core.Bool.{_&&_}
+use mathlib.Core.Path.{_≡_, sym, ap, _∙_}
+use native.Mathlib.Nat.{le-of-eq}
+use borrow.Author.Needs.{needs}
+use denote.Ref.{now}
+use Rattle.repair.specs.File.{fileRefusal, readRefusal, readStripe, readMarks}
 use Rattle.repair.specs.Refusal.{unasked, stripeFits, wordsFit}
 use Rattle.repair.specs.Plan.{planOf}
-use lib.Seq.{sets}
-use denote.Ref.{now}
-use native.Mathlib.Nat.{le-of-eq}
-use mathlib.Core.Bool.{_&&_}
-use mathlib.Core.Path.{_≡_, refl, sym, ap, _∙_}
-use native.Mathlib.Omega.{arith}
-use borrow.Author.Needs.{needs}
+use Rattle.repair.proofs.Files.{fit-file, read-fits, read-stripe-long, read-marks-long, stripe-loaded, marks-loaded}
+use Rattle.repair.proofs.Carrying.{outcome-refused, outcome-done, left-old}
 use Rattle.repair.proofs.read_file.Statement.{statement}
 use Rattle.repair.proofs.read_file.Tie as tie
-use Rattle.repair.proofs.read_file.Reads as reads
-use Rattle.repair.proofs.read_file.Lts as lts
-use Rattle.repair.proofs.file.file_refusal.Reads as file-refusal-reads
-use Rattle.repair.proofs.file.load.Reads as load-reads
-use Rattle.repair.proofs.file.plan_in.Reads as plan-in-reads
-use Rattle.repair.proofs.refusal.lengths_fit.Reads as lengths-fit-reads
 
 refusal : (c : tie.After-file-refusal)
     → let a = c .before .before .before .before .before .before .before .before .args in c .file-refusal .result ≡ readRefusal (now (a .file)) (now (a .stripe)) (now (a .marks))
@@ -44,11 +37,17 @@ same-length-2 : tie.Need-same-length-2
 same-length-2 c = search needs
 
 returns : tie.Need-returns
+unfolding readStripe readMarks
 returns c =
+<<<<<<< HEAD
     let e = refusal (c .before) in (
       outcome-refused _ (c .if1 .taken) ∙ ap outcomeOf e,
       (unread-stripe _ _ _ (λ z. c .if1 .taken (e ∙ z)), unread-marks _ _ _ (λ z. c .if1 .taken (e ∙ z))),
     )
+=======
+    let e = refusal (c .before) in
+    (outcome-refused e (c .if1 .taken), (left-old e _ _ (c .if1 .taken), left-old e _ _ (c .if1 .taken)))
+>>>>>>> file
 
 load-requires : tie.Need-load-requires
 unfolding unasked
@@ -70,9 +69,10 @@ same-length-4 c = search needs
 
 returns-2 : tie.Need-returns-2
 returns-2 c =
-    let e = sym (refusal (c .before .before .before .before .before .before .before .before)) ∙ c .before .before .before .before .before .before .before .if1 .left in
+    let e = refusal (c .before .before .before .before .before .before .before .before) in
+    let z = c .before .before .before .before .before .before .before .if1 .left in
     let loaded = c .before .before .before .before .load .ensures in
-    (outcome-done e, (loaded .0 ∙ stripe-loaded _ _ _ e, loaded .1 ∙ marks-loaded _ _ _ e))
+    (outcome-done e z, (loaded .0 ∙ stripe-loaded _ _ _ (sym e ∙ z), loaded .1 ∙ marks-loaded _ _ _ (sym e ∙ z)))
 
 pub read-file-spec : {M : Type 1} → statement M
 read-file-spec =

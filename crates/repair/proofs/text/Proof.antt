@@ -1,13 +1,10 @@
-use Rattle.repair.proofs.Writing.{put-padded}
-use native.Mathlib.Nat.{zero-add}
+-- `repair::text` meets its contract: the text fits, and the rest of the room is zeros. Assumes nothing.
 use mathlib.Core.Path.{_∙_}
-use native.Mathlib.Omega.{arith}
+use native.Mathlib.Nat.{zero-add}
 use borrow.Author.Needs.{needs}
+use Rattle.repair.proofs.Writing.{put-padded}
 use Rattle.repair.proofs.text.Statement.{statement}
 use Rattle.repair.proofs.text.Tie as tie
-use Rattle.repair.proofs.text.Reads as reads
-use Rattle.repair.proofs.text.Lts as lts
-use Rattle.repair.proofs.lines.put_text.Reads as put-text-reads
 
 slice-aggregate-put-text : tie.Need-slice-aggregate-put-text
 slice-aggregate-put-text c = search needs

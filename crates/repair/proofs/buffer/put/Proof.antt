@@ -1,13 +1,12 @@
+-- `repair::buffer::put` meets its contract: after i turns the first i bytes are copied. Assumes nothing.
 use mathlib.Core.Path.{_≡_, refl}
 use Prim.Native.Nat.{_-_}
 use native.Mathlib.Omega.{arith}
+use borrow.Author.Needs.{needs}
 use lib.ListN.{length}
 use Rattle.repair.proofs.Writing.{Writing, writing-starts, writing-length, writing-turns, writing-put}
-use borrow.Author.Needs.{needs}
 use Rattle.repair.proofs.buffer.put.Statement.{statement}
 use Rattle.repair.proofs.buffer.put.Tie as tie
-use Rattle.repair.proofs.buffer.put.Reads as reads
-use Rattle.repair.proofs.buffer.put.Lts as lts
 
 abbrev Inv-loop : tie.InvT-loop
 Inv-loop bytes out₀ at i₀ i-end out i = (i-end ≡ length bytes) × Writing out₀ at bytes i out

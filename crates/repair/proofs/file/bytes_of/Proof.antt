@@ -1,10 +1,8 @@
-use native.Mathlib.Omega.{arith}
-use Rattle.repair.specs.File.{bytes4}
+-- `repair::file::bytes_of` meets its contract: the bytes are those of the definition. Assumes nothing.
 use borrow.Author.Needs.{needs}
+use Rattle.repair.specs.File.{bytes4}
 use Rattle.repair.proofs.file.bytes_of.Statement.{statement}
 use Rattle.repair.proofs.file.bytes_of.Tie as tie
-use Rattle.repair.proofs.file.bytes_of.Reads as reads
-use Rattle.repair.proofs.file.bytes_of.Lts as lts
 
 cast-t3 : tie.Need-cast-t3
 cast-t3 c = search needs

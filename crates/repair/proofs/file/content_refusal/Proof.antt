@@ -1,17 +1,10 @@
-use Rattle.repair.proofs.Refusals.{passes, fails, none-fails}
-use Rattle.repair.specs.Written.{contentTests}
-use Rattle.repair.specs.Plan.{planOf}
+-- `repair::file::content_refusal` meets its contract: the first test that fails gives its number. Assumes nothing.
+use mathlib.Core.Path.{sym, _∙_}
 use borrow.Author.Tests.{not-true, not-false}
-use mathlib.Core.Path.{_≡_, sym, _∙_}
-use native.Mathlib.Omega.{arith}
 use borrow.Author.Needs.{needs}
+use Rattle.repair.proofs.Refusals.{passes, fails, none-fails}
 use Rattle.repair.proofs.file.content_refusal.Statement.{statement}
 use Rattle.repair.proofs.file.content_refusal.Tie as tie
-use Rattle.repair.proofs.file.content_refusal.Reads as reads
-use Rattle.repair.proofs.file.content_refusal.Lts as lts
-use Rattle.repair.proofs.file.is_blank.Reads as is-blank-reads
-use Rattle.repair.proofs.refusal.marks_fit.Reads as marks-fit-reads
-use Rattle.repair.proofs.refusal.symbols_fit.Reads as symbols-fit-reads
 
 marks-fit-requires : tie.Need-marks-fit-requires
 marks-fit-requires c κs = search needs

@@ -1,28 +1,20 @@
-use Rattle.repair.proofs.Refusals.{passes, fails}
+-- `repair::file::file_refusal` meets its contract: the first test that fails gives its number. Assumes nothing.
+use mathlib.Core.Bool.{true}
+use mathlib.Core.Path.{_≡_, sym, ap, subst, _∙_}
+use borrow.Author.Tests.{le-leb, lt-leb, eq-eqb, ne-eqb, not-true, not-false}
+use borrow.Author.Needs.{needs}
+use denote.Ref.{now}
+use lib.Seq.{length-take-le}
+use lib.ListN.{length, take}
+use lib.Dec.{T, leb}
+use Rattle.linear.specs.Lists.{same}
 use Rattle.repair.specs.File.{bytes2, headerOf, fileLength, planIn, marksIn, symbolsIn, fileRefusal}
 use Rattle.repair.specs.Written.{contentTests}
 use Rattle.repair.specs.Refusal.{firstFailed, inFile}
 use Rattle.repair.specs.Plan.{planOf, known}
-use Rattle.linear.specs.Lists.{same}
-use lib.Seq.{length-take-le}
-use lib.ListN.{length, take}
-use lib.Dec.{T, leb, eqb}
-use denote.Ref.{now}
-use borrow.Author.Tests.{le-leb, lt-leb, eq-eqb, ne-eqb, not-true, not-false}
-use mathlib.Core.Bool.{true}
-use mathlib.Core.Path.{_≡_, refl, sym, ap, ap₂, subst, _∙_}
-use native.Mathlib.Omega.{arith}
-use borrow.Author.Needs.{needs}
+use Rattle.repair.proofs.Refusals.{passes, fails}
 use Rattle.repair.proofs.file.file_refusal.Statement.{statement}
 use Rattle.repair.proofs.file.file_refusal.Tie as tie
-use Rattle.repair.proofs.file.file_refusal.Reads as reads
-use Rattle.repair.proofs.file.file_refusal.Lts as lts
-use Rattle.repair.proofs.file.header_of.Reads as header-of-reads
-use Rattle.repair.proofs.file.plan_in.Reads as plan-in-reads
-use Rattle.repair.proofs.file.same.Reads as same-reads
-use Rattle.repair.proofs.file.whole_refusal.Reads as whole-refusal-reads
-use Rattle.repair.proofs.plan.file_length.Reads as file-length-reads
-use Rattle.repair.proofs.plan.is_known.Reads as is-known-reads
 
 -- the tests that passed, in their order
 

@@ -1,16 +1,11 @@
-use Rattle.repair.proofs.Shape.{shape}
-use mathlib.Core.Path.{_≡_, ap₂}
-use Rattle.repair.proofs.Stripes.{known-below}
-use Rattle.repair.specs.File.{bytes2, marksOffset, symbolsOffset, headerOf}
-use Rattle.repair.specs.Plan.{known}
+-- `repair::file::header_of` meets its contract: the bytes are those of the definition, and fit bytes by the plans' sizes. Assumes nothing.
 use native.Mathlib.Omega.{arith}
 use borrow.Author.Needs.{needs}
+use Rattle.repair.specs.File.{bytes2, marksOffset, symbolsOffset, headerOf}
+use Rattle.repair.proofs.Shape.{shape}
+use Rattle.repair.proofs.Stripes.{known-below}
 use Rattle.repair.proofs.file.header_of.Statement.{statement}
 use Rattle.repair.proofs.file.header_of.Tie as tie
-use Rattle.repair.proofs.file.header_of.Reads as reads
-use Rattle.repair.proofs.file.header_of.Lts as lts
-use Rattle.repair.proofs.plan.columns.Reads as columns-reads
-use Rattle.repair.proofs.plan.rows.Reads as rows-reads
 
 rows-requires : tie.Need-rows-requires
 rows-requires c κs = search needs

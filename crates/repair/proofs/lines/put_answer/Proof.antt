@@ -1,14 +1,11 @@
-use Rattle.repair.proofs.Writing.{put-then, put-is}
-use Rattle.repair.specs.Text.{bytes, item}
+-- `repair::lines::put_answer` meets its contract: two items. Assumes nothing.
 use mathlib.Core.Path.{sym, ap}
 use native.Mathlib.Omega.{arith}
 use borrow.Author.Needs.{needs}
+use Rattle.repair.specs.Text.{bytes, item}
+use Rattle.repair.proofs.Writing.{put-then, put-is}
 use Rattle.repair.proofs.lines.put_answer.Statement.{statement}
 use Rattle.repair.proofs.lines.put_answer.Tie as tie
-use Rattle.repair.proofs.lines.put_answer.Reads as reads
-use Rattle.repair.proofs.lines.put_answer.Lts as lts
-use Rattle.repair.proofs.lines.answer_number.Reads as answer-number-reads
-use Rattle.repair.proofs.lines.put_item.Reads as put-item-reads
 
 slice-aggregate-put-item : tie.Need-slice-aggregate-put-item
 slice-aggregate-put-item c = search needs

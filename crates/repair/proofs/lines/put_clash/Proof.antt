@@ -1,13 +1,9 @@
-use Rattle.repair.proofs.Writing.{put-then}
-use Rattle.repair.specs.Text.{lineEnd}
-use native.Mathlib.Omega.{arith}
+-- `repair::lines::put_clash` meets its contract: the line feed behind the place. Assumes nothing.
 use borrow.Author.Needs.{needs}
+use Rattle.repair.specs.Text.{lineEnd}
+use Rattle.repair.proofs.Writing.{put-then}
 use Rattle.repair.proofs.lines.put_clash.Statement.{statement}
 use Rattle.repair.proofs.lines.put_clash.Tie as tie
-use Rattle.repair.proofs.lines.put_clash.Reads as reads
-use Rattle.repair.proofs.lines.put_clash.Lts as lts
-use Rattle.repair.proofs.buffer.put.Reads as put-reads
-use Rattle.repair.proofs.lines.put_place.Reads as put-place-reads
 
 put-place-requires : tie.Need-put-place-requires
 put-place-requires c κs = search needs

@@ -1,11 +1,9 @@
-use Rattle.repair.specs.Text.{bytes, item}
+-- `repair::lines::put_count` meets its contract: an item whose word is a space. Assumes nothing.
 use native.Mathlib.Omega.{arith}
 use borrow.Author.Needs.{needs}
+use Rattle.repair.specs.Text.{bytes, item}
 use Rattle.repair.proofs.lines.put_count.Statement.{statement}
 use Rattle.repair.proofs.lines.put_count.Tie as tie
-use Rattle.repair.proofs.lines.put_count.Reads as reads
-use Rattle.repair.proofs.lines.put_count.Lts as lts
-use Rattle.repair.proofs.lines.put_item.Reads as put-item-reads
 
 slice-aggregate-put-item : tie.Need-slice-aggregate-put-item
 slice-aggregate-put-item c = search needs

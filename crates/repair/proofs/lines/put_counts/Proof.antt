@@ -1,19 +1,15 @@
-use lib.Seq.{length-take-le, getD-take}
-use Rattle.repair.proofs.Texts.{below-at}
-use Rattle.repair.specs.Refusal.{allBelow}
-use lib.Dec.{T}
-use Rattle.repair.proofs.Writing.{Joining, joining-starts, joining-length, joining-turns, joining-ends}
-use Rattle.repair.specs.Text.{item}
-use lib.ListN.{length, take}
+-- `repair::lines::put_counts` meets its contract: after k turns the first k counts are written. Assumes nothing.
+use mathlib.Core.Path.{sym, ap}
 use Prim.Native.Nat.{_+_, _*_, _-_, _≤_}
-use mathlib.Core.Path.{_≡_, refl, sym, ap, _∙_}
 use native.Mathlib.Omega.{arith}
 use borrow.Author.Needs.{needs}
+use lib.Seq.{length-take-le, getD-take}
+use lib.ListN.{take}
+use Rattle.repair.specs.Text.{item}
+use Rattle.repair.proofs.Texts.{below-at}
+use Rattle.repair.proofs.Writing.{Joining, joining-starts, joining-length, joining-turns, joining-ends}
 use Rattle.repair.proofs.lines.put_counts.Statement.{statement}
 use Rattle.repair.proofs.lines.put_counts.Tie as tie
-use Rattle.repair.proofs.lines.put_counts.Reads as reads
-use Rattle.repair.proofs.lines.put_counts.Lts as lts
-use Rattle.repair.proofs.lines.put_count.Reads as put-count-reads
 
 abbrev Inv-loop : tie.InvT-loop
 Inv-loop levels counts out₀ at next₀ k₀ out next k = (next ≤ at + 3 * k) × Joining (item " ") out₀ at (take levels counts) k out next

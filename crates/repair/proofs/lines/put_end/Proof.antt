@@ -1,12 +1,9 @@
-use Rattle.repair.proofs.Writing.{put-then}
+-- `repair::lines::put_end` meets its contract: the rows behind the summary. Assumes nothing.
 use native.Mathlib.Omega.{arith}
 use borrow.Author.Needs.{needs}
+use Rattle.repair.proofs.Writing.{put-then}
 use Rattle.repair.proofs.lines.put_end.Statement.{statement}
 use Rattle.repair.proofs.lines.put_end.Tie as tie
-use Rattle.repair.proofs.lines.put_end.Reads as reads
-use Rattle.repair.proofs.lines.put_end.Lts as lts
-use Rattle.repair.proofs.lines.put_grid.Reads as put-grid-reads
-use Rattle.repair.proofs.lines.put_summary.Reads as put-summary-reads
 
 put-summary-requires : tie.Need-put-summary-requires
 put-summary-requires c κs = search needs

@@ -1,28 +1,23 @@
+-- `repair::lines::put_grid` meets its contract: after r turns the first r rows are written. Assumes nothing.
+use mathlib.Core.Path.{ap₂, _≡_, refl, sym, subst}
+use mathlib.Core.List.{_++_}
+use Prim.Native.Nat.{_+_, _*_, _-_}
+use native.Mathlib.Nat.{add-mul}
+use native.Mathlib.Omega.{arith}
+use borrow.Author.Needs.{needs}
+use lib.ListN.{length}
+use lib.Dec.{T}
 use Rattle.field.proofs.Lists.{length-up}
-use mathlib.Core.Path.{ap₂}
+use Rattle.field.specs.Lists.{upFrom}
+use Rattle.repair.specs.Text.{shown, lineEnd, grid}
+use Rattle.repair.specs.Refusal.{unmarkedBelow}
+use Rattle.repair.specs.Plan.{planOf, rowAt, marksAt}
 use Rattle.repair.proofs.Writing.{Joining, joining-starts, joining-length, counting-turns, counting-ends}
 use Rattle.repair.proofs.Texts.{fit-hex}
 use Rattle.repair.proofs.Stripes.{Cut, cut-inside, cut-length, cut-marks}
 use Rattle.repair.proofs.Shape.{shape}
-use Rattle.repair.specs.Text.{shown, lineEnd, grid}
-use Rattle.repair.specs.Refusal.{unmarkedBelow}
-use Rattle.repair.specs.Plan.{planOf, rowAt, marksAt}
-use Rattle.linear.specs.Marks.{bitsOf}
-use Rattle.field.specs.Lists.{upFrom}
-use lib.ListN.{length}
-use lib.Dec.{T}
-use native.Mathlib.Nat.{add-mul}
-use Prim.Native.Nat.{_+_, _*_, _-_}
-use mathlib.Core.List.{_++_}
-use mathlib.Core.Path.{_≡_, refl, sym, ap, _∙_, subst}
-use native.Mathlib.Omega.{arith}
-use borrow.Author.Needs.{needs}
 use Rattle.repair.proofs.lines.put_grid.Statement.{statement}
 use Rattle.repair.proofs.lines.put_grid.Tie as tie
-use Rattle.repair.proofs.lines.put_grid.Reads as reads
-use Rattle.repair.proofs.lines.put_grid.Lts as lts
-use Rattle.repair.proofs.plan.columns.Reads as columns-reads
-use Rattle.repair.proofs.lines.put_line.Reads as put-line-reads
 
 abbrev Inv-loop : tie.InvT-loop
 Inv-loop plan stripe marks out₀ at columns next₀ r₀ r-end out next r =

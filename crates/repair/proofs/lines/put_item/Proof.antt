@@ -1,12 +1,9 @@
-use Rattle.repair.proofs.Writing.{put-then}
+-- `repair::lines::put_item` meets its contract: the number behind the word. Assumes nothing.
 use native.Mathlib.Omega.{arith}
 use borrow.Author.Needs.{needs}
+use Rattle.repair.proofs.Writing.{put-then}
 use Rattle.repair.proofs.lines.put_item.Statement.{statement}
 use Rattle.repair.proofs.lines.put_item.Tie as tie
-use Rattle.repair.proofs.lines.put_item.Reads as reads
-use Rattle.repair.proofs.lines.put_item.Lts as lts
-use Rattle.repair.proofs.buffer.put.Reads as put-reads
-use Rattle.repair.proofs.lines.put_number.Reads as put-number-reads
 
 put-requires : tie.Need-put-requires
 put-requires c κs = search needs

@@ -1,19 +1,15 @@
-use Prim.Native.Nat.{_+_}
-use lib.ListN.{length-set}
-use Rattle.repair.proofs.Writing.{Writing, writing-starts, writing-length, writing-turns, writing-put, put-one}
-use Rattle.repair.proofs.Texts.{length-row-shown, getD-row-shown, unmarked-at}
-use Rattle.repair.specs.Text.{shown, lineEnd}
-use Rattle.linear.specs.Marks.{bitsOf}
-use lib.ListN.{length}
-use Prim.Native.Nat.{_-_}
+-- `repair::lines::put_line` meets its contract: after c turns the first c symbols are written; the line feed behind them. Assumes nothing.
 use mathlib.Core.Path.{_≡_, refl, sym, ap, _∙_}
+use Prim.Native.Nat.{_+_, _-_}
 use native.Mathlib.Omega.{arith}
 use borrow.Author.Needs.{needs}
+use lib.ListN.{length-set, length}
+use Rattle.linear.specs.Marks.{bitsOf}
+use Rattle.repair.specs.Text.{shown, lineEnd}
+use Rattle.repair.proofs.Writing.{Writing, writing-starts, writing-length, writing-turns, writing-put, put-one}
+use Rattle.repair.proofs.Texts.{length-row-shown, getD-row-shown, unmarked-at}
 use Rattle.repair.proofs.lines.put_line.Statement.{statement}
 use Rattle.repair.proofs.lines.put_line.Tie as tie
-use Rattle.repair.proofs.lines.put_line.Reads as reads
-use Rattle.repair.proofs.lines.put_line.Lts as lts
-use Rattle.repair.proofs.lines.digit.Reads as digit-reads
 
 abbrev Inv-loop : tie.InvT-loop
 Inv-loop word row out₀ at c₀ c-end out c = (c-end ≡ length row) × Writing out₀ at (shown (bitsOf (length row) word) row) c out

@@ -1,25 +1,20 @@
-use Rattle.repair.proofs.Writing.{front-set, put-is}
-use Rattle.repair.proofs.Files.{FileFit, file-fit, read-fit, length-symbols-in, length-marks-in}
-use Rattle.repair.proofs.Shape.{Shape, shape}
-use Rattle.repair.proofs.Fit.{fit-lent}
+-- `repair::lines::put_loaded` meets its contract: what was loaded is what is in the file, and is not refused. Assumes nothing.
+use mathlib.Core.Path.{_≡_, sym, ap, ap₂, _∙_}
+use Prim.Native.Nat.{_*_}
+use native.Mathlib.Omega.{arith}
+use borrow.Author.Needs.{needs}
+use denote.Ref.{now}
+use lib.ListN.{length, take, replicate}
 use Rattle.repair.specs.Text.{mendText}
 use Rattle.repair.specs.File.{planIn, symbolsIn, marksIn}
 use Rattle.repair.specs.Refusal.{unasked, lentRefusal}
 use Rattle.repair.specs.Plan.{planOf}
-use Prim.Native.Nat.{_≤_, _*_}
-use lib.ListN.{length, take, replicate}
-use denote.Ref.{now}
-use mathlib.Core.Path.{_≡_, refl, sym, ap, ap₂, _∙_, subst}
-use native.Mathlib.Omega.{arith}
-use borrow.Author.Needs.{needs}
+use Rattle.repair.proofs.Writing.{front-set, put-is}
+use Rattle.repair.proofs.Files.{FileFit, file-fit, read-fit, length-symbols-in, length-marks-in}
+use Rattle.repair.proofs.Shape.{Shape, shape}
+use Rattle.repair.proofs.Fit.{fit-lent}
 use Rattle.repair.proofs.lines.put_loaded.Statement.{statement}
 use Rattle.repair.proofs.lines.put_loaded.Tie as tie
-use Rattle.repair.proofs.lines.put_loaded.Reads as reads
-use Rattle.repair.proofs.lines.put_loaded.Lts as lts
-use Rattle.repair.proofs.file.load.Reads as load-reads
-use Rattle.repair.proofs.file.plan_in.Reads as plan-in-reads
-use Rattle.repair.proofs.lines.put_mended.Reads as put-mended-reads
-use Rattle.repair.proofs.plan.facts_of.Reads as facts-of-reads
 
 fit : (c : tie.Start) → FileFit (now (c .args .file))
 fit c = file-fit _ unasked (c .pre .0) .0

@@ -1,15 +1,11 @@
+-- `repair::lines::put_mended` meets its contract: what mending leaves can be printed. Assumes nothing.
+use native.Mathlib.Omega.{arith}
+use borrow.Author.Needs.{needs}
 use Rattle.repair.proofs.Writing.{put-then, put-is}
 use Rattle.repair.proofs.Printing.{Printable, mend-printable, text-mended}
 use Rattle.repair.proofs.Stripes.{known-below}
-use native.Mathlib.Omega.{arith}
-use borrow.Author.Needs.{needs}
 use Rattle.repair.proofs.lines.put_mended.Statement.{statement}
 use Rattle.repair.proofs.lines.put_mended.Tie as tie
-use Rattle.repair.proofs.lines.put_mended.Reads as reads
-use Rattle.repair.proofs.lines.put_mended.Lts as lts
-use Rattle.repair.proofs.lines.put_answer.Reads as put-answer-reads
-use Rattle.repair.proofs.lines.put_report.Reads as put-report-reads
-use Rattle.repair.proofs.mend.Reads as mend-reads
 
 printable : (c : tie.After-mend) → let m = c .mend in Printable (c .before .before .before .before .before .before .args .plan) (m .result) (m .last .1 .0) (m .last .1 .1 .0)
 printable c = let e = c .mend .ensures in mend-printable _ _ _ (c .before .before .before .before .before .before .pre .0) (e .0) (e .1 .0) (e .1 .1)

@@ -1,15 +1,14 @@
+-- `repair::lines::put_number` meets its contract: one digit or two. Assumes nothing.
+use mathlib.Core.Path.{sym, ap}
 use Prim.Native.Nat.{_+_}
-use Rattle.repair.proofs.Texts.{one-digit, two-digits}
-use lib.Seq.{sets}
-use lib.ListN.{length, length-set}
 use native.Mathlib.Numerals.{add-one}
-use mathlib.Core.Path.{_≡_, refl, sym, ap, _∙_}
 use native.Mathlib.Omega.{arith}
 use borrow.Author.Needs.{needs}
+use lib.Seq.{sets}
+use lib.ListN.{length, length-set}
+use Rattle.repair.proofs.Texts.{one-digit, two-digits}
 use Rattle.repair.proofs.lines.put_number.Statement.{statement}
 use Rattle.repair.proofs.lines.put_number.Tie as tie
-use Rattle.repair.proofs.lines.put_number.Reads as reads
-use Rattle.repair.proofs.lines.put_number.Lts as lts
 
 cast-ones : tie.Need-cast-ones
 cast-ones c = search needs

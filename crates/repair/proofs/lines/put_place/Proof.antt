@@ -1,16 +1,12 @@
+-- `repair::lines::put_place` meets its contract: by the kind of place. Assumes nothing.
 use mathlib.Core.Path.{ap}
-use Rattle.repair.proofs.Writing.{put-then, put-is}
-use Rattle.repair.proofs.Texts.{row-below, across-below}
-use Rattle.repair.specs.Text.{bytes, item, placeText}
-use mathlib.Core.Path.{_≡_}
 use native.Mathlib.Omega.{arith}
 use borrow.Author.Needs.{needs}
+use Rattle.repair.specs.Text.{bytes, item, placeText}
+use Rattle.repair.proofs.Writing.{put-then, put-is}
+use Rattle.repair.proofs.Texts.{row-below, across-below}
 use Rattle.repair.proofs.lines.put_place.Statement.{statement}
 use Rattle.repair.proofs.lines.put_place.Tie as tie
-use Rattle.repair.proofs.lines.put_place.Reads as reads
-use Rattle.repair.proofs.lines.put_place.Lts as lts
-use Rattle.repair.proofs.buffer.put.Reads as put-reads
-use Rattle.repair.proofs.lines.put_item.Reads as put-item-reads
 
 enum-known-place : tie.Need-enum-known-place
 enum-known-place c = search needs

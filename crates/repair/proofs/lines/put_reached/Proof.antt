@@ -1,12 +1,10 @@
-use Rattle.repair.proofs.Writing.{put-then}
-use Rattle.repair.specs.Text.{bytes, item}
+-- `repair::lines::put_reached` meets its contract: two items. Assumes nothing.
 use native.Mathlib.Omega.{arith}
 use borrow.Author.Needs.{needs}
+use Rattle.repair.specs.Text.{bytes, item}
+use Rattle.repair.proofs.Writing.{put-then}
 use Rattle.repair.proofs.lines.put_reached.Statement.{statement}
 use Rattle.repair.proofs.lines.put_reached.Tie as tie
-use Rattle.repair.proofs.lines.put_reached.Reads as reads
-use Rattle.repair.proofs.lines.put_reached.Lts as lts
-use Rattle.repair.proofs.lines.put_item.Reads as put-item-reads
 
 slice-aggregate-put-item : tie.Need-slice-aggregate-put-item
 slice-aggregate-put-item c = search needs

@@ -1,13 +1,9 @@
-use Rattle.repair.proofs.Writing.{put-then}
-use Rattle.repair.specs.Text.{bytes, item, lineEnd}
-use native.Mathlib.Omega.{arith}
+-- `repair::lines::put_refusal` meets its contract: an item and a line feed. Assumes nothing.
 use borrow.Author.Needs.{needs}
+use Rattle.repair.specs.Text.{bytes, item, lineEnd}
+use Rattle.repair.proofs.Writing.{put-then}
 use Rattle.repair.proofs.lines.put_refusal.Statement.{statement}
 use Rattle.repair.proofs.lines.put_refusal.Tie as tie
-use Rattle.repair.proofs.lines.put_refusal.Reads as reads
-use Rattle.repair.proofs.lines.put_refusal.Lts as lts
-use Rattle.repair.proofs.buffer.put.Reads as put-reads
-use Rattle.repair.proofs.lines.put_item.Reads as put-item-reads
 
 slice-aggregate-put-item : tie.Need-slice-aggregate-put-item
 slice-aggregate-put-item c = search needs

@@ -1,23 +1,18 @@
+-- `repair::lines::put_report` meets its contract: by the answer. Assumes nothing.
+use mathlib.Core.List.{List, _∷_}
+use mathlib.Core.Path.{_≡_, ap, subst}
 use Prim.Native.Nat.{ℕ}
-use mathlib.Core.List.{List}
-use Rattle.repair.specs.declared.Answer.{Answer}
+use native.Mathlib.Omega.{arith}
+use borrow.Author.Needs.{needs}
 use denote.Ref.{now}
-use mathlib.Core.List.{_∷_}
-use Rattle.repair.proofs.Writing.{put-is}
+use lib.Dec.{T}
+use Rattle.repair.specs.declared.Answer.{Answer}
 use Rattle.repair.specs.Text.{lineEnd, reportText}
 use Rattle.repair.specs.Refusal.{allBelow}
 use Rattle.repair.specs.Answers.{answerValues, reportValues}
-use lib.Dec.{T}
-use mathlib.Core.Path.{_≡_, sym, ap, subst}
-use native.Mathlib.Omega.{arith}
-use borrow.Author.Needs.{needs}
+use Rattle.repair.proofs.Writing.{put-is}
 use Rattle.repair.proofs.lines.put_report.Statement.{statement}
 use Rattle.repair.proofs.lines.put_report.Tie as tie
-use Rattle.repair.proofs.lines.put_report.Reads as reads
-use Rattle.repair.proofs.lines.put_report.Lts as lts
-use Rattle.repair.proofs.buffer.put.Reads as put-reads
-use Rattle.repair.proofs.lines.put_clash.Reads as put-clash-reads
-use Rattle.repair.proofs.lines.put_end.Reads as put-end-reads
 
 -- what is known of the answer's values and of its text, once the answer is known
 

@@ -1,20 +1,15 @@
-use Rattle.repair.proofs.Writing.{put-then, put-is}
-use Rattle.repair.proofs.Texts.{beside-below}
-use Rattle.repair.proofs.Plans.{levels-most}
-use Rattle.repair.specs.Text.{bytes, item, lineEnd, summary}
-use lib.ListN.{take}
+-- `repair::lines::put_summary` meets its contract: its parts stand one behind the other. Assumes nothing.
 use mathlib.Core.List.{flatMap}
 use mathlib.Core.Path.{sym, ap}
 use native.Mathlib.Omega.{arith}
 use borrow.Author.Needs.{needs}
+use lib.ListN.{take}
+use Rattle.repair.specs.Text.{bytes, item, lineEnd, summary}
+use Rattle.repair.proofs.Writing.{put-then, put-is}
+use Rattle.repair.proofs.Texts.{beside-below}
+use Rattle.repair.proofs.Plans.{levels-most}
 use Rattle.repair.proofs.lines.put_summary.Statement.{statement}
 use Rattle.repair.proofs.lines.put_summary.Tie as tie
-use Rattle.repair.proofs.lines.put_summary.Reads as reads
-use Rattle.repair.proofs.lines.put_summary.Lts as lts
-use Rattle.repair.proofs.buffer.put.Reads as put-reads
-use Rattle.repair.proofs.plan.levels.Reads as levels-reads
-use Rattle.repair.proofs.lines.put_counts.Reads as put-counts-reads
-use Rattle.repair.proofs.lines.put_reached.Reads as put-reached-reads
 
 put-reached-requires : tie.Need-put-reached-requires
 put-reached-requires c κs =

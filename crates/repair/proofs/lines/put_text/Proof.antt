@@ -1,20 +1,16 @@
-use Rattle.repair.proofs.Writing.{put-is}
-use Rattle.repair.proofs.Printing.{text-refused, text-loaded}
-use Rattle.repair.proofs.Files.{refusal-below}
-use Rattle.repair.specs.Text.{item, lineEnd}
-use Rattle.repair.specs.Refusal.{unasked}
-use denote.Ref.{now}
+-- `repair::lines::put_text` meets its contract: refused or mended. Assumes nothing.
 use mathlib.Core.List.{_++_}
 use mathlib.Core.Path.{sym, ap, _∙_}
 use native.Mathlib.Omega.{arith}
 use borrow.Author.Needs.{needs}
+use denote.Ref.{now}
+use Rattle.repair.specs.Text.{item, lineEnd}
+use Rattle.repair.specs.Refusal.{unasked}
+use Rattle.repair.proofs.Writing.{put-is}
+use Rattle.repair.proofs.Printing.{text-refused, text-loaded}
+use Rattle.repair.proofs.Files.{refusal-below}
 use Rattle.repair.proofs.lines.put_text.Statement.{statement}
 use Rattle.repair.proofs.lines.put_text.Tie as tie
-use Rattle.repair.proofs.lines.put_text.Reads as reads
-use Rattle.repair.proofs.lines.put_text.Lts as lts
-use Rattle.repair.proofs.file.file_refusal.Reads as file-refusal-reads
-use Rattle.repair.proofs.lines.put_loaded.Reads as put-loaded-reads
-use Rattle.repair.proofs.lines.put_refusal.Reads as put-refusal-reads
 
 file-refusal-requires : tie.Need-file-refusal-requires
 file-refusal-requires c κs = search needs
