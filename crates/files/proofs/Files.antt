@@ -3,7 +3,7 @@ use mathlib.Core.Path.{_≡_, refl, sym, ap, ap₂, _∙_, subst}
 use mathlib.Core.Bool.{Bool, true, false, _&&_, and-true, and-false}
 use mathlib.Core.List.{List, [], _∷_, _++_, map, flatMap, append-assoc}
 use Prim.Native.Nat.{ℕ, zero, suc, _+_, _*_, _-_, _/_, _%_, _^_, _≤_, _<_}
-use native.Mathlib.Nat.{div-add-mod', mod-eq-of-lt, zero-add, add-assoc, not-suc-le-zero, le-of-suc-le-suc, le-of-eq, le-trans}
+use native.Mathlib.Nat.{div-add-mod', mod-eq-of-lt, add-assoc, not-suc-le-zero, le-of-suc-le-suc, le-of-eq, le-trans}
 use native.Mathlib.Omega.{arith}
 use borrow.Author.Tests.{eq-eqb, ne-eqb}
 use lib.Dec.{T, eqb, leb, ltb, ltb→lt, eqb→eq, le→leb}
@@ -21,9 +21,9 @@ use Rattle.repair.specs.Refusal.{firstFailed, unasked, inMemory, inFile, stripe
 use Rattle.repair.specs.File.{bytes2, bytes4, marksOffset, symbolsOffset, fileLength, headerOf, blanked, fileOf, writeRefusal, writeFile, planIn, wordAt, marksIn, symbolsIn, fileRefusal, readRefusal, readStripe, readMarks}
 use Rattle.repair.proofs.Parts.{rest-of}
 use Rattle.repair.proofs.Rows.{sets-whole}
-use Rattle.files.proofs.Writing.{front-set, sets-three}
+use Rattle.files.proofs.Writing.{front-set}
 use Rattle.repair.proofs.Shape.{shape}
-use Rattle.repair.proofs.Fit.{pass, go-on, eq→eqb, passed, passes, marks-fit, fit-marks, symbols-fit, fit-symbols, LentFit}
+use Rattle.repair.proofs.Fit.{pass, go-on, eq→eqb, passed, marks-fit, fit-marks, symbols-fit, fit-symbols, LentFit, lent-fit, fit-lent}
 use Rattle.files.proofs.Stripes.{length-blanked, blanked-twice, fit-blanked, length-marks-of}
 
 -- ---- words of four bytes
@@ -302,20 +302,6 @@ module _ (p : ℕ) (stripe marks : List ℕ) (f : LentFit p stripe marks) where
   length-written =
       length-append (headerOf p ++ flatMap bytes4 marks) (blanked (marksOf Q marks) stripe) ∙ ap₂ _+_ length-front length-back
 
-  -- the three parts, put one behind the other
-  pub parts-put : (old : List ℕ) {header l₁ l₂ l₃ : List ℕ} {i₁ i₂ : ℕ} → length old ≡ fileLength Q → header ≡ headerOf p → l₁ ≡ sets old 0 header
-      → i₁ ≡ 0 + length header → l₂ ≡ sets l₁ i₁ (flatMap bytes4 marks) → i₂ ≡ i₁ + 4 * length marks
-      → l₃ ≡ sets l₂ i₂ (blanked (marksOf Q marks) stripe) → l₃ ≡ file
-  unfolding fileOf
-  parts-put old {header} long h e₁ n₁ e₂ n₂ e₃ =
-      let H = headerOf p in
-      let W = flatMap bytes4 marks in
-      let first = n₁ ∙ zero-add (length header) ∙ ap length h in
-      e₃
-      ∙ ap₂ (λ l i. sets l i (blanked (marksOf Q marks) stripe)) (e₂ ∙ ap₂ (λ l i. sets l i W) (e₁ ∙ ap (sets old 0) h) first)
-      (n₂ ∙ ap₂ _+_ first (sym (length-bytes marks)) ∙ sym (length-append H W))
-      ∙ sets-three H W (blanked (marksOf Q marks) stripe) old (length-written ∙ sym long)
-
   header-written : take 8 file ≡ headerOf p
   unfolding bytes2 headerOf fileOf
   header-written = refl
@@ -401,38 +387,6 @@ module _ (p : ℕ) (stripe marks old : List ℕ) where
   abbrev room : Bool
   room = eqb (length old) (fileLength S)
 
-  pub write-fit : writeRefusal p stripe marks old ≡ 0 → LentFit p stripe marks × (length old ≡ fileLength S)
-  unfolding unasked stripeFits wordsFit writeRefusal
-  write-fit e =
-      let h = passed (known p) (lengths && room) unasked (marksFit S marks) (symbolsFit S marks stripe) unasked unasked e in
-      let l = both-left lengths room (h .lengths) in (
-        record {
-          plan-known = h .plan;
-          long = eqb→eq (length stripe) (S .rows * S .columns) (both-left (stripeFits S stripe) (wordsFit S marks) l);
-          words = eqb→eq (length marks) (S .rows) (both-right (stripeFits S stripe) (wordsFit S marks) l);
-          mark-lt = marks-fit S marks (h .marks);
-          row-fits = symbols-fit S marks stripe (h .symbols);
-        },
-        eqb→eq (length old) (fileLength S) (both-right lengths room (h .lengths)),
-      )
-
-  pub fit-write : LentFit p stripe marks → length old ≡ fileLength S → writeRefusal p stripe marks old ≡ 0
-  unfolding unasked stripeFits wordsFit writeRefusal
-  fit-write f e =
-      passes (known p) (lengths && room) unasked (marksFit S marks) (symbolsFit S marks stripe) unasked unasked
-      record {
-        plan = f .plan-known;
-        lengths =
-            both lengths room
-            (both (stripeFits S stripe) (wordsFit S marks) (eq→eqb (length stripe) (S .rows * S .columns) (f .long)) (eq→eqb (length marks) (S .rows) (f .words)))
-            (eq→eqb (length old) (fileLength S) e);
-        level = tt;
-        marks = fit-marks S marks (f .mark-lt);
-        symbols = fit-symbols S marks stripe (f .row-fits);
-        row = tt;
-        codeword = tt;
-      }
-
   pub room-refused : known p ≡ true → (length old ≡ fileLength S → ⊥) → writeRefusal p stripe marks old ≡ 11
   unfolding if_then_else_ firstFailed inMemory writeRefusal
   room-refused k h = rw (k, ne-eqb (length old) (fileLength S) h, and-false)
@@ -440,6 +394,15 @@ module _ (p : ℕ) (stripe marks old : List ℕ) where
   pub room-fits : length old ≡ fileLength S → writeRefusal p stripe marks old ≡ lentRefusal p stripe marks
   unfolding lentRefusal writeRefusal
   room-fits h = rw (eq-eqb (length old) (fileLength S) h, and-true)
+
+  pub write-fit : writeRefusal p stripe marks old ≡ 0 → LentFit p stripe marks × (length old ≡ fileLength S)
+  unfolding writeRefusal
+  write-fit e =
+      let h = passed (known p) (lengths && room) unasked (marksFit S marks) (symbolsFit S marks stripe) unasked unasked e in
+      let r = eqb→eq (length old) (fileLength S) (both-right lengths room (h .lengths)) in (lent-fit p stripe marks (sym (room-fits r) ∙ e), r)
+
+  pub fit-write : LentFit p stripe marks → length old ≡ fileLength S → writeRefusal p stripe marks old ≡ 0
+  fit-write f e = room-fits e ∙ fit-lent p stripe marks f
 
   pub written : writeRefusal p stripe marks old ≡ 0 → writeFile p stripe marks old ≡ fileOf p stripe marks
   unfolding if_then_else_ writeFile
