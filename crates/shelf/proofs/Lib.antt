@@ -1,0 +1,5 @@
+-- What the proofs of several functions cite.
+pub mod Writing
+pub mod Sizing
+pub mod Bytes
+pub mod Mending
