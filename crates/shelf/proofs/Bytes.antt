@@ -1,8 +1,10 @@
 -- Lengths and members of what is written. Assumes nothing.
-use mathlib.Core.Path.{_≡_, refl}
-use mathlib.Core.List.{List, [], _∷_}
-use Prim.Native.Nat.{ℕ}
-use lib.ListN.{length, getD}
+use mathlib.Core.Path.{_≡_, refl, ap, _∙_}
+use mathlib.Core.List.{List, [], _∷_, _++_, append-nil}
+use Prim.Native.Nat.{ℕ, _-_}
+use native.Mathlib.Nat.{sub-self}
+use lib.ListN.{length, getD, replicate}
+use Rattle.repair.specs.Tables.{padded}
 use Rattle.repair.specs.declared.Report.{Report}
 use Rattle.repair.specs.declared.Answer.{Answer}
 use Rattle.repair.specs.declared.Answer.the-variants.{Restored, Stuck, Clash, Refused}
@@ -33,3 +35,8 @@ report-length r = go (r .answer)
   where
     go : (a : Answer) → length (0 ∷ 0 ∷ 0 ∷ 0 ∷ 0 ∷ clashBytes a) ≡ 8
     go a = rw (clash-three a) refl
+
+-- nothing stands behind a list that is long enough
+pub padded-full : (n : ℕ) (xs : List ℕ) → length xs ≡ n → padded n xs ≡ xs
+unfolding padded
+padded-full n xs e = ap (λ k. xs ++ replicate (n - k) 0) e ∙ ap (λ k. xs ++ replicate k 0) (sub-self n) ∙ append-nil xs

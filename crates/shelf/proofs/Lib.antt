@@ -3,3 +3,5 @@ pub mod Writing
 pub mod Sizing
 pub mod Bytes
 pub mod Mending
+pub mod Words
+pub mod Benches

@@ -13,16 +13,19 @@ pub written-none : (old : List ℕ) (at : ℕ) → Written old at [] old
 written-none old at = record { long = refl; front = ap (λ n. take n old) (add-zero at) ∙ sym (append-nil (take at old)) }
 
 -- what was written behind what was written
-pub written-then : {old l new : List ℕ} {at : ℕ} {xs ys : List ℕ} → Written old at xs l → Written l (at + length xs) ys new
+pub written-then : {old l new : List ℕ} {at n : ℕ} {xs ys : List ℕ} → Written old at xs l → n ≡ at + length xs → Written l n ys new
     → Written old at (xs ++ ys) new
-written-then {old} {l} {new} {at} {xs} {ys} p q = record {
+written-then {old} {l} {new} {at} {n} {xs} {ys} p reached q = record {
   long = q .long ∙ p .long;
   front =
-      ap (λ n. take n new) (ap (λ n. at + n) (length-append xs ys) ∙ sym (add-assoc at (length xs) (length ys)))
+      ap (λ k. take k new) further
       ∙ q .front
-      ∙ ap (λ k. k ++ ys) (p .front)
+      ∙ ap (λ k. k ++ ys) (ap (λ k. take k l) reached ∙ p .front)
       ∙ append-assoc (take at old) xs ys;
 }
+  where
+    further : at + length (xs ++ ys) ≡ n + length ys
+    further = let e = length-append xs ys in omega arith
 
 -- all that a buffer holds
 pub written-whole : {old new xs : List ℕ} → Written old 0 xs new → length old ≡ length xs → new ≡ xs

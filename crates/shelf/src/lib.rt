@@ -5,7 +5,57 @@ mod numbers;
 ghost use mathlib.Core.Path.{_≡_};
 ghost use Rattle.repair.specs.Answers.{verdictNumber};
 ghost use Rattle.repair.specs.Codeword.{tested};
+ghost use Rattle.repair.specs.Steps.{rowStep, levelStep};
+ghost use Rattle.shelf.specs.Calls.{startNumber, startBuffer, stepAnswer, stepBuffer};
 ghost use Rattle.shelf.specs.Calls.{mendNumber, mendStripeBuffer, mendMarksBuffer, mendReportBuffer};
+
+// Starts a bench at level 1 with the stripe and the marks as lent; a refusal makes it a bench of zeros.
+#[no_mangle]
+pub extern "C" fn shelf_start(plan: usize, stripe: &[u8], marks: &[u32], bench: &mut [u8]) -> usize
+    ensures { λ r. ⌜ r ≡ startNumber plan (now (stripe .entry)) (now (marks .entry)) (now (bench .entry)) ⌝ }
+    ensures { λ _. ⌜ now (bench .exit) ≡ startBuffer plan (now (stripe .entry)) (now (marks .entry)) (now (bench .entry)) ⌝ }
+{
+    if bench.len() != 418 {
+        return numbers::of_unfit(plan);
+    }
+    let started = repair::start(plan, stripe, marks);
+    let answer = started.answer;
+    let after = started.bench;
+    layout::put_bench(after, bench);
+    numbers::of_outcome(answer)
+}
+
+// The row step: fills the row's marked symbols and clears its marks, or leaves the bench as it was.
+#[no_mangle]
+pub extern "C" fn shelf_row_step(bench: &mut [u8], row: usize) -> usize
+    ensures { λ r. ⌜ r ≡ stepAnswer (λ b. rowStep b row) (now (bench .entry)) ⌝ }
+    ensures { λ _. ⌜ now (bench .exit) ≡ stepBuffer (λ b. rowStep b row) (now (bench .entry)) ⌝ }
+{
+    if bench.len() != 418 {
+        return 11;
+    }
+    let stepped = repair::row_step(layout::bench_in(&bench[..]), row);
+    let answer = stepped.answer;
+    let after = stepped.bench;
+    layout::put_bench(after, bench);
+    numbers::of_step(answer)
+}
+
+// The level step: learns all rows' sums of the next level and raises the level by one, or leaves the bench as it was.
+#[no_mangle]
+pub extern "C" fn shelf_level_step(bench: &mut [u8]) -> usize
+    ensures { λ r. ⌜ r ≡ stepAnswer levelStep (now (bench .entry)) ⌝ }
+    ensures { λ _. ⌜ now (bench .exit) ≡ stepBuffer levelStep (now (bench .entry)) ⌝ }
+{
+    if bench.len() != 418 {
+        return 11;
+    }
+    let stepped = repair::level_step(layout::bench_in(&bench[..]));
+    let answer = stepped.answer;
+    let after = stepped.bench;
+    layout::put_bench(after, bench);
+    numbers::of_step(answer)
+}
 
 // Whether a stripe is a codeword.
 #[no_mangle]
