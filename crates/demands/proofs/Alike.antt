@@ -2,14 +2,14 @@
 use mathlib.Core.Path.{_≡_, refl, sym, ap, ap₂, _∙_, subst, subst₂}
 use mathlib.Core.Bool.{Bool, true, false}
 use mathlib.Core.List.{List, [], _∷_, _++_, flatMap}
-use Prim.Native.Nat.{ℕ, zero, suc, _+_, _*_, _/_, _%_, _^_, _<_, suc-le-suc}
-use native.Mathlib.Nat.{suc-inj, suc-mul, zero-mul, zero-add, zero-lt-suc, mod-lt, div-lt-iff-lt-mul, div-add-mod'}
+use Prim.Native.Nat.{ℕ, zero, suc, _+_, _*_, _/_, _%_, _^_, _<_, _≤_, suc-le-suc}
+use native.Mathlib.Nat.{suc-inj, le-of-suc-le-suc, suc-mul, zero-mul, zero-add, zero-lt-suc, mod-lt, div-lt-iff-lt-mul, div-add-mod'}
 use native.Mathlib.Numerals.{add-one}
 use native.Mathlib.Omega.{arith}
 use lib.Arith.{lt-one}
 use lib.Dec.{T, T-not, eqb, ltb}
 use lib.Count.{ones, onesIn}
-use lib.ListN.{length, drop, getD, length-append, List·getD-append}
+use lib.ListN.{length, drop, getD, List·getD-append}
 use lib.Pow.{pow-pos, shr-lt}
 use lib.Seq.{getD-take, getD-drop, getD-append-add}
 use Rattle.field.specs.Lists.{if_then_else_, upFrom}
@@ -22,6 +22,7 @@ use Rattle.linear.proofs.Choices.{Alike, Inside}
 use Rattle.linear.proofs.Filling.{Independent, independent-of}
 use Rattle.repair.specs.Plan.{Plan, planOf, rowAt, marksAt, marksOf}
 use Rattle.repair.specs.Refusal.{allBelow, unmarkedBelow}
+use Rattle.repair.proofs.Flat.{flat-length}
 use Rattle.repair.proofs.Sound.{marks-length}
 use Rattle.demands.specs.Words.{Agree}
 use Rattle.demands.proofs.Marked.{marked, bits-step, marked-bits, agrees-weight, weightless-vanish}
@@ -53,16 +54,15 @@ alike-inside (true ∷ ms) (false ∷ ns) v w i a = absurd (i .0 tt)
 alike-inside (false ∷ ms) (true ∷ ns) v w i a = alike-inside ms ns (rest v) (rest w) (i .1) (a .1)
 alike-inside (false ∷ ms) (false ∷ ns) v w i a = (a .0, alike-inside ms ns (rest v) (rest w) (i .1) (a .1))
 
--- vectors that agree everywhere are equal
-pub alike-unmarked : (ms : List Bool) (v w : List ℕ) → marked ms ≡ 0 → length v ≡ length ms → length w ≡ length ms → Alike ms v w → v ≡ w
+-- vectors of one length that agree everywhere are equal
+pub alike-unmarked : (ms : List Bool) (v w : List ℕ) → marked ms ≡ 0 → length v ≡ length w → length w ≤ length ms → Alike ms v w → v ≡ w
 unfolding if_then_else_ only first rest
-alike-unmarked [] [] [] z l k a = refl
-alike-unmarked [] [] (y ∷ w) z l k a = absurd (omega arith)
-alike-unmarked [] (x ∷ v) w z l k a = absurd (omega arith)
-alike-unmarked (true ∷ ms) v w z l k a = absurd (omega arith)
-alike-unmarked (false ∷ ms) [] w z l k a = absurd (omega arith)
-alike-unmarked (false ∷ ms) (x ∷ v) [] z l k a = absurd (omega arith)
-alike-unmarked (false ∷ ms) (x ∷ v) (y ∷ w) z l k a = ap₂ _∷_ (a .0) (alike-unmarked ms v w z (suc-inj l) (suc-inj k) (a .1))
+alike-unmarked ms [] [] z l k a = refl
+alike-unmarked ms [] (y ∷ w) z l k a = absurd (omega arith)
+alike-unmarked ms (x ∷ v) [] z l k a = absurd (omega arith)
+alike-unmarked [] (x ∷ v) (y ∷ w) z l k a = absurd (omega arith)
+alike-unmarked (true ∷ ms) (x ∷ v) (y ∷ w) z l k a = absurd (omega arith)
+alike-unmarked (false ∷ ms) (x ∷ v) (y ∷ w) z l k a = ap₂ _∷_ (a .0) (alike-unmarked ms v w z (suc-inj l) (le-of-suc-le-suc k) (a .1))
 
 -- where no symbol is marked, each is below q
 pub unmarked-all : (q : ℕ) (ms : List Bool) (v : List ℕ) → marked ms ≡ 0 → length v ≡ length ms → T (unmarkedBelow q ms v) → T (allBelow q v)
@@ -129,51 +129,52 @@ module _ (N : ℕ) (f : ℕ → List Bool) (wide : (r : ℕ) → length (f r) �
       ∙ getD-append-add (f k) (flatMap f (upFrom (suc k) n)) (j * N + c) true ∙ flat-at (suc k) n j c (omega arith) l
       ∙ ap (λ r. getD (f r) c true) (omega arith)
 
-  flat-length : (k n : ℕ) → length (flatMap f (upFrom k n)) ≡ n * N
-  unfolding flatMap upFrom
-  flat-length k zero = sym (zero-mul N)
-  flat-length k (suc n) = length-append (f k) (flatMap f (upFrom (suc k) n)) ∙ omega (arith, wide k, flat-length (suc k) n, suc-mul n N)
+module _ (P : Plan) where
+  -- column c of row r: its symbol, and its mark
+  pub row-at : (Z : List ℕ) (r c : ℕ) → c < P .columns → getD (rowAt P Z r) c 0 ≡ getD Z (r * P .columns + c) 0
+  unfolding rowAt
+  row-at Z r c l = getD-take (P .columns) (drop (r * P .columns) Z) c 0 l ∙ getD-drop (r * P .columns) Z c 0
+
+  pub mark-at : (marks : List ℕ) (r c : ℕ) → r < P .rows → c < P .columns
+      → getD (marksOf P marks) (r * P .columns + c) true ≡ getD (marksAt P marks r) c true
+  unfolding marksOf
+  mark-at marks r c h l =
+      flat-at (P .columns) (marksAt P marks) (marks-length P marks) 0 (P .rows) r c h l ∙ ap (λ k. getD (marksAt P marks k) c true) (zero-add r)
+
+  -- a place that is unmarked stands in the stripe
+  unmarked-in : (marks : List ℕ) (i : ℕ) → getD (marksOf P marks) i true ≡ false → i < P .rows * P .columns
+  unfolding marksOf
+  unmarked-in marks i e =
+      subst (λ n. i < n) (flat-length (marksAt P marks) (P .columns) 0 (P .rows) (λ r l. marks-length P marks r)) (unmarked-lt (marksOf P marks) i e)
+
+  -- what holds at each column of each row holds at each place
+  pub of-places : (S : ℕ → Type 0) → ((r c : ℕ) → r < P .rows → c < P .columns → S (r * P .columns + c))
+      → (i : ℕ) → i < P .rows * P .columns → S i
+  of-places S h i l =
+      let z : 0 < P .columns = positive (P .columns) (P .rows) i l in
+      subst S (div-add-mod' i (P .columns)) (h (i / P .columns) (i % P .columns) (div-lt-iff-lt-mul z .1 l) (mod-lt i z))
+    where
+      positive : (N R i : ℕ) → i < R * N → 0 < N
+      positive zero R i l = absurd (omega arith)
+      positive (suc N) R i l = zero-lt-suc N
 
 module _ (p : ℕ) (marks X Y : List ℕ) where
   abbrev P : Plan
   P = planOf p
 
-  row-at : (Z : List ℕ) (r c : ℕ) → c < P .columns → getD (rowAt P Z r) c 0 ≡ getD Z (r * P .columns + c) 0
-  unfolding rowAt
-  row-at Z r c l = getD-take (P .columns) (drop (r * P .columns) Z) c 0 l ∙ getD-drop (r * P .columns) Z c 0
-
   -- stripes agree where they agree in every row
   pub agree-rows : Agree p marks X Y → (r : ℕ) → r < P .rows → Alike (marksAt P marks r) (rowAt P X r) (rowAt P Y r)
-  unfolding marksOf
   agree-rows a r h =
       at-alike (marksAt P marks r) (rowAt P X r) (rowAt P Y r) (λ c e.
       let l : c < P .columns = subst (λ n. c < n) (marks-length P marks r) (unmarked-lt (marksAt P marks r) c e) in
-      row-at X r c l
-      ∙ a (r * P .columns + c)
-      (flat-at (P .columns) (marksAt P marks) (marks-length P marks) 0 (P .rows) r c h l ∙ ap (λ k. getD (marksAt P marks k) c true) (zero-add r) ∙ e)
-      ∙ sym (row-at Y r c l))
+      row-at P X r c l ∙ a (r * P .columns + c) (mark-at P marks r c h l ∙ e) ∙ sym (row-at P Y r c l))
 
   pub rows-agree : ((r : ℕ) → r < P .rows → Alike (marksAt P marks r) (rowAt P X r) (rowAt P Y r)) → Agree p marks X Y
-  unfolding marksOf
   rows-agree h i e =
-      let N = P .columns in
-      let r = i / N in
-      let c = i % N in
-      let l : i < P .rows * N =
-      subst (λ n. i < n) (flat-length N (marksAt P marks) (marks-length P marks) 0 (P .rows)) (unmarked-lt (marksOf P marks) i e) in
-      let z : 0 < N = positive N (P .rows) i l in
-      let lr : r < P .rows = div-lt-iff-lt-mul z .1 l in
-      let lc : c < N = mod-lt i z in
-      let q : r * N + c ≡ i = div-add-mod' i N in
-      ap (λ k. getD X k 0) (sym q) ∙ sym (row-at X r c lc)
-      ∙ alike-at (marksAt P marks r) (rowAt P X r) (rowAt P Y r) (h r lr) c
-      (ap (λ k. getD (marksAt P marks k) c true) (sym (zero-add r)) ∙ sym (flat-at N (marksAt P marks) (marks-length P marks) 0 (P .rows) r c lr lc)
-      ∙ ap (λ k. getD (marksOf P marks) k true) q ∙ e)
-      ∙ row-at Y r c lc ∙ ap (λ k. getD Y k 0) q
-    where
-      positive : (N R i : ℕ) → i < R * N → 0 < N
-      positive zero R i l = absurd (omega arith)
-      positive (suc N) R i l = zero-lt-suc N
+      of-places P (λ i. getD (marksOf P marks) i true ≡ false → getD X i 0 ≡ getD Y i 0) (λ r c lr lc e.
+      sym (row-at P X r c lc)
+      ∙ alike-at (marksAt P marks r) (rowAt P X r) (rowAt P Y r) (h r lr) c (sym (mark-at P marks r c lr lc) ∙ e) ∙ row-at P Y r c lc)
+      i (unmarked-in P marks i e) e
 
 -- ---- mark words
 

@@ -28,6 +28,7 @@ use Rattle.repair.proofs.Shape.{plan-field}
 use Rattle.repair.proofs.Fit.{rows-all, all-zeros, all-take, all-drop, fit-lent}
 use Rattle.repair.proofs.Sound.{unmarked-below}
 use Rattle.demands.specs.Words.{Codeword, Agree, Fit, total, distance}
+use Rattle.demands.specs.Parameters.{Distance}
 use Rattle.demands.proofs.Lists.{all-map}
 use Rattle.demands.proofs.Marked.{marked, marked-bits, wordWith, word-lt, word-bits, support, support-length, support-marked, support-agrees}
 use Rattle.demands.proofs.Alike.{rows-agree}
@@ -35,7 +36,7 @@ use Rattle.demands.proofs.Codewords.{vanish-same, word-row, word-below}
 use Rattle.demands.proofs.Matrix.{dot-vanish, sums-vanish}
 use Rattle.demands.proofs.Square.{symbols-fit, zeros-length}
 use Rattle.demands.proofs.Counts.{distance-suffices}
-use Rattle.demands.proofs.Parameters.{Distance, known-by-distance}
+use Rattle.demands.proofs.Parameters.{known-by-distance}
 
 -- ---- weights by rows
 

@@ -4,7 +4,7 @@ use mathlib.Core.Logic.{_⊎_, inl, inr}
 use mathlib.Core.Bool.{_&&_}
 use mathlib.Core.List.{List}
 use Prim.Native.Nat.{ℕ, zero, suc, _*_, _^_, _<_}
-use native.Mathlib.Nat.{eq-or-lt-of-le}
+use native.Mathlib.Nat.{le-of-eq, eq-or-lt-of-le}
 use native.Mathlib.Omega.{arith}
 use lib.Dec.{T, T-not, leb, leb→le, nleb→lt, eqb, ltb, eqb→eq, ltb→lt, lt→ltb}
 use lib.ListN.{length, drop, getD}
@@ -20,12 +20,13 @@ use Rattle.repair.specs.Refusal.{unasked, stripeFits, allBelow}
 use Rattle.repair.specs.Codeword.{isCodeword, checkPlacesOf, carried, placed, encoded, encodeRefusal, encodeStripe, extracted, extractRefusal, extractData}
 use Rattle.repair.proofs.Shape.{of-known}
 use Rattle.repair.proofs.Fit.{passed, if-true, all-take, all-drop, fit-lent}
-use Rattle.repair.proofs.Sound.{unmarked-below, marks-length}
+use Rattle.repair.proofs.Sound.{unmarked-below}
+use Rattle.repair.proofs.Placing.{rows-length}
+use Rattle.repair.proofs.Carrying.{words-count}
+use Rattle.repair.proofs.Data.{placed-length, placed-all, taken-length, taken-all, taken-placed, alike-taken, taken-alike}
 use Rattle.demands.specs.Words.{Codeword, Agree, Fit}
 use Rattle.demands.specs.Second.{IsEncoded, EncodingMeans, ExtractionMeans, CodewordsAreEncodings}
-use Rattle.demands.proofs.Lists.{flat-length}
 use Rattle.demands.proofs.Alike.{alike-at, at-alike, inside-refl}
-use Rattle.demands.proofs.Data.{placed-length, placed-all, taken-length, taken-all, taken-placed, alike-taken, taken-alike}
 use Rattle.demands.proofs.Held.{rowTied, levelTied, LevelFree}
 use Rattle.demands.proofs.Order.{row-free-more}
 use Rattle.demands.proofs.Second.{restores}
@@ -35,19 +36,14 @@ use Rattle.demands.proofs.Existence.{codeword-holds}
 
 -- ---- the check places
 
--- a mark word for each row, and no mark at column N or above
-record PlacesFit (P : Plan) : Type 0 where
-  words : length (P .checkPlaces) ≡ P .rows
-  lows : T (below (P .rows) (λ r. ltb (getD (P .checkPlaces) r 0) (2 ^ P .columns)))
-
-places-fit : (p : ℕ) → T (known p) → PlacesFit (planOf p)
+-- no mark stands at column N or above
+places-low : (p : ℕ) → T (known p) → T (below (planOf p .rows) (λ r. ltb (getD (planOf p .checkPlaces) r 0) (2 ^ planOf p .columns)))
 unfolding upFrom wordOf plan1 plan2 plan3 planOf
-places-fit =
-    of-known (λ p. PlacesFit (planOf p)) record { words = refl; lows = tt } record { words = refl; lows = tt } record { words = refl; lows = tt }
+places-low = of-known (λ p. T (below (planOf p .rows) (λ r. ltb (getD (planOf p .checkPlaces) r 0) (2 ^ planOf p .columns)))) tt tt tt
 
 places-count : (P : Plan) → length (checkPlacesOf P) ≡ P .rows * P .columns
 unfolding marksOf checkPlacesOf
-places-count P = flat-length (marksAt P (P .checkPlaces)) (P .columns) 0 (P .rows) (λ r l. marks-length P (P .checkPlaces) r)
+places-count P = rows-length P (P .checkPlaces) (P .rows)
 
 -- a row is filled at its level, so the rows still marked are those whose weights are independent at the next
 places-clear : (p : ℕ) → Clears p (planOf p .checkPlaces)
@@ -96,10 +92,10 @@ module _ (p : ℕ) (kn : T (known p)) (ds : List ℕ) (count : length ds ≡ car
   fit = fit-lent p D (P .checkPlaces) record {
     plan-known = kn;
     long = long;
-    words = places-fit p kn .words;
+    words = words-count p;
     mark-lt = λ r h.
         ltb→lt (getD (P .checkPlaces) r 0) (2 ^ P .columns)
-        (at (P .rows) (λ r. ltb (getD (P .checkPlaces) r 0) (2 ^ P .columns)) (places-fit p kn .lows) r h);
+        (at (P .rows) (λ r. ltb (getD (P .checkPlaces) r 0) (2 ^ P .columns)) (places-low p kn) r h);
     row-fits = λ r h.
         unmarked-below (size (P .field)) (marksAt P (P .checkPlaces) r) (rowAt P D r)
         (all-take (λ x. ltb x (size (P .field))) (P .columns) (drop (r * P .columns) D)
@@ -160,6 +156,6 @@ codewords-are-encodings p X room e =
     let long : length X ≡ P .rows * P .columns =
     eqb→eq (length X) (P .rows * P .columns) (both-left (stripeFits P X) (eqb (length room) (carried P)) (h .lengths)) in
     ap (encoded p) (extracts p X room e)
-    ∙ encodes p (h .plan) (extracted P X) (taken-length (checkPlacesOf P) X (long ∙ sym (places-count P)))
+    ∙ encodes p (h .plan) (extracted P X) (taken-length (checkPlacesOf P) X (le-of-eq (places-count P ∙ sym long)))
     (taken-all (λ x. ltb x (size (P .field))) (checkPlacesOf P) X (h .symbols)) X
     record { long = long; symbols = h .symbols; holds = h .codeword } refl

@@ -26,7 +26,8 @@ use Rattle.repair.proofs.Shape.{shape, plan-field}
 use Rattle.repair.proofs.Fit.{LentFit, lent-fit, rows-all}
 use Rattle.repair.proofs.Sound.{agrees-below, marks-length}
 use Rattle.demands.specs.Words.{Codeword, Agree, Fit}
-use Rattle.demands.proofs.Lists.{at-all, flat-all, flat-length, flat-row}
+use Rattle.repair.proofs.Flat.{flat-length}
+use Rattle.demands.proofs.Lists.{at-all, flat-all, flat-row}
 use Rattle.demands.proofs.Alike.{alike-sym, rows-agree}
 use Rattle.demands.proofs.Build.{Built, built}
 

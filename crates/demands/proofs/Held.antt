@@ -5,7 +5,7 @@ use mathlib.Core.Logic.{inl, inr}
 use mathlib.Core.Bool.{Bool, true, false, not}
 use mathlib.Core.List.{List, [], _∷_, _++_, map, List·Memᴰ·head, List·Memᴰ·tail}
 use Prim.Native.Nat.{ℕ, zero, suc, _+_, _^_, _<_, _≤_}
-use native.Mathlib.Nat.{zero-add}
+use native.Mathlib.Nat.{zero-add, le-of-eq}
 use native.Mathlib.Omega.{arith}
 use lib.Arith.{le→nltb}
 use lib.Dec.{T, eqb, ltb, eqb→eq, ltb→lt, lt→ltb, nltb→le}
@@ -113,7 +113,7 @@ joined-same false f g xs h z = ones xs h
     ones (x ∷ xs) h = ap₂ join (h x (List·Memᴰ·head refl)) (ones xs (λ y m. h y (List·Memᴰ·tail m)))
 
 -- vectors over the rows that agree in each row that passes the test
-alike-up : (d : ℕ → Bool) (f g : ℕ → ℕ) (k n : ℕ) → ((r : ℕ) → r < k + n → T (d r) → f r ≡ g r)
+pub alike-up : (d : ℕ → Bool) (f g : ℕ → ℕ) (k n : ℕ) → ((r : ℕ) → r < k + n → T (d r) → f r ≡ g r)
     → Alike (map (λ r. not (d r)) (upFrom k n)) (map f (upFrom k n)) (map g (upFrom k n))
 unfolding upFrom first rest
 alike-up d f g k zero h = tt
@@ -138,8 +138,8 @@ module _ (X : List ℕ) (b : Bench) (h : Held (b .plan) X b) where
   own-unmarked r l e =
       let f = h .sound .fit in
       alike-unmarked (marksAt P (b .marks) r) (rowAt P (b .symbols) r) (rowAt P X r) (rw e (clear-unmarked (P .columns)))
-      (row-length P (b .symbols) r (row-place b f r l (h .sound .sized)) ∙ sym (marks-length P (b .marks) r))
-      (word-row (b .plan) X (h .codeword) r l ∙ sym (marks-length P (b .marks) r)) (h .alike r l)
+      (row-length P (b .symbols) r (row-place b f r l (h .sound .sized)) ∙ sym (word-row (b .plan) X (h .codeword) r l))
+      (le-of-eq (word-row (b .plan) X (h .codeword) r l ∙ sym (marks-length P (b .marks) r))) (h .alike r l)
 
   -- the row's filling is the codeword's, or its columns are dependent
   own-row-finds : (r : ℕ) → r < P .rows

@@ -1,5 +1,5 @@
--- Why the demands hold. The theorems stand in Second, Counts, Encoding and Third, the plans' parameters in Parameters and Distance, and samples
--- that meet the premises in Samples.
+-- Why the demands hold. The theorems stand in Second, Counts, Encoding, Third, Refused, Blind, Silence and Kept, the plans' parameters in Parameters
+-- and Distance, and samples that meet the premises in Samples.
 pub mod Lists
 pub mod Marked
 pub mod Binary
@@ -24,9 +24,12 @@ pub mod Existence
 -- the demands
 pub mod Second
 pub mod Counts
-pub mod Data
 pub mod Encoding
 pub mod Third
+pub mod Refused
+pub mod Blind
+pub mod Silence
+pub mod Kept
 pub mod Samples
 -- the parameters
 pub mod Parameters

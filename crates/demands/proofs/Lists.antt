@@ -8,7 +8,7 @@ use Prim.Native.Nat.{ℕ, zero, suc, _+_, _*_, _<_, zero-le}
 use native.Mathlib.Nat.{suc-inj, suc-mul, zero-mul}
 use native.Mathlib.Omega.{arith}
 use lib.Dec.{T}
-use lib.ListN.{length, take, drop, getD, length-append}
+use lib.ListN.{length, take, drop, getD}
 use lib.Seq.{take-at, drop-append-add}
 use Rattle.field.specs.Lists.{upFrom}
 use Rattle.field.proofs.Test.{both-left, both-right, both}
@@ -79,13 +79,6 @@ module _ {A : Type 0} (f : ℕ → List A) where
       all-append q (f k) (flatMap f (upFrom (suc k) n)) (t k (omega arith)) (flat-all q (suc k) n (λ r l. t r (omega arith)))
 
   module _ (N : ℕ) where
-    pub flat-length : (k n : ℕ) → ((r : ℕ) → r < k + n → length (f r) ≡ N) → length (flatMap f (upFrom k n)) ≡ n * N
-    unfolding flatMap upFrom
-    flat-length k zero wide = sym (zero-mul N)
-    flat-length k (suc n) wide =
-        length-append (f k) (flatMap f (upFrom (suc k) n))
-        ∙ omega (arith, wide k (omega arith), flat-length (suc k) n (λ r l. wide r (omega arith)), suc-mul n N)
-
     pub flat-row : (k n : ℕ) → ((r : ℕ) → r < k + n → length (f r) ≡ N) → (j : ℕ) → j < n
         → take N (drop (j * N) (flatMap f (upFrom k n))) ≡ f (k + j)
     unfolding flatMap upFrom

@@ -5,7 +5,7 @@ use mathlib.Core.List.{List, _∷_, flatMap}
 use Prim.Native.Nat.{ℕ, zero, suc, _+_, _<_}
 use native.Mathlib.Omega.{arith}
 use lib.Dec.{T}
-use lib.ListN.{length, replicate}
+use lib.ListN.{replicate}
 use Rattle.field.specs.Lists.{if_then_else_, upFrom}
 use Rattle.field.specs.Field.{_⊕_, size, double, times, mul, dot, gf2, gf16, gf32}
 use Rattle.field.specs.Power.{power}
@@ -23,42 +23,10 @@ use Rattle.repair.proofs.Samples.{rowOf, sizes}
 use Rattle.repair.proofs.Shape.{of-known, shape}
 use Rattle.repair.proofs.Levels.{checks-first}
 use Rattle.demands.specs.Words.{Codeword, counts, rowDistance, distance}
+use Rattle.demands.specs.Parameters.{symbolsCarried, CarriedMet, RowWord, RowDistance, RowDistanceMet, DistanceMet}
 use Rattle.demands.proofs.Marked.{support, support-length, support-marked, support-agrees}
 use Rattle.demands.proofs.Few.{count, few-independent}
 use Rattle.demands.proofs.Square.{symbols-fit}
-
--- ---- statements
-
--- k: the symbols that a plan carries
-unfoldable pub symbolsCarried : ℕ → ℕ
-symbolsCarried zero = 0
-symbolsCarried (suc zero) = 15
-symbolsCarried (suc (suc zero)) = 198
-symbolsCarried (suc (suc (suc zero))) = 98
-symbolsCarried (suc (suc (suc (suc p)))) = 0
-
-abbrev pub CarriedMet : Type 0
-CarriedMet = (p : ℕ) → T (known p) → carried (planOf p) ≡ symbolsCarried p
-
--- a row of symbols whose level-1 sums are zero
-pub record RowWord (p : ℕ) (w : List ℕ) : Type 0 where
-  pub long : length w ≡ planOf p .columns
-  pub symbols : T (allBelow (size (planOf p .field)) w)
-  pub holds : T (vanish (sumsOf (planOf p .field) (levelOf (planOf p) 1 .checks) w))
-
--- none but zero has fewer symbols that are not 0 than d0, and one has as many
-abbrev pub RowDistance : Type 0
-RowDistance = (p : ℕ) (w : List ℕ) → RowWord p w → weight w < rowDistance p → T (vanish w)
-
-abbrev pub RowDistanceMet : Type 0
-RowDistanceMet = (p : ℕ) → T (known p) → (w : List ℕ) × RowWord p w × (weight w ≡ rowDistance p)
-
--- the same of stripes and d
-abbrev pub Distance : Type 0
-Distance = (p : ℕ) (X : List ℕ) → Codeword p X → weight X < distance p → T (vanish X)
-
-abbrev pub DistanceMet : Type 0
-DistanceMet = (p : ℕ) → T (known p) → (X : List ℕ) × Codeword p X × (weight X ≡ distance p)
 
 -- ---- symbols carried
 

@@ -2,8 +2,9 @@
 use mathlib.Core.Path.{_≡_, refl, sym, ap, subst}
 use mathlib.Core.Bool.{Bool, true, false, _&&_}
 use mathlib.Core.List.{List, [], _∷_, _++_, map, flatMap}
-use Prim.Native.Nat.{ℕ, zero, suc}
+use Prim.Native.Nat.{ℕ, zero, suc, _<_}
 use native.Mathlib.Omega.{arith}
+use lib.Count.{ones as bitsSet, onesIn}
 use lib.Dec.{T, eqb, eqb→eq}
 use lib.ListN.{getD, replicate, set}
 use Rattle.field.specs.Lists.{if_then_else_, upFrom}
@@ -13,21 +14,23 @@ use Rattle.linear.specs.Lists.{any, all, only, same, zeros, vanish, first, rest
 use Rattle.linear.specs.Marks.{bitsOf}
 use Rattle.linear.specs.Fill.{sumsOf, options, before, choices, loose, dependent, fillings, fillBy, fill}
 use Rattle.linear.proofs.Choices.{Alike}
-use Rattle.repair.specs.Plan.{ones, bitChecks, locations1, plan1, known, planOf, noLevel, levelOf, checksTo, rowAt, marksAt, marksOf}
+use Rattle.repair.specs.Plan.{ones, bitChecks, wordOf, locations1, plan1, known, planOf, noLevel, levelOf, checksTo, rowAt, marksAt, marksOf}
 use Rattle.repair.specs.Refusal.{firstFailed, unasked, inMemory, stripeFits, wordsFit, marksFit, allBelow, unmarkedBelow, symbolsFit, sumsAt, sumsFit, levelFits, lentRefusal, benchRefusal}
 use Rattle.repair.specs.Steps.{fresh, stepped, unlessRefused, rowFill, putRow, rowStepBy, rowStep, lossy, across, join, joined, levelFill, keepSums, raise, levelStepBy, levelStep}
-use Rattle.repair.specs.Rounds.{mendReport}
-use Rattle.repair.specs.Codeword.{rowsHold, totalsHold, isCodeword}
+use Rattle.repair.specs.Rounds.{mendReport, mendMarks}
+use Rattle.repair.specs.Codeword.{rowsHold, totalsHold, isCodeword, checkPlacesOf, carried, encodeRefusal, encodeStripe, extractRefusal}
 use Rattle.repair.specs.declared.Bench.{Bench}
 use Rattle.repair.specs.declared.Answer.{Answer}
 use Rattle.repair.specs.declared.Answer.the-variants.{Restored, Stuck, Clash}
 use Rattle.repair.specs.declared.Place.the-variants.{Row}
 use Rattle.repair.proofs.Sheet.{Case, restored, stuck, clashed, blank, unchanged, blankRestored, row1, exampleStripe, exampleMarks, exampleAfter, cases, done, sheet}
 use Rattle.repair.proofs.Sound.{row-outside}
-use Rattle.demands.specs.Words.{Codeword, Move, onRow, onLevel, walk, Quiet, rounds}
+use Rattle.demands.specs.Words.{Codeword, Agree, Fit, Move, onRow, onLevel, walk, Quiet, rounds, rowsWith, counts, MeetsCounts, total, distance}
 use Rattle.demands.specs.Third.{Premise}
+use Rattle.demands.specs.Silence.{SameUnmarked, SameButMarks}
 use Rattle.demands.proofs.Alike.{alike-at}
 use Rattle.demands.proofs.Third.{rounds-suffice}
+use Rattle.demands.proofs.Silence.{fresh-same}
 
 -- the test of stripes that agree
 alikeTest : List Bool → List ℕ → List ℕ → Bool
@@ -124,3 +127,80 @@ blank-word = record { long = refl; symbols = tt; holds = tt }
 pub is-clash : mendReport 1 (set blank 0 1) (0 ∷ 0 ∷ 0 ∷ []) .answer ≡ Clash (Row 0 1)
 unfolding restored stuck clashed unchanged blankRestored cases done
 is-clash = ap (answers 7) (sheet .0)
+
+-- ---- the counts' premises: the example again, which has 1, 3 and 1 marks in a row
+
+pub counts-met : MeetsCounts 1 exampleMarks
+unfolding if_then_else_ only plan1 planOf bitsSet onesIn rowsWith counts exampleMarks
+counts-met = (omega arith, (omega arith, tt))
+
+-- ---- the distance's: three of those five marks, among them the places where the example's stripe is not the codeword
+
+unfoldable pub fewMarks : List ℕ
+fewMarks = 2 ∷ 16 ∷ 4 ∷ []
+
+pub few-fit : Fit 1 exampleStripe fewMarks
+unfolding if_then_else_ upFrom size gf2 all bitsOf plan1 known planOf rowAt marksAt
+    firstFailed unasked inMemory stripeFits wordsFit marksFit unmarkedBelow symbolsFit lentRefusal exampleStripe fewMarks
+few-fit = refl
+
+pub few-agree : Agree 1 fewMarks exampleAfter exampleStripe
+unfolding upFrom flatMap first rest bitsOf plan1 planOf marksAt marksOf exampleStripe exampleAfter fewMarks alikeTest
+few-agree = let ms = marksOf (planOf 1) fewMarks in alike-at ms exampleAfter exampleStripe (are-alike ms exampleAfter exampleStripe tt)
+
+pub few-enough : total fewMarks < distance 1
+unfolding bitsSet onesIn total distance fewMarks
+few-enough = omega arith
+
+-- ---- encoding's and extraction's: the bench sheet's data and its codeword
+
+unfoldable pub exampleData : List ℕ
+exampleData = 1 ∷ replicate 14 0
+
+unfoldable pub exampleWord : List ℕ
+exampleWord = (1 ∷ 0 ∷ 0 ∷ 0 ∷ 0 ∷ 0 ∷ 1 ∷ []) ++ replicate 7 0 ++ (0 ∷ 0 ∷ 1 ∷ 0 ∷ 1 ∷ 0 ∷ 0 ∷ [])
+
+pub encode-fits : encodeRefusal 1 exampleData blank ≡ 0
+unfolding if_then_else_ upFrom size gf2 flatMap all only bitsOf plan1 wordOf known planOf marksAt marksOf
+    firstFailed unasked inMemory stripeFits allBelow checkPlacesOf carried encodeRefusal blank exampleData
+encode-fits = refl
+
+is-encoded : encodeStripe 1 exampleData blank ≡ exampleWord
+unfolding if_then_else_ encodeStripe exampleData exampleWord
+is-encoded = rw encode-fits (sheet .4)
+
+pub extract-fits : extractRefusal 1 exampleWord (replicate 15 0) ≡ 0
+unfolding if_then_else_ upFrom _⊕_ size double times mul dot gf2 flatMap all only vanish bitsOf sumsOf ones bitChecks wordOf locations1 plan1 known planOf
+    noLevel levelOf rowAt marksAt marksOf firstFailed unasked inMemory stripeFits allBelow across rowsHold totalsHold isCodeword checkPlacesOf carried
+    extractRefusal exampleWord
+extract-fits = refl
+
+pub extract-encoded : extractRefusal 1 (encodeStripe 1 exampleData blank) (replicate 15 0) ≡ 0
+extract-encoded = subst (λ X. extractRefusal 1 X (replicate 15 0) ≡ 0) (sym is-encoded) extract-fits
+
+-- ---- silence's: bytes under the example's marks that are no symbols at all
+
+unfoldable pub otherStripe : List ℕ
+otherStripe = set (set exampleStripe 1 255) 7 7
+
+pub same-unmarked : SameUnmarked 1 exampleMarks exampleStripe otherStripe
+unfolding upFrom flatMap first rest bitsOf plan1 planOf marksAt marksOf exampleStripe exampleMarks otherStripe alikeTest
+same-unmarked = record {
+  long = refl;
+  agree = let ms = marksOf (planOf 1) exampleMarks in alike-at ms exampleStripe otherStripe (are-alike ms exampleStripe otherStripe tt);
+}
+
+pub same-benches : SameButMarks (fresh 1 exampleStripe exampleMarks) (fresh 1 otherStripe exampleMarks)
+same-benches = fresh-same 1 exampleMarks exampleStripe otherStripe same-unmarked (example .fit)
+
+-- a place that is still marked once a stripe is Stuck: column 0 of row 1
+pub still-marked : getD (marksOf (planOf 1) (mendMarks 1 blank (row1 (0 ∷ 1 ∷ 3 ∷ 6 ∷ [])))) 7 true ≡ true
+unfolding upFrom flatMap bitsOf plan1 planOf marksAt marksOf wordOf restored stuck clashed unchanged blankRestored row1 cases done
+still-marked =
+    ap (λ (cs : List Case). getD (marksOf (planOf 1) (getD (map (λ (c : Case). c .marksAfter) cs) 3 [])) 7 true) (sheet .0)
+
+-- ---- a refusal: a plan that is not known
+
+pub is-refused : lentRefusal 4 blank [] ≡ 10
+unfolding if_then_else_ known firstFailed inMemory lentRefusal
+is-refused = refl

@@ -2,6 +2,6 @@
 pub mod Words
 pub mod Second
 pub mod Third
-
--- pub mod Silence
--- pub mod Parameters
+pub mod Silence
+pub mod Refused
+pub mod Parameters

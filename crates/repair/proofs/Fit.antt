@@ -36,16 +36,16 @@ if-false false x y t = refl
 
 -- ---- the order in memory
 
-eq→eqb : (m n : ℕ) → m ≡ n → T (eqb m n)
+pub eq→eqb : (m n : ℕ) → m ≡ n → T (eqb m n)
 eq→eqb m n e = subst (λ k. T (eqb m k)) e (eqb-refl m)
 
 -- a test in the order that is passed, and one that is not in the way
-pass : (n : ℕ) (b : Bool) (rest : ℕ) → (if b then rest else suc n) ≡ 0 → T b × (rest ≡ 0)
+pub pass : (n : ℕ) (b : Bool) (rest : ℕ) → (if b then rest else suc n) ≡ 0 → T b × (rest ≡ 0)
 unfolding if_then_else_
 pass n true rest e = (tt, e)
 pass n false rest e = absurd (suc-ne-zero n e)
 
-go-on : (n : ℕ) (b : Bool) (rest : ℕ) → T b → rest ≡ 0 → (if b then rest else n) ≡ 0
+pub go-on : (n : ℕ) (b : Bool) (rest : ℕ) → T b → rest ≡ 0 → (if b then rest else n) ≡ 0
 unfolding if_then_else_
 go-on n true rest t e = e
 go-on n false rest t e = absurd t

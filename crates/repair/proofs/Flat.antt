@@ -1,12 +1,12 @@
--- Rows that stand one behind the other in a table, read back; and tests of a list, read at a place. Assumes nothing.
-use mathlib.Core.Path.{_≡_, refl, ap, _∙_}
+-- Lists that stand one behind the other; rows in a table, read back; and tests of a list, read at a place. Assumes nothing.
+use mathlib.Core.Path.{_≡_, refl, sym, ap, _∙_}
 use mathlib.Core.Bool.{Bool}
 use mathlib.Core.List.{List, [], _∷_, _++_, map, flatMap, append-assoc}
 use Prim.Native.Nat.{ℕ, zero, suc, _+_, _*_, _-_, _≤_, _<_}
 use native.Mathlib.Nat.{zero-mul, suc-mul, add-comm, not-suc-le-zero, le-of-suc-le-suc}
 use native.Mathlib.Omega.{arith}
 use lib.Dec.{T, eqb, eqb→eq}
-use lib.ListN.{length, getD, take, drop, replicate}
+use lib.ListN.{length, getD, take, drop, replicate, length-append}
 use lib.Seq.{drop-drop, drop-cons, take-at, drop-at, drop-append-seam, take-append-seam}
 use Rattle.field.specs.Lists.{upFrom}
 use Rattle.field.proofs.Test.{both-left, both-right, both}
@@ -34,6 +34,21 @@ all-padded p z n xs t = all-append p xs (replicate (n - length xs) 0) t (zeros (
 -- a part with something before it and something behind it
 pub between : {A : Type 0} (a l b : List A) → take (length l) (drop (length a) ((a ++ l) ++ b)) ≡ l
 between a l b = rw (append-assoc, drop-append-seam) (take-append-seam l b)
+
+-- ---- lists one behind the other
+
+pub flat-append : {A B : Type 0} (f : A → List B) (a b : List A) → flatMap f (a ++ b) ≡ flatMap f a ++ flatMap f b
+unfolding flatMap
+flat-append f [] b = refl
+flat-append f (x ∷ a) b = ap (λ l. f x ++ l) (flat-append f a b) ∙ sym (append-assoc (f x) (flatMap f a) (flatMap f b))
+
+-- n lists of N members each
+pub flat-length : {A : Type 0} (f : ℕ → List A) (N k n : ℕ) → ((r : ℕ) → r < k + n → length (f r) ≡ N) → length (flatMap f (upFrom k n)) ≡ n * N
+unfolding flatMap upFrom
+flat-length f N k zero wide = sym (zero-mul N)
+flat-length f N k (suc n) wide =
+    length-append (f k) (flatMap f (upFrom (suc k) n))
+    ∙ omega (arith, wide k (omega arith), flat-length f N (suc k) n (λ r l. wide r (omega arith)), suc-mul n N)
 
 -- ---- rows
 

@@ -17,7 +17,6 @@ use Rattle.repair.specs.Plan.{Plan, Level, planOf, noLevel, levelOf, che
 use Rattle.repair.specs.Refusal.{inMemory, stripeFits}
 use Rattle.repair.specs.Steps.{across}
 use Rattle.repair.specs.Codeword.{rowsHold, totalsHold, isCodeword, testRefusal, tested}
-use Rattle.repair.specs.declared.Verdict.{Verdict}
 use Rattle.repair.specs.declared.Verdict.the-variants.{Yes, No, Refused}
 use Rattle.repair.specs.Tables.{padded, checkTable, weightTable, rowSums}
 use Rattle.repair.proofs.Refusals.{passed}
@@ -218,6 +217,15 @@ module _ {p last t : ℕ} {stripe : List ℕ} (s : LevelsHolding p last stripe t
 
 -- ---- the test
 
+module _ (P : Plan) (stripe : List ℕ) {a : Bool} (rows : a ≡ rowsHold P stripe) where
+  pub holds-not : a ≡ false → false ≡ isCodeword P stripe
+  unfolding isCodeword
+  holds-not f = ap (λ b. b && all (totalsHold P stripe) (drop 1 (P .levels))) (sym f ∙ rows)
+
+  pub holds-by : a ≡ true → {b : Bool} → b ≡ all (totalsHold P stripe) (drop 1 (P .levels)) → b ≡ isCodeword P stripe
+  unfolding isCodeword
+  holds-by t levels = levels ∙ ap (λ b. b && all (totalsHold P stripe) (drop 1 (P .levels))) (sym t ∙ rows)
+
 pub test-length : (p : ℕ) (stripe : List ℕ) → testRefusal p stripe ≡ 0 → length stripe ≡ planOf p .rows * planOf p .columns
 unfolding inMemory stripeFits testRefusal
 test-length p stripe e =
@@ -230,25 +238,18 @@ module _ (p : ℕ) (stripe : List ℕ) {n : ℕ} (e : n ≡ testRefusal p stripe
       let k = testRefusal p stripe in
       ap Refused e ∙ sym (ap (λ b. if b then if isCodeword (planOf p) stripe then Yes else No else Refused k) (ne-eqb k 0 (λ z. ne (e ∙ z))))
 
-  module _ (z : n ≡ 0) {a : Bool} (rows : a ≡ rowsHold (planOf p) stripe) where
-    by : Bool → Bool → Verdict
-    by rows levels = if rows && levels then Yes else No
-
-    tested-by : by (rowsHold (planOf p) stripe) (all (totalsHold (planOf p) stripe) (drop 1 (planOf p .levels))) ≡ tested p stripe
-    unfolding if_then_else_ isCodeword tested by
+  module _ (z : n ≡ 0) {b : Bool} (holds : b ≡ isCodeword (planOf p) stripe) where
+    tested-by : (if b then Yes else No) ≡ tested p stripe
+    unfolding if_then_else_ tested
     tested-by =
         let k = testRefusal p stripe in
-        sym (ap (λ b. if b then if isCodeword (planOf p) stripe then Yes else No else Refused k) (eq-eqb k 0 (sym e ∙ z)))
+        ap (λ b. if b then Yes else No) holds
+        ∙ sym (ap (λ b. if b then if isCodeword (planOf p) stripe then Yes else No else Refused k) (eq-eqb k 0 (sym e ∙ z)))
 
-    pub tested-no-row : a ≡ false → No ≡ tested p stripe
-    unfolding if_then_else_ by
-    tested-no-row bad = ap (λ b. by b (all (totalsHold (planOf p) stripe) (drop 1 (planOf p .levels)))) (sym bad ∙ rows) ∙ tested-by
+    pub tested-yes : b ≡ true → Yes ≡ tested p stripe
+    unfolding if_then_else_
+    tested-yes t = ap (λ b. if b then Yes else No) (sym t) ∙ tested-by
 
-    module _ {b : Bool} (levels : b ≡ all (totalsHold (planOf p) stripe) (drop 1 (planOf p .levels))) (good : a ≡ true) where
-      pub tested-no-level : b ≡ false → No ≡ tested p stripe
-      unfolding if_then_else_ by
-      tested-no-level bad = ap₂ by (sym good ∙ rows) (sym bad ∙ levels) ∙ tested-by
-
-      pub tested-yes : b ≡ true → Yes ≡ tested p stripe
-      unfolding if_then_else_ by
-      tested-yes well = ap₂ by (sym good ∙ rows) (sym well ∙ levels) ∙ tested-by
+    pub tested-no : b ≡ false → No ≡ tested p stripe
+    unfolding if_then_else_
+    tested-no f = ap (λ b. if b then Yes else No) (sym f) ∙ tested-by

@@ -10,6 +10,7 @@ use lib.Seq.{sets, set-comm, getD-take}
 use Rattle.field.specs.Lists.{upFrom}
 use Rattle.repair.specs.Refusal.{room}
 use Rattle.repair.specs.Steps.{keepSums}
+use Rattle.repair.proofs.Rows.{sets-append}
 
 -- ---- one check's sums
 
@@ -51,10 +52,6 @@ set-sets : (x l : List ℕ) (i j v : ℕ) → j < i → set (sets l i x) j v ≡
 set-sets [] l i j v h = refl
 set-sets (a ∷ x) l i j v h = set-sets x (set l i a) (suc i) j v (omega arith) ∙ ap (λ k. sets k (suc i) x) (set-comm l i j a v (λ e. omega arith))
 
-sets-last : (x l : List ℕ) (i v : ℕ) → set (sets l i x) (i + length x) v ≡ sets l i (x ++ (v ∷ []))
-sets-last [] l i v = ap (λ k. set l k v) (omega arith)
-sets-last (a ∷ x) l i v = ap (λ k. set (sets (set l i a) (suc i) x) k v) (omega arith) ∙ sets-last x (set l i a) (suc i) v
-
 module _ (at : ℕ) (cs : List (List ℕ)) where
   -- a place before the rows' places
   set-keep : (k n : ℕ) (l : List ℕ) (j v : ℕ) → j < k * room + at → set (keepSums at cs l (upFrom k n)) j v ≡ keepSums at cs (set l j v) (upFrom k n)
@@ -78,5 +75,5 @@ module _ (at : ℕ) (cs : List (List ℕ)) where
       (set-keep (suc k) n (sets l i sums) (k * room + (at + length cs)) v (omega (arith, suc-mul k room))
       ∙ ap (λ s. keepSums at cs s (upFrom (suc k) n))
       (ap (λ j. set (sets l i sums) j v) (omega (arith, length-map cs (λ c. getD c k 0)))
-      ∙ sets-last sums l i v ∙ ap (sets l i) (sym (map-append (λ c. getD c k 0) cs (c ∷ [])))))
+      ∙ sym (sets-append sums (v ∷ []) l i) ∙ ap (sets l i) (sym (map-append (λ c. getD c k 0) cs (c ∷ [])))))
       ∙ keep-last c narrow (suc k) n (sets l i (map (λ c. getD c k 0) (cs ++ (c ∷ []))))

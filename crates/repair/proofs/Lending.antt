@@ -1,13 +1,13 @@
 -- A row as it is lent to `fill`: the checks of levels 1 to t, its learned sums and its symbols are parts of the code's arrays. Assumes nothing.
 use mathlib.Core.Path.{_≡_, refl, sym, ap, ap₂, _∙_, subst}
 use mathlib.Core.Bool.{Bool}
-use mathlib.Core.List.{List, [], _∷_, _++_, map, append-assoc}
+use mathlib.Core.List.{List, [], _∷_, _++_, map}
 use Prim.Native.Nat.{ℕ, zero, suc, _+_, _*_, _-_, _^_, _<_, _≤_}
-use native.Mathlib.Nat.{suc-mul, zero-mul, add-comm, add-zero, add-suc, le-trans, add-sub-cancel-left}
+use native.Mathlib.Nat.{suc-mul, zero-mul, add-comm, add-zero, add-suc}
 use native.Mathlib.Omega.{arith}
 use lib.Dec.{T, ltb, ltb→lt, lt→ltb}
 use lib.ListN.{length, take, drop, getD, length-append}
-use lib.Seq.{sets, sets-eq, take-take, drop-drop, take-nil, length-take-le, getD-take, getD-drop}
+use lib.Seq.{sets, take-take, drop-drop, take-nil, length-take-le, getD-take, getD-drop}
 use Rattle.field.specs.Lists.{upFrom}
 use Rattle.field.specs.Field.{Field, size}
 use Rattle.field.specs.Ours.{fieldOf}
@@ -27,7 +27,7 @@ use Rattle.repair.proofs.Shape.{Shape, shape}
 use Rattle.repair.proofs.Fit.{sums-fit}
 use Rattle.repair.proofs.Levels.{sums-length}
 use Rattle.repair.proofs.Sizes.{checks-room, checks-length}
-use Rattle.repair.proofs.Parts.{part, part-of, part-length}
+use Rattle.repair.proofs.Parts.{part, part-of, part-length, part-back}
 use Rattle.repair.proofs.Checks.{row-places}
 
 -- ---- rows of a flat list
@@ -149,9 +149,4 @@ module _ {p t : ℕ} {f : Facts} {m : ℕ} {checks sums symbols : List ℕ} {r :
       → take (r * f .columns) symbols ++ (v ++ drop (r * f .columns + f .columns - r * f .columns) (drop (r * f .columns) symbols))
       ≡ sets symbols (r * P .columns) v
   put-back v e =
-      let n : length v ≡ f .columns = e ∙ row-count in
-      ap (λ j. take (r * f .columns) symbols ++ (v ++ drop j (drop (r * f .columns) symbols))) (add-sub-cancel-left (r * f .columns) (f .columns) ∙ sym n)
-      ∙ ap (λ l. take (r * f .columns) symbols ++ (v ++ l)) (drop-drop (length v) (r * f .columns) symbols)
-      ∙ sym (append-assoc (take (r * f .columns) symbols) v (drop (r * f .columns + length v) symbols))
-      ∙ sym (sets-eq v symbols (r * f .columns) (omega (arith, row-end)))
-      ∙ ap (λ j. sets symbols (r * j) v) (is .columns)
+      part-back (r * f .columns) (r * f .columns + f .columns - r * f .columns) symbols v (omega (arith, row-end)) (omega (arith, e, row-count)) ∙ ap (λ j. sets symbols (r * j) v) (is .columns)

@@ -1,6 +1,6 @@
 -- The checks of levels 1 to t, and a row's sums: what a further level adds to them. Assumes nothing.
-use mathlib.Core.Path.{_≡_, refl, sym, ap, ap₂, _∙_}
-use mathlib.Core.List.{List, [], _∷_, _++_, flatMap, append-assoc, append-nil}
+use mathlib.Core.Path.{_≡_, sym, ap, ap₂, _∙_}
+use mathlib.Core.List.{List, [], _∷_, _++_, flatMap, append-nil}
 use Prim.Native.Nat.{ℕ, suc, _+_, _*_, _-_, _<_, _≤_, zero-le}
 use native.Mathlib.Nat.{add-sub-of-le}
 use native.Mathlib.Omega.{arith}
@@ -10,12 +10,8 @@ use Rattle.field.specs.Lists.{upFrom}
 use Rattle.repair.specs.Plan.{Plan, Level, noLevel, levelOf, checksTo}
 use Rattle.repair.specs.Refusal.{room, sumsAt}
 use Rattle.repair.specs.Steps.{keepSums}
+use Rattle.repair.proofs.Flat.{flat-append}
 use Rattle.repair.proofs.Rows.{row-end, learnedAt, keep-part}
-
-flat-append : {A B : Type 0} (f : A → List B) (a b : List A) → flatMap f (a ++ b) ≡ flatMap f a ++ flatMap f b
-unfolding flatMap
-flat-append f [] b = refl
-flat-append f (x ∷ a) b = ap (λ l. f x ++ l) (flat-append f a b) ∙ sym (append-assoc (f x) (flatMap f a) (flatMap f b))
 
 module _ (P : Plan) where
   pub checks-suc : (t : ℕ) → t < length (P .levels) → checksTo P (suc t) ≡ checksTo P t ++ levelOf P (suc t) .checks

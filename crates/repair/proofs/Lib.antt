@@ -39,3 +39,15 @@ pub mod Stepping
 pub mod Keeping
 pub mod Joining
 pub mod Learning
+-- encoding and extraction
+pub mod Data
+pub mod Placing
+pub mod Carrying
+-- the stripe file
+pub mod Sames
+pub mod Writing
+pub mod Stripes
+pub mod Files
+-- the text
+pub mod Texts
+pub mod Printing

@@ -1,11 +1,11 @@
 -- Parts of flat lists: what is lent from a start to an end, and rows one behind the other. Assumes nothing.
 use mathlib.Core.Path.{_≡_, refl, sym, ap, ap₂, _∙_}
-use mathlib.Core.List.{List, [], _∷_, map}
+use mathlib.Core.List.{List, [], _∷_, _++_, map, append-assoc}
 use Prim.Native.Nat.{ℕ, zero, suc, _+_, _*_, _-_, _≤_}
 use native.Mathlib.Nat.{zero-add, suc-add, add-comm, add-sub-cancel-left, suc-mul, zero-mul}
 use native.Mathlib.Omega.{arith}
 use lib.ListN.{length, take, drop, length-drop}
-use lib.Seq.{length-take-le, take-nil, take-take, drop-drop}
+use lib.Seq.{sets, sets-eq, length-take-le, take-all, take-nil, take-take, drop-drop}
 use Rattle.field.specs.Lists.{upFrom}
 use Rattle.field.proofs.Lists.{map-up-same}
 use Rattle.linear.specs.Marks.{rowsOf}
@@ -22,6 +22,19 @@ part-of start size l = ap (λ n. take n (drop start l)) (add-sub-cancel-left sta
 pub part-length : (start size : ℕ) (l : List ℕ) → start + size ≤ length l → length (part start size l) ≡ size
 part-length start size l h =
     ap length (part-of start size l) ∙ length-take-le size (drop start l) (simp length-drop (omega arith))
+
+-- what stands from a start on
+pub rest-of : (start : ℕ) (l : List ℕ) → take (length l - start) (drop start l) ≡ drop start l
+rest-of start l = take-all (length l - start) (drop start l) (simp length-drop (omega arith))
+
+-- n numbers put back, with others in their place
+pub part-back : (start n : ℕ) (l v : List ℕ) → start + n ≤ length l → length v ≡ n
+    → take start l ++ (v ++ drop n (drop start l)) ≡ sets l start v
+part-back start n l v h e =
+    ap (λ k. take start l ++ (v ++ drop k (drop start l))) (sym e)
+    ∙ ap (λ k. take start l ++ (v ++ k)) (drop-drop (length v) start l)
+    ∙ sym (append-assoc (take start l) v (drop (start + length v) l))
+    ∙ sym (sets-eq v l start (omega arith))
 
 -- ---- rows
 

@@ -37,15 +37,27 @@ pub drop-sets-before : (n : ℕ) (x l : List ℕ) (i : ℕ) → i + length x ≤
 drop-sets-before n [] l i h = refl
 drop-sets-before n (v ∷ x) l i h = drop-sets-before n x (set l i v) (suc i) (omega arith) ∙ drop-set-lt n l i v (omega arith)
 
+-- what is stored behind other stores
+pub sets-append : (x y l : List ℕ) (i : ℕ) → sets l i (x ++ y) ≡ sets (sets l i x) (i + length x) y
+sets-append [] y l i = ap (λ k. sets l k y) (sym (add-zero i))
+sets-append (v ∷ x) y l i = sets-append x y (set l i v) (suc i) ∙ ap (λ k. sets (sets (set l i v) (suc i) x) k y) (omega arith)
+
 -- stores past the end do nothing
-sets-out : (x l : List ℕ) (i : ℕ) → length l ≤ i → sets l i x ≡ l
+pub sets-out : (x l : List ℕ) (i : ℕ) → length l ≤ i → sets l i x ≡ l
 sets-out [] l i h = refl
 sets-out (v ∷ x) l i h = sets-out x (set l i v) (suc i) (simp length-set (omega arith)) ∙ set-out l i v h
 
 -- a whole list stored over one as long
-sets-whole : (x l : List ℕ) → length x ≡ length l → sets l 0 x ≡ x
+pub sets-whole : (x l : List ℕ) → length x ≡ length l → sets l 0 x ≡ x
 sets-whole x l e =
     sets-eq x l 0 (omega arith) ∙ ap (λ k. x ++ k) (drop-of-length-le l (le-of-eq (sym e ∙ sym (zero-add (length x))))) ∙ append-nil x
+
+-- a store into what stands behind n
+pub sets-behind : (n : ℕ) (x l : List ℕ) → take n l ++ sets (drop n l) 0 x ≡ sets l n x
+sets-behind n x l =
+    ap₂ _++_ (sym (take-sets n x l n ∙ sets-out x (take n l) n (simp length-take (omega arith))))
+    (sym (drop-sets n x l 0) ∙ ap (λ i. drop n (sets l i x)) (add-zero n))
+    ∙ take-append-drop n (sets l n x)
 
 -- storing what is there changes nothing
 pub sets-same : (x l : List ℕ) (i : ℕ) → i + length x ≤ length l → take (length x) (drop i l) ≡ x → sets l i x ≡ l

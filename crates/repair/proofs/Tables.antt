@@ -17,14 +17,9 @@ use Rattle.repair.specs.Plan.{Plan, Level, ones, bitChecks, locations1, 
 use Rattle.repair.specs.Refusal.{allBelow}
 use Rattle.repair.specs.Tables.{flat, checkTable, weightTable}
 use Rattle.repair.proofs.Plans.{of-plans}
-use Rattle.repair.proofs.Flat.{all-getD, all-padded, between, wide, rowIn, rows-in}
+use Rattle.repair.proofs.Flat.{all-getD, all-padded, flat-append, between, wide, rowIn, rows-in}
 
 -- ---- checks by level
-
-flatMap-append : {A B : Type 0} (f : A → List B) (xs ys : List A) → flatMap f (xs ++ ys) ≡ flatMap f xs ++ flatMap f ys
-unfolding flatMap
-flatMap-append f [] ys = refl
-flatMap-append f (x ∷ xs) ys = rw (flatMap-append f xs ys, append-assoc)
 
 abbrev checksIn : List Level → List (List ℕ)
 checksIn levels = flatMap (λ (L : Level). L .checks) levels
@@ -34,7 +29,7 @@ pub checks-before : (P : Plan) (t : ℕ) → checksTo P (length (P .levels)) ≡
 unfolding checksTo
 checks-before P t =
     ap checksIn (take-length (P .levels) ∙ sym (take-append-drop t (P .levels)))
-    ∙ flatMap-append (λ (L : Level). L .checks) (take t (P .levels)) (drop t (P .levels))
+    ∙ flat-append (λ (L : Level). L .checks) (take t (P .levels)) (drop t (P .levels))
 
 -- level t + 1 adds its own
 pub checks-more : (P : Plan) (t : ℕ) → checksTo P (suc t) ≡ checksTo P t ++ levelOf P (suc t) .checks

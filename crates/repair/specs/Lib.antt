@@ -11,3 +11,4 @@ pub mod Text
 pub mod Tables
 pub mod Learned
 pub mod Walk
+pub mod Written

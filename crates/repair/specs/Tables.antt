@@ -1,11 +1,13 @@
 -- What the code's numbers and tables of a plan are.
 use Prim.Native.Nat.{ℕ, _*_, _-_, _^_}
 use mathlib.Core.Path.{_≡_}
+use mathlib.Core.Bool.{Bool, not}
 use mathlib.Core.List.{List, _++_, map, flatMap}
 use lib.ListN.{length, take, drop, replicate}
 use Rattle.field.specs.Lists.{upFrom}
 use Rattle.field.specs.Field.{Field, size, dot}
 use Rattle.field.specs.Ours.{fieldOf}
+use Rattle.linear.specs.Lists.{only}
 use Rattle.repair.specs.Plan.{Plan, levelOf, checksTo}
 use Rattle.repair.specs.File.{fileLength}
 use Rattle.repair.specs.declared.plan.Facts.{Facts}
@@ -50,6 +52,12 @@ weightTable P t = flat 16 (levelOf P t .weights)
 
 unfoldable pub placeTable : Plan → List ℕ
 placeTable P = padded 8 (P .checkPlaces)
+
+-- ---- places
+
+-- how many places are not marked
+abbrev pub unmarked : List Bool → ℕ
+unmarked ms = length (only not ms)
 
 -- ---- sums
 

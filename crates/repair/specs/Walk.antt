@@ -6,6 +6,8 @@ use mathlib.Core.List.{List}
 use lib.Dec.{ltb}
 use lib.ListN.{length, getD, set}
 use Rattle.field.specs.Lists.{if_then_else_}
+use Rattle.linear.specs.Marks.{bitsOf}
+use Rattle.linear.specs.Fill.{Fill, fill}
 use Rattle.repair.specs.Plan.{Plan, planOf, checksTo, rowAt}
 use Rattle.repair.specs.Refusal.{sumsAt, benchRefusal, unasked}
 use Rattle.repair.specs.Rounds.{Standing, Turn, on, end, clash, turns, endReport, bare}
@@ -22,6 +24,11 @@ Arrays b = (length (b .symbols) ≡ 256) × (length (b .marks) ≡ 8) × (length
 
 abbrev pub standingOf : Bench → (turn : ℕ) → (restored : List ℕ) → Standing
 standingOf b turn restored = record { bench = b; turn = turn; restored = restored }
+
+-- the fill of row r, whose marks are `word`, by the checks of levels 1 to t and its learned sums
+abbrev pub fillAt : Plan → (t : ℕ) → (sums : List ℕ) → (word : ℕ) → (symbols : List ℕ) → (r : ℕ) → Fill
+fillAt P t sums word symbols r =
+    fill (P .field) (checksTo P t) (sumsAt P t sums r) (bitsOf (P .columns) word) (rowAt P symbols r)
 
 -- k rows more restored at level t
 unfoldable pub more : (t k : ℕ) → List ℕ → List ℕ

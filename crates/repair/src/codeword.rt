@@ -10,7 +10,7 @@ ghost use Rattle.linear.specs.Lists.{all, vanish};
 ghost use Rattle.linear.specs.Fill.{sumsOf};
 ghost use Rattle.linear.specs.Marks.{rowsOf};
 ghost use Rattle.repair.specs.Plan.{planOf, levelOf};
-ghost use Rattle.repair.specs.Codeword.{rowsHold, totalsHold, testRefusal};
+ghost use Rattle.repair.specs.Codeword.{rowsHold, totalsHold, isCodeword, testRefusal};
 ghost use Rattle.repair.specs.Tables.{checkTable};
 
 // Whether each of the first m checks gives 0 with v. A check is as long as v.
@@ -109,4 +109,17 @@ pub fn levels_hold(plan: usize, table: &[u8; 256], checks: &[u8], stripe: &[u8])
         }
     }
     true
+}
+
+// Whether a stripe of the plan's length is a codeword.
+pub fn holds(plan: usize, stripe: &[u8]) -> bool
+    requires { ⌜ planOf plan .rows * planOf plan .columns ≤ length (now stripe) ⌝ }
+    ensures { λ r. ⌜ r ≡ isCodeword (planOf plan) (now (stripe .entry)) ⌝ }
+{
+    let table = field::products();
+    let checks = plan::row_checks(plan);
+    if !rows_hold(plan, &table, &checks, stripe) {
+        return false;
+    }
+    levels_hold(plan, &table, &checks, stripe)
 }

@@ -1,7 +1,12 @@
 // The repair library: what a bench is, and what each call answers.
+mod buffer;
 mod codeword;
 mod copies;
+mod encoding;
+mod file;
 mod level;
+mod lines;
+mod marks;
 mod mending;
 pub mod plan;
 mod refusal;
@@ -9,9 +14,13 @@ mod steps;
 mod sums;
 
 ghost use mathlib.Core.Path.{_≡_};
+ghost use lib.ListN.{length};
 ghost use Rattle.repair.specs.Steps.{started, rowStep, levelStep};
 ghost use Rattle.repair.specs.Rounds.{mendReport, mendStripe, mendMarks};
-ghost use Rattle.repair.specs.Codeword.{tested};
+ghost use Rattle.repair.specs.Codeword.{tested, outcomeOf, encodeRefusal, encodeStripe, extractRefusal, extractData};
+ghost use Rattle.repair.specs.File.{writeRefusal, writeFile, readRefusal, readStripe, readMarks};
+ghost use Rattle.repair.specs.Tables.{padded};
+ghost use Rattle.repair.specs.Text.{printed};
 
 // A plan's number, the level t that was reached, symbols and mark words row after row, and each row's learned sums, 16 places a row.
 pub struct Bench {
@@ -176,15 +185,10 @@ pub fn is_codeword(plan: usize, stripe: &[u8]) -> Verdict
     if number != 0 {
         return Verdict::Refused(number);
     }
-    let table = field::products();
-    let checks = plan::row_checks(plan);
-    if !codeword::rows_hold(plan, &table, &checks, stripe) {
-        return Verdict::No;
+    if codeword::holds(plan, stripe) {
+        return Verdict::Yes;
     }
-    if !codeword::levels_hold(plan, &table, &checks, stripe) {
-        return Verdict::No;
-    }
-    Verdict::Yes
+    Verdict::No
 }
 
 // Mends a stripe in one call, by rounds of row steps and level steps on a bench of its own. Restored and Stuck leave the restored
@@ -209,4 +213,76 @@ pub fn mend(plan: usize, stripe: &mut [u8], marks: &mut [u32]) -> Report
     copies::put_symbols(stripe, &symbols[..]);
     copies::put_words(marks, &words[..]);
     report
+}
+
+// Encoding: the data at the places that are not check places, row by row, and the check places such that the stripe is a codeword.
+// What stood in the stripe is not read; refused, it stays as it is.
+pub fn encode(plan: usize, data: &[u8], stripe: &mut [u8]) -> Outcome
+    ensures { λ r. ⌜ r ≡ outcomeOf (encodeRefusal plan (now («data» .entry)) (now (stripe .entry))) ⌝ }
+    ensures { λ _. ⌜ now (stripe .exit) ≡ encodeStripe plan (now («data» .entry)) (now (stripe .entry)) ⌝ }
+{
+    let number = encoding::encode_refusal(plan, data, &stripe[..]);
+    if number != 0 {
+        return Outcome::Refused(number);
+    }
+    let mut words = plan::check_places(plan);
+    let rows = plan::rows(plan);
+    encoding::place(plan, &words[..rows], data, stripe);
+    mend(plan, stripe, &mut words[..rows]);
+    Outcome::Done
+}
+
+// Extraction: the data of a codeword, from the places that are not check places. Refused, the room for the data stays as it is.
+pub fn extract(plan: usize, stripe: &[u8], data: &mut [u8]) -> Outcome
+    ensures { λ r. ⌜ r ≡ outcomeOf (extractRefusal plan (now (stripe .entry)) (now («data» .entry))) ⌝ }
+    ensures { λ _. ⌜ now («data» .exit) ≡ extractData plan (now (stripe .entry)) (now («data» .entry)) ⌝ }
+{
+    let number = encoding::extract_refusal(plan, stripe, &data[..]);
+    if number != 0 {
+        return Outcome::Refused(number);
+    }
+    let words = plan::check_places(plan);
+    let rows = plan::rows(plan);
+    encoding::take(plan, &words[..rows], stripe, data);
+    Outcome::Done
+}
+
+// Writes a stripe and its marks as a file, 0 under marks. Where it is refused the file is unchanged.
+pub fn write_file(plan: usize, stripe: &[u8], marks: &[u32], file: &mut [u8]) -> Outcome
+    ensures { λ r. ⌜ r ≡ outcomeOf (writeRefusal plan (now (stripe .entry)) (now (marks .entry)) (now (file .entry))) ⌝ }
+    ensures { λ r. ⌜ now (file .exit) ≡ writeFile plan (now (stripe .entry)) (now (marks .entry)) (now (file .entry)) ⌝ }
+{
+    let number = file::write_refusal(plan, stripe, marks, file);
+    if number != 0 {
+        return Outcome::Refused(number);
+    }
+    file::put_file(plan, stripe, marks, file);
+    Outcome::Done
+}
+
+// Reads a file into a stripe and its marks. Where it is refused both are unchanged.
+pub fn read_file(file: &[u8], stripe: &mut [u8], marks: &mut [u32]) -> Outcome
+    ensures { λ r. ⌜ r ≡ outcomeOf (readRefusal (now (file .entry)) (now (stripe .entry)) (now (marks .entry))) ⌝ }
+    ensures { λ r. ⌜ now (stripe .exit) ≡ readStripe (now (file .entry)) (now (stripe .entry)) (now (marks .entry)) ⌝ }
+    ensures { λ r. ⌜ now (marks .exit) ≡ readMarks (now (file .entry)) (now (stripe .entry)) (now (marks .entry)) ⌝ }
+{
+    let plan = file::plan_in(file);
+    let lengths = refusal::lengths_fit(plan, stripe, marks);
+    let number = file::file_refusal(file, lengths);
+    if number != 0 {
+        return Outcome::Refused(number);
+    }
+    file::load(file, stripe, marks);
+    Outcome::Done
+}
+
+// What `mend` prints for any bytes that it reads: the text at the front of `out` and zeros behind it, and its length.
+pub fn text(file: &[u8], out: &mut [u8; 320]) -> usize
+    ensures { λ r. ⌜ r ≡ length (printed (now (file .entry))) ⌝ }
+    ensures { λ _. ⌜ now (out .exit) ≡ padded 320 (printed (now (file .entry))) ⌝ }
+{
+    let mut room = [0u8; 320];
+    let size = lines::put_text(file, &mut room);
+    *out = room;
+    size
 }

@@ -10,14 +10,14 @@ ghost use lib.Dec.{T};
 ghost use lib.ListN.{length, getD};
 ghost use lib.Seq.{sets};
 ghost use Rattle.field.specs.Ours.{products};
-ghost use Rattle.linear.specs.Marks.{bitsOf, answerOf, vectorOf};
-ghost use Rattle.linear.specs.Fill.{sumsOf, fill};
+ghost use Rattle.linear.specs.Marks.{answerOf, vectorOf};
+ghost use Rattle.linear.specs.Fill.{sumsOf};
 ghost use Rattle.repair.specs.Plan.{planOf, known, checksTo, rowAt};
-ghost use Rattle.repair.specs.Refusal.{sumsAt, sumsFit, benchRefusal, unasked};
+ghost use Rattle.repair.specs.Refusal.{sumsFit, benchRefusal, unasked};
 ghost use Rattle.repair.specs.Steps.{rowFill, rowStepBy};
 ghost use Rattle.repair.specs.Tables.{checkTable};
 ghost use Rattle.repair.specs.Learned.{benchOf};
-ghost use Rattle.repair.specs.Walk.{Arrays, Walked};
+ghost use Rattle.repair.specs.Walk.{Arrays, fillAt, Walked};
 
 // The sum of row `row` under check j of levels 1 to t.
 fn check_sum(
@@ -59,8 +59,13 @@ fn fill_row(
     requires { ⌜ now checks ≡ checkTable (planOf plan) ⌝ }
     requires { ⌜ T (known plan) × (row < planOf plan .rows) × (word < 2 ^ planOf plan .columns) × T (sumsFit (planOf plan) level (now sums)) ⌝ }
     requires { ⌜ (length (now symbols) ≡ 256) × (length (now sums) ≡ 128) ⌝ }
-    ensures { λ r. ⌜ r ≡ answerOf (fill (planOf plan .field) (checksTo (planOf plan) level) (sumsAt (planOf plan) level (now (sums .entry)) row) (bitsOf (planOf plan .columns) word) (rowAt (planOf plan) (now (symbols .entry)) row)) ⌝ }
-    ensures { λ r. ⌜ now (symbols .exit) ≡ sets (now (symbols .entry)) (row * planOf plan .columns) (vectorOf (fill (planOf plan .field) (checksTo (planOf plan) level) (sumsAt (planOf plan) level (now (sums .entry)) row) (bitsOf (planOf plan .columns) word) (rowAt (planOf plan) (now (symbols .entry)) row)) (rowAt (planOf plan) (now (symbols .entry)) row)) ⌝ }
+    ensures { λ r. ⌜ r ≡ answerOf (fillAt (planOf plan) level (now (sums .entry)) word (now (symbols .entry)) row) ⌝ }
+    ensures { λ _.
+        ⌜
+        now (symbols .exit)
+        ≡ sets (now (symbols .entry)) (row * planOf plan .columns)
+        (vectorOf (fillAt (planOf plan) level (now (sums .entry)) word (now (symbols .entry)) row) (rowAt (planOf plan) (now (symbols .entry)) row))
+        ⌝ }
 {
     let facts = plan::facts_of(plan);
     let q = facts.field;
@@ -101,7 +106,11 @@ pub fn walk_rows(
     requires { ⌜ now checks ≡ checkTable (planOf plan) ⌝ }
     requires { ⌜ benchRefusal (benchOf plan level (now symbols) (now marks) (now sums)) unasked ≡ 0 ⌝ }
     requires { ⌜ Arrays (benchOf plan level (now symbols) (now marks) (now sums)) ⌝ }
-    ensures { λ w. ⌜ Walked (benchOf plan level (now (symbols .entry)) (now (marks .entry)) (now (sums .entry))) (benchOf plan level (now (symbols .exit)) (now (marks .exit)) (now (sums .entry))) (w .row) (w .filled) ⌝ }
+    ensures { λ w.
+        ⌜
+        Walked (benchOf plan level (now (symbols .entry)) (now (marks .entry)) (now (sums .entry)))
+        (benchOf plan level (now (symbols .exit)) (now (marks .exit)) (now (sums .entry))) (w .row) (w .filled)
+        ⌝ }
 {
     let rows = plan::rows(plan);
     let count = plan::sums_to(plan, level);

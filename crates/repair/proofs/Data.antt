@@ -1,17 +1,27 @@
 -- Data at the places that are not marked: put there, taken from there, and what two stripes with the same data share. Assumes nothing.
-use mathlib.Core.Path.{_≡_, refl, ap, ap₂}
+use mathlib.Core.Path.{_≡_, refl, sym, ap, ap₂, _∙_}
 use mathlib.Core.Bool.{Bool, true, false, not}
-use mathlib.Core.List.{List, [], _∷_}
-use Prim.Native.Nat.{ℕ, suc}
-use native.Mathlib.Nat.{suc-inj}
+use mathlib.Core.List.{List, [], _∷_, _++_}
+use Prim.Native.Nat.{ℕ, suc, _+_, _≤_}
+use native.Mathlib.Nat.{suc-inj, le-of-suc-le-suc}
 use native.Mathlib.Omega.{arith}
 use lib.Dec.{T}
-use lib.ListN.{length}
+use lib.ListN.{length, take, drop}
+use lib.Seq.{drop-nil}
 use Rattle.field.specs.Lists.{if_then_else_}
 use Rattle.field.proofs.Test.{both-left, both-right, both}
 use Rattle.linear.specs.Lists.{all, only, first, rest}
 use Rattle.linear.proofs.Choices.{Alike}
 use Rattle.repair.specs.Codeword.{placed, taken}
+use Rattle.repair.specs.Tables.{unmarked}
+
+-- ---- how much is put and taken
+
+pub unmarked-append : (ms ns : List Bool) → unmarked (ms ++ ns) ≡ unmarked ms + unmarked ns
+unfolding if_then_else_ only
+unmarked-append [] ns = omega arith
+unmarked-append (true ∷ ms) ns = unmarked-append ms ns
+unmarked-append (false ∷ ms) ns = omega (arith, unmarked-append ms ns)
 
 pub placed-length : (ms : List Bool) (ds : List ℕ) → length (placed ms ds) ≡ length ms
 unfolding placed
@@ -28,12 +38,12 @@ placed-all q z (false ∷ ms) [] t = both (q 0) (all q (placed ms [])) z (placed
 placed-all q z (false ∷ ms) (d ∷ ds) t =
     both (q d) (all q (placed ms ds)) (both-left (q d) (all q ds) t) (placed-all q z ms ds (both-right (q d) (all q ds) t))
 
-pub taken-length : (ms : List Bool) (v : List ℕ) → length v ≡ length ms → length (taken ms v) ≡ length (only not ms)
+pub taken-length : (ms : List Bool) (v : List ℕ) → length ms ≤ length v → length (taken ms v) ≡ unmarked ms
 unfolding if_then_else_ only taken
 taken-length [] v l = refl
 taken-length (m ∷ ms) [] l = absurd (omega arith)
-taken-length (true ∷ ms) (x ∷ v) l = taken-length ms v (suc-inj l)
-taken-length (false ∷ ms) (x ∷ v) l = ap suc (taken-length ms v (suc-inj l))
+taken-length (true ∷ ms) (x ∷ v) l = taken-length ms v (le-of-suc-le-suc l)
+taken-length (false ∷ ms) (x ∷ v) l = ap suc (taken-length ms v (le-of-suc-le-suc l))
 
 pub taken-all : (q : ℕ → Bool) (ms : List Bool) (v : List ℕ) → T (all q v) → T (all q (taken ms v))
 unfolding all taken
@@ -43,8 +53,40 @@ taken-all q (true ∷ ms) (x ∷ v) t = taken-all q ms v (both-right (q x) (all 
 taken-all q (false ∷ ms) (x ∷ v) t =
     both (q x) (all q (taken ms v)) (both-left (q x) (all q v) t) (taken-all q ms v (both-right (q x) (all q v) t))
 
+-- ---- in two parts
+
+-- the data behind those of the first part go to the second
+pub placed-append : (ms ns : List Bool) (ds : List ℕ) → placed (ms ++ ns) ds ≡ placed ms ds ++ placed ns (drop (unmarked ms) ds)
+unfolding if_then_else_ only placed
+placed-append [] ns ds = refl
+placed-append (true ∷ ms) ns ds = ap (λ l. 0 ∷ l) (placed-append ms ns ds)
+placed-append (false ∷ ms) ns [] = ap (λ l. 0 ∷ l) (placed-append ms ns [] ∙ ap (λ d. placed ms [] ++ placed ns d) (drop-nil (unmarked ms)))
+placed-append (false ∷ ms) ns (d ∷ ds) = ap (λ l. d ∷ l) (placed-append ms ns ds)
+
+taken-none : (ms : List Bool) → taken ms [] ≡ []
+unfolding taken
+taken-none [] = refl
+taken-none (m ∷ ms) = refl
+
+pub taken-append : (ms ns : List Bool) (v : List ℕ) → taken (ms ++ ns) v ≡ taken ms v ++ taken ns (drop (length ms) v)
+unfolding taken
+taken-append [] ns v = refl
+taken-append (m ∷ ms) ns [] = sym (taken-none ns)
+taken-append (true ∷ ms) ns (x ∷ v) = taken-append ms ns v
+taken-append (false ∷ ms) ns (x ∷ v) = ap (λ l. x ∷ l) (taken-append ms ns v)
+
+-- what stands behind the places is not taken
+pub taken-front : (ms : List Bool) (v : List ℕ) → taken ms (take (length ms) v) ≡ taken ms v
+unfolding taken
+taken-front [] v = refl
+taken-front (m ∷ ms) [] = refl
+taken-front (true ∷ ms) (x ∷ v) = taken-front ms v
+taken-front (false ∷ ms) (x ∷ v) = ap (λ l. x ∷ l) (taken-front ms v)
+
+-- ---- put and taken back
+
 -- what was put is taken back
-pub taken-placed : (ms : List Bool) (ds : List ℕ) → length ds ≡ length (only not ms) → taken ms (placed ms ds) ≡ ds
+pub taken-placed : (ms : List Bool) (ds : List ℕ) → length ds ≡ unmarked ms → taken ms (placed ms ds) ≡ ds
 unfolding if_then_else_ only placed taken
 taken-placed [] [] l = refl
 taken-placed [] (d ∷ ds) l = absurd (omega arith)

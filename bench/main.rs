@@ -1,0 +1,208 @@
+//! Times the library and the plain Rust code in turn, on the same stripes, and prints a table of nanoseconds and ratios.
+//!
+//! Each kind of work has a pool of stripes that differ. A pass makes one call on each; before a pass the pool is put back as
+//! it was, untimed. The two sides take passes in turn, so that both meet the machine in the same state. A side's time is the
+//! median of its passes; the ratio is the median of the ratios of neighbouring passes.
+
+use outside::chance::Chance;
+use outside::damage::{self, Content, Marks};
+use outside::oracle::{self, Plan};
+use std::hint::black_box;
+use std::time::{Duration, Instant};
+
+/// Stripes in a pool.
+const POOL: usize = 256;
+/// Passes of each side, and the time after which no more are made once there are enough.
+const LEAST_PASSES: usize = 100;
+const MOST_PASSES: usize = 3000;
+const TIME_ENOUGH: Duration = Duration::from_millis(400);
+
+/// The calls of one side that are timed.
+#[derive(Clone, Copy)]
+struct Side {
+    is_codeword: fn(usize, &[u8]) -> usize,
+    encode: fn(usize, &[u8], &mut [u8]) -> usize,
+    mend: fn(usize, &mut [u8], &mut [u32], &mut [u8]) -> usize,
+    row_step: fn(&mut [u8], usize) -> usize,
+}
+
+const LIBRARY: Side =
+    Side { is_codeword: shelf::is_codeword, encode: shelf::encode, mend: shelf::mend, row_step: shelf::row_step };
+const PLAIN: Side =
+    Side { is_codeword: plain::is_codeword, encode: plain::encode, mend: plain::mend, row_step: plain::row_step };
+const ORACLE: Side =
+    Side { is_codeword: oracle::is_codeword, encode: oracle::encode, mend: oracle::mend, row_step: oracle::row_step };
+
+#[derive(Clone, Copy)]
+enum Work {
+    /// The floor: the stripe is copied.
+    Copy,
+    IsCodeword,
+    Encode,
+    Mend(Marks),
+    /// The step of a row that has one mark, on a fresh bench.
+    RowStep,
+}
+
+const WORKS: [(&str, Work); 10] = [
+    ("copy of the stripe", Work::Copy),
+    ("codeword test", Work::IsCodeword),
+    ("encoding", Work::Encode),
+    ("mending, no marks", Work::Mend(Marks::None)),
+    ("mending, one mark", Work::Mend(Marks::One)),
+    ("mending, d0 - 1 marks in three rows", Work::Mend(Marks::ThreeRowsFull)),
+    ("mending, d - 1 marks anywhere", Work::Mend(Marks::BelowDistance)),
+    ("mending, marks at the edge of the counts", Work::Mend(Marks::Edge)),
+    ("mending, everything marked", Work::Mend(Marks::Everything)),
+    ("one row step, one mark", Work::RowStep),
+];
+
+/// The buffers of all calls of a pass, one stripe's after another's.
+#[derive(Clone, PartialEq)]
+struct Pool {
+    data: Vec<u8>,
+    stripes: Vec<u8>,
+    copies: Vec<u8>,
+    marks: Vec<u32>,
+    reports: Vec<u8>,
+    benches: Vec<u8>,
+    rows: Vec<usize>,
+}
+
+impl Pool {
+    fn new(plan: &Plan, work: Work, chance: &mut Chance) -> Pool {
+        let kind = match work {
+            Work::Mend(kind) => kind,
+            Work::RowStep => Marks::One,
+            _ => Marks::None,
+        };
+        let mut pool = Pool {
+            data: Vec::new(),
+            stripes: Vec::new(),
+            copies: vec![0; POOL * plan.symbols()],
+            marks: Vec::new(),
+            reports: vec![0; POOL * 8],
+            benches: Vec::new(),
+            rows: Vec::new(),
+        };
+        for _ in 0..POOL {
+            let word = damage::stripe(plan, Content::Codeword, chance);
+            let marks = damage::marks(plan, kind, chance);
+            let (mut data, mut bench) = (vec![0; plan.carried()], vec![0; 418]);
+            oracle::extract(plan.number, &word, &mut data);
+            let stripe = damage::zero_under_marks(plan, &word, &marks);
+            oracle::start(plan.number, &stripe, &marks, &mut bench);
+            pool.rows.push(marks.iter().position(|&word| word != 0).unwrap_or(0));
+            pool.data.extend(data);
+            pool.stripes.extend(stripe);
+            pool.marks.extend(marks);
+            pool.benches.extend(bench);
+        }
+        pool
+    }
+
+    /// Puts the buffers back as they were.
+    fn reset(&mut self, start: &Pool) {
+        self.stripes.copy_from_slice(&start.stripes);
+        self.copies.copy_from_slice(&start.copies);
+        self.marks.copy_from_slice(&start.marks);
+        self.reports.copy_from_slice(&start.reports);
+        self.benches.copy_from_slice(&start.benches);
+    }
+
+    /// One call on each stripe. The sum of the answers keeps the calls alive.
+    fn pass(&mut self, plan: &Plan, work: Work, side: Side) -> usize {
+        let (number, symbols) = (plan.number, plan.symbols());
+        let stripes = self.stripes.chunks_exact_mut(symbols);
+        match work {
+            Work::Copy => {
+                let copies = self.copies.chunks_exact_mut(symbols);
+                stripes.zip(copies).map(|(stripe, copy)| copied(stripe, copy)).sum()
+            }
+            Work::IsCodeword => stripes.map(|stripe| (side.is_codeword)(number, stripe)).sum(),
+            Work::Encode => {
+                let data = self.data.chunks_exact(plan.carried());
+                data.zip(stripes).map(|(data, stripe)| (side.encode)(number, data, stripe)).sum()
+            }
+            Work::Mend(_) => {
+                let lent = stripes.zip(self.marks.chunks_exact_mut(plan.rows)).zip(self.reports.chunks_exact_mut(8));
+                lent.map(|((stripe, marks), report)| (side.mend)(number, stripe, marks, report)).sum()
+            }
+            Work::RowStep => {
+                let benches = self.benches.chunks_exact_mut(418).zip(&self.rows);
+                benches.map(|(bench, &row)| (side.row_step)(bench, row)).sum()
+            }
+        }
+    }
+}
+
+#[inline(never)]
+fn copied(stripe: &[u8], copy: &mut [u8]) -> usize {
+    copy.copy_from_slice(black_box(stripe));
+    0
+}
+
+/// What a pass leaves behind, for comparing the sides.
+fn after_pass(plan: &Plan, work: Work, side: Side, start: &Pool) -> (usize, Pool) {
+    let mut pool = start.clone();
+    let sum = pool.pass(plan, work, side);
+    (sum, pool)
+}
+
+/// Nanoseconds a stripe of one pass.
+fn timed_pass(plan: &Plan, work: Work, side: Side, pool: &mut Pool, start: &Pool) -> f64 {
+    pool.reset(start);
+    let side = black_box(side);
+    let begun = Instant::now();
+    black_box(pool.pass(plan, work, side));
+    begun.elapsed().as_nanos() as f64 / POOL as f64
+}
+
+fn median(mut values: Vec<f64>) -> f64 {
+    values.sort_by(f64::total_cmp);
+    values[values.len() / 2]
+}
+
+/// The times of the library and of the plain code, and their ratio.
+fn timed(plan: &Plan, work: Work, start: &Pool) -> (f64, f64, f64) {
+    let mut pool = start.clone();
+    let (mut library, mut plain) = (Vec::new(), Vec::new());
+    let begun = Instant::now();
+    while library.len() < LEAST_PASSES || library.len() < MOST_PASSES && begun.elapsed() < TIME_ENOUGH {
+        let mut time = |side| timed_pass(plan, work, side, &mut pool, start);
+        // The side that goes first changes from pass to pass.
+        let (one, other) = if library.len() % 2 == 0 {
+            let one = time(LIBRARY);
+            (one, time(PLAIN))
+        } else {
+            let other = time(PLAIN);
+            (time(LIBRARY), other)
+        };
+        library.push(one);
+        plain.push(other);
+    }
+    let ratios = library.iter().zip(&plain).map(|(library, plain)| library / plain).collect();
+    (median(library), median(plain), median(ratios))
+}
+
+fn main() {
+    println!("| Plan | Work | library, ns | plain Rust, ns | ratio |");
+    println!("|---|---|---:|---:|---:|");
+    for plan in Plan::all() {
+        for (name, work) in WORKS {
+            let start = Pool::new(plan, work, &mut Chance::seeded(121));
+            let expected = after_pass(plan, work, ORACLE, &start);
+            for (side, whose) in [(LIBRARY, "library"), (PLAIN, "plain Rust code")] {
+                if after_pass(plan, work, side, &start) != expected {
+                    println!("bench: the {whose} and the independent decoder differ: plan {}, {name}", plan.number);
+                    std::process::exit(1);
+                }
+            }
+            let (library, plain, ratio) = timed(plan, work, &start);
+            match work {
+                Work::Copy => println!("| {} | {name} | {:.1} | | |", plan.number, library.min(plain)),
+                _ => println!("| {} | {name} | {library:.1} | {plain:.1} | {ratio:.2} |", plan.number),
+            }
+        }
+    }
+}

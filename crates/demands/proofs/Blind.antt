@@ -1,0 +1,184 @@
+-- What does not look under marks: the tests of refusal, a file, a printed grid. And lists that agree at a place. Assumes nothing.
+use mathlib.Core.Path.{_≡_, refl, sym, ap, ap₂, _∙_, subst}
+use mathlib.Core.Logic.{inl, inr}
+use mathlib.Core.Bool.{Bool, true, false, _&&_}
+use mathlib.Core.List.{List, [], _∷_, _++_, flatMap}
+use Prim.Native.Nat.{ℕ, zero, suc, _+_, _*_, _-_, _<_, _≤_}
+use native.Mathlib.Nat.{suc-inj, le-of-suc-le-suc, eq-or-lt-of-le}
+use native.Mathlib.Omega.{arith}
+use lib.Dec.{eqb, ltb}
+use lib.ListN.{length, take, drop, getD, set, length-set, length-take, length-drop}
+use lib.Seq.{sets, ext-getD}
+use Rattle.field.specs.Lists.{if_then_else_, upFrom}
+use Rattle.field.specs.Field.{size}
+use Rattle.linear.specs.Lists.{all, first, rest}
+use Rattle.linear.specs.Marks.{bitsOf}
+use Rattle.linear.proofs.Choices.{Alike}
+use Rattle.repair.specs.Plan.{Plan, known, planOf, rowAt, marksAt, marksOf}
+use Rattle.repair.specs.Refusal.{unasked, inMemory, stripeFits, wordsFit, marksFit, unmarkedBelow, symbolsFit, lentRefusal}
+use Rattle.repair.specs.File.{bytes4, fileLength, headerOf, blanked, fileOf, writeRefusal, writeFile}
+use Rattle.repair.specs.Text.{hex, lineEnd, shown, grid}
+use Rattle.demands.specs.Silence.{SameUnmarked, SilentWriting}
+use Rattle.demands.proofs.Alike.{at-alike, row-at, agree-rows}
+
+-- ---- lists of one length that agree at a place
+
+-- they agree there after the same writes
+set-alike : (s t : List ℕ) (k x i : ℕ) → length s ≡ length t → getD s i 0 ≡ getD t i 0 → getD (set s k x) i 0 ≡ getD (set t k x) i 0
+set-alike [] [] k x i l e = refl
+set-alike [] (z ∷ t) k x i l e = absurd (omega arith)
+set-alike (y ∷ s) [] k x i l e = absurd (omega arith)
+set-alike (y ∷ s) (z ∷ t) zero x zero l e = refl
+set-alike (y ∷ s) (z ∷ t) zero x (suc i) l e = e
+set-alike (y ∷ s) (z ∷ t) (suc k) x zero l e = e
+set-alike (y ∷ s) (z ∷ t) (suc k) x (suc i) l e = set-alike s t k x i (suc-inj l) e
+
+pub sets-alike : (s t : List ℕ) (k : ℕ) (xs : List ℕ) (i : ℕ) → length s ≡ length t → getD s i 0 ≡ getD t i 0
+    → getD (sets s k xs) i 0 ≡ getD (sets t k xs) i 0
+sets-alike s t k [] i l e = e
+sets-alike s t k (x ∷ xs) i l e =
+    sets-alike (set s k x) (set t k x) (suc k) xs i (length-set s k x ∙ l ∙ sym (length-set t k x)) (set-alike s t k x i l e)
+
+-- and a place that is written agrees in any case
+set-here : (s t : List ℕ) (k x : ℕ) → length s ≡ length t → getD (set s k x) k 0 ≡ getD (set t k x) k 0
+set-here [] [] k x l = refl
+set-here [] (z ∷ t) k x l = absurd (omega arith)
+set-here (y ∷ s) [] k x l = absurd (omega arith)
+set-here (y ∷ s) (z ∷ t) zero x l = refl
+set-here (y ∷ s) (z ∷ t) (suc k) x l = set-here s t k x (suc-inj l)
+
+pub sets-here : (s t : List ℕ) (k : ℕ) (xs : List ℕ) (i : ℕ) → length s ≡ length t → k ≤ i → i < k + length xs
+    → getD (sets s k xs) i 0 ≡ getD (sets t k xs) i 0
+sets-here s t k [] i l h g = absurd (omega arith)
+sets-here s t k (x ∷ xs) i l h g =
+    let l′ = length-set s k x ∙ l ∙ sym (length-set t k x) in
+    elim (eq-or-lt-of-le h) [
+      | inl e ↦ sets-alike (set s k x) (set t k x) (suc k) xs i l′
+          (subst (λ j. getD (set s k x) j 0 ≡ getD (set t k x) j 0) e (set-here s t k x l))
+      | inr j ↦ sets-here (set s k x) (set t k x) (suc k) xs i l′ j (omega arith)
+    ]
+
+pub take-alike : (n : ℕ) (s t : List ℕ) (i : ℕ) → length s ≡ length t → getD s i 0 ≡ getD t i 0 → getD (take n s) i 0 ≡ getD (take n t) i 0
+take-alike zero s t i l e = refl
+take-alike (suc n) [] [] i l e = refl
+take-alike (suc n) [] (z ∷ t) i l e = absurd (omega arith)
+take-alike (suc n) (y ∷ s) [] i l e = absurd (omega arith)
+take-alike (suc n) (y ∷ s) (z ∷ t) zero l e = e
+take-alike (suc n) (y ∷ s) (z ∷ t) (suc i) l e = take-alike n s t i (suc-inj l) e
+
+-- behind them the same stands
+pub append-behind : (s t z : List ℕ) (i : ℕ) → length s ≡ length t → length s ≤ i → getD (s ++ z) i 0 ≡ getD (t ++ z) i 0
+append-behind [] [] z i l h = refl
+append-behind [] (x ∷ t) z i l h = absurd (omega arith)
+append-behind (y ∷ s) [] z i l h = absurd (omega arith)
+append-behind (y ∷ s) (x ∷ t) z zero l h = absurd (omega arith)
+append-behind (y ∷ s) (x ∷ t) z (suc i) l h = append-behind s t z i (suc-inj l) (le-of-suc-le-suc h)
+
+-- ---- rows
+
+pub row-le : (P : Plan) (l : List ℕ) (r : ℕ) → length (rowAt P l r) ≤ P .columns
+unfolding rowAt
+row-le P l r = simp length-take (omega arith)
+
+pub row-lengths : (P : Plan) (s t : List ℕ) (r : ℕ) → length s ≡ length t → length (rowAt P s r) ≡ length (rowAt P t r)
+unfolding rowAt
+row-lengths P s t r l =
+    let k = r * P .columns in
+    let e : length (drop k s) ≡ length (drop k t) = length-drop k s ∙ ap (λ n. n - k) l ∙ sym (length-drop k t) in
+    length-take (P .columns) (drop k s) ∙ omega (arith, e) ∙ sym (length-take (P .columns) (drop k t))
+
+-- rows with the same symbols are equal
+pub row-equal : (P : Plan) (s t : List ℕ) (r : ℕ) → length s ≡ length t
+    → ((c : ℕ) → c < P .columns → getD s (r * P .columns + c) 0 ≡ getD t (r * P .columns + c) 0) → rowAt P s r ≡ rowAt P t r
+row-equal P s t r l h =
+    ext-getD 0 (rowAt P s r) (rowAt P t r) (row-lengths P s t r l) (λ c g.
+    let k : c < P .columns = omega (arith, row-le P s r) in row-at P s r c k ∙ h c k ∙ sym (row-at P t r c k))
+
+-- ---- what does not look under marks
+
+below-alike : (q : ℕ) (ms : List Bool) (v w : List ℕ) → length v ≡ length w → Alike ms v w → unmarkedBelow q ms v ≡ unmarkedBelow q ms w
+unfolding unmarkedBelow first rest
+below-alike q [] v w l a = refl
+below-alike q (m ∷ ms) [] [] l a = refl
+below-alike q (m ∷ ms) [] (y ∷ w) l a = absurd (omega arith)
+below-alike q (m ∷ ms) (x ∷ v) [] l a = absurd (omega arith)
+below-alike q (true ∷ ms) (x ∷ v) (y ∷ w) l a = below-alike q ms v w (suc-inj l) a
+below-alike q (false ∷ ms) (x ∷ v) (y ∷ w) l a = ap₂ (λ z b. ltb z q && b) (a .0) (below-alike q ms v w (suc-inj l) (a .1))
+
+blanked-alike : (ms : List Bool) (v w : List ℕ) → length v ≡ length w → Alike ms v w → blanked ms v ≡ blanked ms w
+unfolding blanked first rest
+blanked-alike [] v w l a = refl
+blanked-alike (m ∷ ms) [] [] l a = refl
+blanked-alike (m ∷ ms) [] (y ∷ w) l a = absurd (omega arith)
+blanked-alike (m ∷ ms) (x ∷ v) [] l a = absurd (omega arith)
+blanked-alike (true ∷ ms) (x ∷ v) (y ∷ w) l a = ap (λ z. 0 ∷ z) (blanked-alike ms v w (suc-inj l) a)
+blanked-alike (false ∷ ms) (x ∷ v) (y ∷ w) l a = ap₂ _∷_ (a .0) (blanked-alike ms v w (suc-inj l) (a .1))
+
+shown-alike : (ms : List Bool) (v w : List ℕ) → length v ≡ length w → Alike ms v w → shown ms v ≡ shown ms w
+unfolding shown first rest
+shown-alike [] v w l a = refl
+shown-alike (m ∷ ms) [] [] l a = refl
+shown-alike (m ∷ ms) [] (y ∷ w) l a = absurd (omega arith)
+shown-alike (m ∷ ms) (x ∷ v) [] l a = absurd (omega arith)
+shown-alike (true ∷ ms) (x ∷ v) (y ∷ w) l a = ap (λ z. 63 ∷ z) (shown-alike ms v w (suc-inj l) a)
+shown-alike (false ∷ ms) (x ∷ v) (y ∷ w) l a = ap₂ (λ x z. hex x ∷ z) (a .0) (shown-alike ms v w (suc-inj l) (a .1))
+
+-- the same for every row
+all-same : (f g : ℕ → Bool) (k n : ℕ) → ((r : ℕ) → r < k + n → f r ≡ g r) → all f (upFrom k n) ≡ all g (upFrom k n)
+unfolding all upFrom
+all-same f g k zero h = refl
+all-same f g k (suc n) h = ap₂ _&&_ (h k (omega arith)) (all-same f g (suc k) n (λ r l. h r (omega arith)))
+
+flat-same : {A : Type 0} (f g : ℕ → List A) (k n : ℕ) → ((r : ℕ) → r < k + n → f r ≡ g r) → flatMap f (upFrom k n) ≡ flatMap g (upFrom k n)
+unfolding flatMap upFrom
+flat-same f g k zero h = refl
+flat-same f g k (suc n) h = ap₂ _++_ (h k (omega arith)) (flat-same f g (suc k) n (λ r l. h r (omega arith)))
+
+-- mark words that are the same for every row of the plan mark the same places
+pub marks-same : (P : Plan) (M N : List ℕ) → ((r : ℕ) → r < P .rows → getD M r 0 ≡ getD N r 0) → marksOf P M ≡ marksOf P N
+unfolding marksOf marksAt
+marks-same P M N h = flat-same (marksAt P M) (marksAt P N) 0 (P .rows) (λ r l. ap (bitsOf (P .columns)) (h r (omega arith)))
+
+module _ (p : ℕ) (marks s t : List ℕ) (h : SameUnmarked p marks s t) where
+  abbrev Q : Plan
+  Q = planOf p
+
+  pub rows-alike : (r : ℕ) → r < Q .rows → Alike (marksAt Q marks r) (rowAt Q s r) (rowAt Q t r)
+  rows-alike = agree-rows p marks s t (h .agree)
+
+  pub symbols-same : symbolsFit Q marks s ≡ symbolsFit Q marks t
+  unfolding symbolsFit
+  symbols-same =
+      all-same (λ r. unmarkedBelow (size (Q .field)) (marksAt Q marks r) (rowAt Q s r))
+      (λ r. unmarkedBelow (size (Q .field)) (marksAt Q marks r) (rowAt Q t r)) 0 (Q .rows) (λ r l.
+      below-alike (size (Q .field)) (marksAt Q marks r) (rowAt Q s r) (rowAt Q t r) (row-lengths Q s t r (h .long)) (rows-alike r (omega arith)))
+
+  pub lent-same : lentRefusal p s marks ≡ lentRefusal p t marks
+  unfolding lentRefusal stripeFits
+  lent-same =
+      ap₂ (λ n z. inMemory (known p) (eqb n (Q .rows * Q .columns) && wordsFit Q marks) unasked (marksFit Q marks) z unasked unasked)
+      (h .long) symbols-same
+
+  pub grid-same : grid Q s marks ≡ grid Q t marks
+  unfolding grid
+  grid-same =
+      flat-same (λ r. shown (marksAt Q marks r) (rowAt Q s r) ++ lineEnd) (λ r. shown (marksAt Q marks r) (rowAt Q t r) ++ lineEnd) 0 (Q .rows)
+      (λ r l.
+      ap (λ z. z ++ lineEnd)
+      (shown-alike (marksAt Q marks r) (rowAt Q s r) (rowAt Q t r) (row-lengths Q s t r (h .long)) (rows-alike r (omega arith))))
+
+-- ---- writing a file
+
+pub silent-writing : SilentWriting
+unfolding writeRefusal writeFile fileOf stripeFits
+silent-writing p marks s t file h =
+    let P = planOf p in
+    let e : writeRefusal p s marks file ≡ writeRefusal p t marks file =
+    ap₂ (λ n z.
+    inMemory (known p) (eqb n (P .rows * P .columns) && wordsFit P marks && eqb (length file) (fileLength P)) unasked (marksFit P marks) z unasked
+    unasked)
+    (h .long) (symbols-same p marks s t h) in (
+      e,
+      ap₂ (λ n bytes. if eqb n 0 then headerOf p ++ flatMap bytes4 marks ++ bytes else file) e
+          (blanked-alike (marksOf P marks) s t (h .long) (at-alike (marksOf P marks) s t (h .agree))),
+    )

@@ -1,0 +1,75 @@
+use denote.Ref.{now}
+use Rattle.repair.proofs.Files.{write-fit, parts-put}
+use Rattle.repair.proofs.Fit.{LentFit}
+use Rattle.repair.specs.Plan.{planOf}
+use Rattle.repair.specs.File.{bytes2, marksOffset, symbolsOffset, fileLength, headerOf, writeRefusal}
+use lib.ListN.{length}
+use mathlib.Core.Path.{_≡_, ap}
+use native.Mathlib.Omega.{arith}
+use borrow.Author.Needs.{needs}
+use Rattle.repair.proofs.file.put_file.Statement.{statement}
+use Rattle.repair.proofs.file.put_file.Tie as tie
+use Rattle.repair.proofs.file.put_file.Reads as reads
+use Rattle.repair.proofs.file.put_file.Lts as lts
+use Rattle.repair.proofs.buffer.put.Reads as put-reads
+use Rattle.repair.proofs.file.header_of.Reads as header-of-reads
+use Rattle.repair.proofs.file.put_marks.Reads as put-marks-reads
+use Rattle.repair.proofs.file.put_symbols.Reads as put-symbols-reads
+
+fit : (c : tie.Start)
+    → let a = c .args in LentFit (a .plan) (now (a .stripe)) (now (a .marks)) × (length (now (a .file)) ≡ fileLength (planOf (a .plan)))
+fit c = write-fit _ _ _ _ (c .pre)
+
+header-of-requires : tie.Need-header-of-requires
+header-of-requires c κs = fit (c .before .before .before) .0 .plan-known
+
+slice-aggregate-put : tie.Need-slice-aggregate-put
+slice-aggregate-put c = search needs
+
+put-requires : tie.Need-put-requires
+unfolding bytes2 marksOffset symbolsOffset fileLength headerOf
+put-requires c κs = omega (arith, ap length (c .before .before .header-of .ensures), fit (c .before .before .before .before .before .before) .1)
+
+put-marks-requires : tie.Need-put-marks-requires
+unfolding bytes2 marksOffset symbolsOffset fileLength headerOf
+put-marks-requires c κs =
+    let put = c .before .before .before .put in
+    omega (arith, put .ensures .reached, put .kept .1 .0, ap length (c .before .before .before .before .before .before .header-of .ensures), fit (c .before .before .before .before .before .before .before .before .before .before) .0 .words, fit (c .before .before .before .before .before .before .before .before .before .before) .1)
+
+put-symbols-requires : tie.Need-put-symbols-requires
+unfolding bytes2 marksOffset symbolsOffset fileLength headerOf
+put-symbols-requires c κs =
+    let put = c .before .before .before .before .before .before .before .put in
+    let marks = c .before .before .before .put-marks in
+    let f = fit (c .before .before .before .before .before .before .before .before .before .before .before .before .before .before) in (
+      f .0 .plan-known,
+      (
+        f .0 .words,
+        (
+          f .0 .long,
+          omega (arith, put .ensures .reached, put .kept .1 .0, marks .ensures .0, marks .kept .1 .0, ap length (c .before .before .before .before .before .before .before .before .before .before .header-of .ensures), f .0 .words, f .0 .long, f .1),
+        ),
+      ),
+    )
+
+same-length : tie.Need-same-length
+same-length c = search needs
+
+returns : tie.Need-returns
+returns c =
+    let put = c .before .before .before .before .before .before .before .before .before .before .put .ensures in
+    let marks = c .before .before .before .before .before .before .put-marks .ensures in
+    let f = fit (c .before .before .before .before .before .before .before .before .before .before .before .before .before .before .before .before .before) in
+    parts-put _ _ _ (f .0) _ (f .1) (c .before .before .before .before .before .before .before .before .before .before .before .before .before .header-of .ensures) (put .written) (put .reached) (marks .1) (marks .0) (c .before .before .put-symbols .ensures)
+
+pub put-file-spec : {M : Type 1} → statement M
+put-file-spec =
+    tie.close
+    (tie.spec
+    header-of-requires
+    slice-aggregate-put
+    put-requires
+    put-marks-requires
+    put-symbols-requires
+    same-length
+    returns)

@@ -1,0 +1,50 @@
+use native.Mathlib.Omega.{arith}
+use Rattle.repair.specs.File.{wordAt}
+use borrow.Author.Needs.{needs}
+use Rattle.repair.proofs.file.word_at.Statement.{statement}
+use Rattle.repair.proofs.file.word_at.Tie as tie
+use Rattle.repair.proofs.file.word_at.Reads as reads
+use Rattle.repair.proofs.file.word_at.Lts as lts
+use Rattle.repair.proofs.file.word_of.Reads as word-of-reads
+
+shared-slice-read-word-of : tie.Need-shared-slice-read-word-of
+shared-slice-read-word-of c = search needs
+
+add-word-of : tie.Need-add-word-of
+add-word-of c = search needs
+
+shared-slice-read-word-of-2 : tie.Need-shared-slice-read-word-of-2
+shared-slice-read-word-of-2 c = search needs
+
+add-word-of-2 : tie.Need-add-word-of-2
+add-word-of-2 c = search needs
+
+shared-slice-read-word-of-3 : tie.Need-shared-slice-read-word-of-3
+shared-slice-read-word-of-3 c = search needs
+
+add-word-of-3 : tie.Need-add-word-of-3
+add-word-of-3 c = search needs
+
+shared-slice-read-word-of-4 : tie.Need-shared-slice-read-word-of-4
+shared-slice-read-word-of-4 c = search needs
+
+word-of-requires : tie.Need-word-of-requires
+word-of-requires c κs = search needs
+
+returns : tie.Need-returns
+unfolding wordAt
+returns c = search needs
+
+pub word-at-spec : {M : Type 1} → statement M
+word-at-spec =
+    tie.close
+    (tie.spec
+    shared-slice-read-word-of
+    add-word-of
+    shared-slice-read-word-of-2
+    add-word-of-2
+    shared-slice-read-word-of-3
+    add-word-of-3
+    shared-slice-read-word-of-4
+    word-of-requires
+    returns)

@@ -1,0 +1,40 @@
+use Rattle.repair.proofs.Writing.{put-then}
+use Rattle.repair.specs.Text.{bytes, item, lineEnd}
+use native.Mathlib.Omega.{arith}
+use borrow.Author.Needs.{needs}
+use Rattle.repair.proofs.lines.put_refusal.Statement.{statement}
+use Rattle.repair.proofs.lines.put_refusal.Tie as tie
+use Rattle.repair.proofs.lines.put_refusal.Reads as reads
+use Rattle.repair.proofs.lines.put_refusal.Lts as lts
+use Rattle.repair.proofs.buffer.put.Reads as put-reads
+use Rattle.repair.proofs.lines.put_item.Reads as put-item-reads
+
+slice-aggregate-put-item : tie.Need-slice-aggregate-put-item
+slice-aggregate-put-item c = search needs
+
+put-item-requires : tie.Need-put-item-requires
+put-item-requires c κs = search needs
+
+slice-aggregate-put : tie.Need-slice-aggregate-put
+slice-aggregate-put c = search needs
+
+put-requires : tie.Need-put-requires
+put-requires c κs = search needs
+
+same-length : tie.Need-same-length
+same-length c = search needs
+
+returns : tie.Need-returns
+unfolding bytes item lineEnd
+returns c = put-then (c .before .before .before .before .before .before .before .put-item .ensures .0) (c .before .before .put .ensures)
+
+pub put-refusal-spec : {M : Type 1} → statement M
+put-refusal-spec =
+    tie.close
+    (tie.spec
+    slice-aggregate-put-item
+    put-item-requires
+    slice-aggregate-put
+    put-requires
+    same-length
+    returns)

@@ -1,0 +1,22 @@
+use Rattle.repair.proofs.Writing.{put-padded}
+use native.Mathlib.Nat.{zero-add}
+use mathlib.Core.Path.{_∙_}
+use native.Mathlib.Omega.{arith}
+use borrow.Author.Needs.{needs}
+use Rattle.repair.proofs.text.Statement.{statement}
+use Rattle.repair.proofs.text.Tie as tie
+use Rattle.repair.proofs.text.Reads as reads
+use Rattle.repair.proofs.text.Lts as lts
+use Rattle.repair.proofs.lines.put_text.Reads as put-text-reads
+
+slice-aggregate-put-text : tie.Need-slice-aggregate-put-text
+slice-aggregate-put-text c = search needs
+
+put-text-requires : tie.Need-put-text-requires
+put-text-requires c κs = search needs
+
+returns : tie.Need-returns
+returns c = let p = c .before .put-text .ensures in (p .reached ∙ zero-add _, put-padded 320 p)
+
+pub text-spec : {M : Type 1} → statement M
+text-spec = tie.close (tie.spec slice-aggregate-put-text put-text-requires returns)

@@ -1,0 +1,49 @@
+//! Holds the library to the independent decoder, call by call, and the program `mend` to the decoder's text.
+//!
+//!     main [PROGRAM]     every group; the program's runs only where its path is given
+//!     main again LINE    one call again, from the line that a difference printed
+
+mod calls;
+mod coding;
+mod files;
+mod ledger;
+mod mending;
+mod orders;
+mod program;
+mod refusals;
+mod sheet_cases;
+mod silence;
+mod steps;
+mod throughout;
+
+use ledger::Ledger;
+
+fn main() {
+    let words: Vec<String> = std::env::args().skip(1).collect();
+    match words.iter().map(String::as_str).collect::<Vec<&str>>()[..] {
+        [] => every_group(None),
+        ["again", line] => ledger::again(line),
+        [program] => every_group(Some(program)),
+        _ => ledger::differ("usage: main [PROGRAM] or main again LINE"),
+    }
+}
+
+fn every_group(program: Option<&str>) {
+    let mut ledger = Ledger::new();
+    ledger.group("bench sheet", sheet_cases::calls);
+    ledger.group("refusals, every set of flaws", refusals::calls);
+    ledger.group("plan 1 throughout", throughout::calls);
+    ledger.group("codeword test, encoding, extraction", coding::calls);
+    ledger.group("mending in one call", mending::calls);
+    ledger.group("bytes under marks", silence::calls);
+    ledger.group("steps on fit benches", steps::fit_benches);
+    ledger.group("steps on any bytes", steps::any_bytes);
+    ledger.group("orders of steps", orders::calls);
+    ledger.group("files and their text", files::calls);
+    ledger.group("any bytes as a file", files::any_bytes);
+    match program {
+        Some(path) => ledger.group("the program mend", |ledger| program::runs(ledger, path)),
+        None => println!("the program mend: not run"),
+    }
+    ledger.close();
+}

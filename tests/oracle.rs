@@ -1,0 +1,30 @@
+//! The independent decoder: what the library must answer, found by other means.
+//!
+//! It is written from the requirements and from the paper alone, and shares no line and no table with
+//! the library. The library goes row by row and eliminates over the plan's field. Here everything is
+//! a sum of bits: a symbol of GF(16) is four bits, multiplying by a fixed element is linear in them, and
+//! columns over GF(16) are independent exactly if their bits are. So one small tool, `binary::Span`,
+//! which says whether a vector of bits is a sum of given ones, serves all three plans:
+//!
+//! - the codeword test, encoding and `stripe::agreeing` take all checks of the stripe at once, as the paper's
+//!   matrix H has them;
+//! - mending takes the checks of all rows up to a level as one system, a level at a time;
+//! - the steps of the bench ask the rank of one row's checks, or of one level's weights.
+//!
+//! The ten functions below have the buffers and the answers of the library's C names.
+
+pub mod answers;
+pub mod bench;
+pub mod binary;
+pub mod file;
+pub mod mending;
+pub mod plan;
+pub mod stripe;
+pub mod text;
+
+pub use bench::{level_step, row_step, start};
+pub use file::{read_file, write_file};
+pub use mending::mend;
+pub use plan::Plan;
+pub use stripe::{encode, extract, is_codeword};
+pub use text::text;

@@ -1,0 +1,163 @@
+//! The bench and its steps, on the 418 bytes that hold it.
+//! A step asks for the rank of one row's checks, or of one level's weights, as vectors of bits.
+
+use super::answers::*;
+use super::binary::{Bits, Span};
+use super::plan::{marked, Plan};
+
+const LEVEL: usize = 1;
+const SYMBOLS: usize = 2;
+const MARKS: usize = 258;
+const SUMS: usize = 290;
+const SUMS_OF_A_ROW: usize = 16;
+
+/// The first of the refusals 12 and 13 that a stripe and its marks call for.
+pub fn marks_and_symbols_refusal(plan: &Plan, stripe: &[u8], marks: &[u32]) -> Result<(), usize> {
+    if marks.iter().any(|&word| (plan.columns..32).any(|column| marked(word, column))) {
+        return Err(MARK_OUTSIDE);
+    }
+    let too_large = |place: usize| stripe[place] as usize >= plan.q();
+    let known = |place: usize| !marked(marks[place / plan.columns], place % plan.columns);
+    if (0..plan.symbols()).any(|place| known(place) && too_large(place)) {
+        return Err(NOT_BELOW_Q);
+    }
+    Ok(())
+}
+
+/// The plan, unless a stripe, its marks and whatever else is lent are to be refused.
+pub fn lent(plan: usize, stripe: &[u8], marks: &[u32], rest_fits: impl Fn(&Plan) -> bool) -> Result<&'static Plan, usize> {
+    let plan = Plan::numbered(plan).ok_or(UNKNOWN_PLAN)?;
+    if stripe.len() != plan.symbols() || marks.len() != plan.rows || !rest_fits(plan) {
+        return Err(WRONG_LENGTH);
+    }
+    marks_and_symbols_refusal(plan, stripe, marks)?;
+    Ok(plan)
+}
+
+/// A fresh bench. One of wrong length stays as it is; one of the right length is all 0 after a refusal.
+pub fn start(plan: usize, stripe: &[u8], marks: &[u32], bench: &mut [u8]) -> usize {
+    let fits = bench.len() == BENCH_LENGTH;
+    let refusal = lent(plan, stripe, marks, |_| fits).err();
+    if fits {
+        bench.fill(0);
+    }
+    if let Some(number) = refusal {
+        return number;
+    }
+    bench[0] = plan as u8;
+    bench[LEVEL] = 1;
+    bench[SYMBOLS..SYMBOLS + stripe.len()].copy_from_slice(stripe);
+    for (row, word) in marks.iter().enumerate() {
+        bench[MARKS + 4 * row..][..4].copy_from_slice(&word.to_le_bytes());
+    }
+    DONE
+}
+
+/// What the 418 bytes say, once none of it is refused.
+pub struct Bench {
+    pub plan: &'static Plan,
+    pub level: usize,
+    pub symbols: Vec<u8>,
+    pub marks: Vec<u32>,
+}
+
+/// Reads a bench, or says why a step refuses it: 10, 15, 12 or 13. A bench of wrong length is 11 before all.
+pub fn read(bench: &[u8]) -> Result<Bench, usize> {
+    if bench.len() != BENCH_LENGTH {
+        return Err(WRONG_LENGTH);
+    }
+    let plan = Plan::numbered(bench[0] as usize).ok_or(UNKNOWN_PLAN)?;
+    let level = bench[LEVEL] as usize;
+    if level < 1 || level > plan.last() {
+        return Err(LEVEL_OUTSIDE);
+    }
+    let symbols = bench[SYMBOLS..][..plan.symbols()].to_vec();
+    let words = bench[MARKS..SUMS].chunks(4).take(plan.rows);
+    let marks: Vec<u32> = words.map(|word| word.iter().rev().fold(0, |sum, &byte| sum << 8 | byte as u32)).collect();
+    marks_and_symbols_refusal(plan, &symbols, &marks)?;
+    let mut sums = (0..plan.rows).flat_map(|row| &bench[SUMS + SUMS_OF_A_ROW * row..][..plan.sums_to(level)]);
+    if sums.any(|&sum| sum as usize >= plan.q()) {
+        return Err(NOT_BELOW_Q);
+    }
+    Ok(Bench { plan, level, symbols, marks })
+}
+
+/// A row's learned sums up to the bench's level.
+fn learned(bench: &[u8], plan: &Plan, level: usize, row: usize) -> Bits {
+    let sums = bench[SUMS + SUMS_OF_A_ROW * row..][..plan.sums_to(level)].iter().enumerate();
+    sums.fold(Bits::default(), |all, (j, &sum)| all.plus(Bits::number(plan.sum_at(row, j), sum)))
+}
+
+/// The sums of all levels that the unmarked symbols of one row have.
+fn known_sums(plan: &Plan, symbols: &[u8], row: usize, word: u32) -> Bits {
+    let bits = plan.set_bits(symbols, |at, column| at == row && !marked(word, column));
+    bits.fold(Bits::default(), |sum, (row, column, bit)| sum.plus(plan.row_share(row, column, bit)))
+}
+
+pub fn row_step(bench: &mut [u8], row: usize) -> usize {
+    let Bench { plan, level, symbols, marks } = match read(bench) {
+        Ok(held) => held,
+        Err(number) => return number,
+    };
+    if row >= plan.rows {
+        return ROW_OUTSIDE;
+    }
+    let word = marks[row];
+    let unknown = plan.bits_of(|at, column| at == row && marked(word, column));
+    let checks = plan.up_to(level);
+    let columns = Span::of(unknown.iter().map(|&(row, column, bit)| plan.row_share(row, column, bit).within(checks)));
+    if !columns.independent() {
+        return TIED;
+    }
+    let missing = known_sums(plan, &symbols, row, word).within(checks).plus(learned(bench, plan, level, row));
+    let Some(ones) = columns.reach(missing) else { return CLASH };
+    if word == 0 {
+        return WHOLE;
+    }
+    let at = |column: usize| SYMBOLS + row * plan.columns + column;
+    unknown.iter().for_each(|&(_, column, _)| bench[at(column)] = 0);
+    for (n, &(_, column, bit)) in unknown.iter().enumerate() {
+        bench[at(column)] |= (ones.has(n) as u8) << bit;
+    }
+    bench[MARKS + 4 * row..][..4].fill(0);
+    FILLED
+}
+
+pub fn level_step(bench: &mut [u8]) -> usize {
+    let Bench { plan, level, symbols, marks } = match read(bench) {
+        Ok(held) => held,
+        Err(number) => return number,
+    };
+    if level == plan.last() {
+        return TOP;
+    }
+    let next = level + 1;
+    let first = plan.sums_to(level);
+    let bits = sum_bits(plan, next);
+    let (unknown, known): (Vec<_>, Vec<_>) = bits.into_iter().partition(|&(row, _, _)| marks[row] != 0);
+    let weights = Span::of(unknown.iter().map(|&(row, sum, bit)| plan.total_share(next, row, sum, bit)));
+    if !weights.independent() {
+        return BLOCKED;
+    }
+    let own: Vec<Bits> = (0..plan.rows).map(|row| known_sums(plan, &symbols, row, 0)).collect();
+    let is_set = |row: usize, sum: usize, bit: usize| own[row].has(plan.sum_at(row, first + sum) + bit);
+    let ones = known.iter().filter(|&&(row, sum, bit)| is_set(row, sum, bit));
+    let total = ones.fold(Bits::default(), |all, &(row, sum, bit)| all.plus(plan.total_share(next, row, sum, bit)));
+    let Some(found) = weights.reach(total) else { return CLASH };
+    let at = |row: usize, sum: usize| SUMS + SUMS_OF_A_ROW * row + first + sum;
+    unknown.iter().chain(&known).for_each(|&(row, sum, _)| bench[at(row, sum)] = 0);
+    for &(row, sum, bit) in &known {
+        bench[at(row, sum)] |= (is_set(row, sum, bit) as u8) << bit;
+    }
+    for (n, &(row, sum, bit)) in unknown.iter().enumerate() {
+        bench[at(row, sum)] |= (found.has(n) as u8) << bit;
+    }
+    bench[LEVEL] = next as u8;
+    RAISED
+}
+
+/// Every bit of every row's sums of one level: row, sum, bit.
+pub fn sum_bits(plan: &Plan, level: usize) -> Vec<(usize, usize, usize)> {
+    let (sums, width) = (plan.levels[level - 1].sums, plan.width);
+    (0..plan.rows * sums * width).map(|n| (n / (sums * width), n / width % sums, n % width)).collect()
+}

@@ -1,0 +1,6 @@
+//! What the test programs and the benchmark share: the independent decoder, and the making of cases.
+
+pub mod chance;
+pub mod damage;
+pub mod oracle;
+pub mod sheet;

@@ -1,0 +1,291 @@
+//! Refusals: each function with every set of flaws. The number expected is that of the set's first flaw in the order of the
+//! requirements, by construction and not by the independent decoder, and nothing may change.
+
+use crate::calls::{Buffer, Call, Function, FUNCTIONS};
+use crate::ledger::Ledger;
+use outside::chance::Chance;
+use outside::damage::{self, Marks};
+use outside::oracle::answers::*;
+use outside::oracle::plan::marked;
+use outside::oracle::{file, Plan};
+
+const ROUNDS: usize = 8;
+
+/// Numbers that are no plan, among them some that are one in their low bits.
+const UNKNOWN_PLANS: [usize; 10] = [0, 4, 5, 17, 255, 256, 257, 65_537, (1 << 32) + 1, usize::MAX];
+
+/// What can be wrong with a call.
+#[derive(Clone, Copy)]
+enum Flaw {
+    UnknownPlan,
+    /// The length of the buffer of that number.
+    Length(usize),
+    BenchLevel,
+    MarkOutside,
+    /// An unmarked symbol, or a data symbol.
+    Symbol,
+    Sum,
+    Row,
+    NoCodeword,
+    ShortFile,
+    FileLength,
+    Header,
+    ByteUnderMark,
+}
+
+impl Flaw {
+    fn number(self) -> usize {
+        match self {
+            Flaw::UnknownPlan => UNKNOWN_PLAN,
+            Flaw::Length(_) => WRONG_LENGTH,
+            Flaw::BenchLevel => LEVEL_OUTSIDE,
+            Flaw::MarkOutside => MARK_OUTSIDE,
+            Flaw::Symbol | Flaw::Sum => NOT_BELOW_Q,
+            Flaw::Row => ROW_OUTSIDE,
+            Flaw::NoCodeword => NO_CODEWORD,
+            Flaw::ShortFile | Flaw::FileLength => FILE_LENGTH,
+            Flaw::Header => HEADER,
+            Flaw::ByteUnderMark => BYTE_UNDER_MARK,
+        }
+    }
+}
+
+/// The flaws that a function can meet, the one that is refused first standing first.
+fn flaws(function: Function) -> Vec<Flaw> {
+    use Flaw::*;
+    match function {
+        Function::Start | Function::Mend | Function::WriteFile => {
+            vec![UnknownPlan, Length(0), Length(1), Length(2), MarkOutside, Symbol]
+        }
+        Function::RowStep => vec![Length(0), UnknownPlan, BenchLevel, MarkOutside, Symbol, Sum, Row],
+        Function::LevelStep => vec![Length(0), UnknownPlan, BenchLevel, MarkOutside, Symbol, Sum],
+        Function::IsCodeword => vec![UnknownPlan, Length(0), Symbol],
+        Function::Encode => vec![UnknownPlan, Length(0), Length(1), Symbol],
+        Function::Extract => vec![UnknownPlan, Length(0), Length(1), Symbol, NoCodeword],
+        Function::ReadFile => {
+            vec![ShortFile, UnknownPlan, Header, FileLength, Length(1), Length(2), MarkOutside, Symbol, ByteUnderMark]
+        }
+        Function::Text => {
+            vec![Length(1), Length(2), ShortFile, UnknownPlan, Header, FileLength, MarkOutside, Symbol, ByteUnderMark]
+        }
+    }
+}
+
+pub fn calls(ledger: &mut Ledger) {
+    let mut chance = Chance::seeded(91);
+    for function in FUNCTIONS {
+        let all = flaws(function);
+        for plan in Plan::all() {
+            for set in 0..1u32 << all.len() {
+                let chosen: Vec<Flaw> = (0..all.len()).filter(|n| set >> n & 1 == 1).map(|n| all[n]).collect();
+                if plan.columns == 32 && chosen.iter().any(|flaw| matches!(flaw, Flaw::MarkOutside)) {
+                    continue;
+                }
+                (0..ROUNDS).for_each(|_| one_set(ledger, function, plan, &chosen, &mut chance));
+            }
+        }
+    }
+}
+
+fn one_set(ledger: &mut Ledger, function: Function, plan: &Plan, flaws: &[Flaw], chance: &mut Chance) {
+    let mut call = fit_call(function, plan, chance);
+    // What is refused last is spoilt first, so that a buffer is cut only after its content is spoilt.
+    flaws.iter().rev().for_each(|&flaw| spoil(&mut call, plan, flaw, chance));
+    let outcome = ledger.hold(&call);
+    match flaws.first() {
+        None => ledger.demand(outcome.number < UNKNOWN_PLAN, "a fit call is refused", &call),
+        Some(first) => {
+            ledger.demand(outcome.number == first.number(), &format!("refusal {} is due", first.number()), &call);
+            let left = left_by_refusal(&call, outcome.number);
+            ledger.demand(outcome.buffers == left, "a refusal leaves other buffers behind", &call);
+            if function == Function::Start && outcome.buffers[2].bytes().len() == BENCH_LENGTH {
+                refused_bench(ledger, outcome.buffers[2].bytes(), chance);
+            }
+        }
+    }
+}
+
+/// The buffers after a refusal: as they were. But a refused start writes a bench of zeros where it fits, and a refused file
+/// has a text.
+fn left_by_refusal(call: &Call, number: usize) -> Vec<Buffer> {
+    let mut buffers = call.buffers.clone();
+    if call.function == Function::Start && buffers[2].bytes().len() == BENCH_LENGTH {
+        buffers[2] = Buffer::Bytes(vec![0; BENCH_LENGTH]);
+    }
+    if call.function == Function::Text && number != WRONG_LENGTH {
+        let mut text = format!("refused {number}\n").into_bytes();
+        buffers[2] = Buffer::Bytes(vec![text.len() as u8, 0]);
+        text.resize(TEXT_LENGTH, 0);
+        buffers[1] = Buffer::Bytes(text);
+    }
+    buffers
+}
+
+/// Every step refuses the bench of a refused start with 10.
+fn refused_bench(ledger: &mut Ledger, bench: &[u8], chance: &mut Chance) {
+    for call in [Call::row_step(bench, chance.below(9)), Call::level_step(bench)] {
+        let outcome = ledger.hold(&call);
+        ledger.demand(outcome.number == UNKNOWN_PLAN, "a refused bench is not refused with 10", &call);
+    }
+}
+
+/// A call that nothing refuses.
+fn fit_call(function: Function, plan: &Plan, chance: &mut Chance) -> Call {
+    let p = plan.number;
+    let word = damage::codeword(plan, chance);
+    let marks = damage::marks(plan, Marks::Sparse(4), chance);
+    let lent = damage::any_under_marks(plan, &word, &marks, chance);
+    let (symbols, carried) = (chance.bytes(plan.symbols()), chance.bytes(plan.carried()));
+    match function {
+        Function::Start => Call::start(p, &lent, &marks, &chance.bytes(BENCH_LENGTH)),
+        Function::Mend => Call::mend(p, &lent, &marks, &chance.bytes(REPORT_LENGTH)),
+        Function::WriteFile => Call::write_file(p, &lent, &marks, &chance.bytes(plan.file_length())),
+        Function::RowStep => Call::row_step(&fit_bench(plan, &lent, &marks, chance), chance.below(plan.rows)),
+        Function::LevelStep => Call::level_step(&fit_bench(plan, &lent, &marks, chance)),
+        Function::IsCodeword => Call::is_codeword(p, &word),
+        Function::Encode => Call::encode(p, &chance.bytes_below(plan.q(), plan.carried()), &symbols),
+        Function::Extract => Call::extract(p, &word, &carried),
+        Function::ReadFile => {
+            let words: Vec<u32> = (0..plan.rows).map(|_| chance.word() as u32).collect();
+            Call::read_file(&fit_file(plan, &word, &marks), &symbols, &words)
+        }
+        Function::Text => {
+            Call::text(&fit_file(plan, &word, &marks), &chance.bytes(TEXT_LENGTH), &chance.bytes(COUNT_LENGTH))
+        }
+    }
+}
+
+fn fit_file(plan: &Plan, stripe: &[u8], marks: &[u32]) -> Vec<u8> {
+    let mut bytes = vec![0; plan.file_length()];
+    file::write_file(plan.number, stripe, marks, &mut bytes);
+    bytes
+}
+
+fn fit_bench(plan: &Plan, stripe: &[u8], marks: &[u32], chance: &mut Chance) -> Vec<u8> {
+    let mut bench = vec![0; BENCH_LENGTH];
+    outside::oracle::start(plan.number, stripe, marks, &mut bench);
+    bench[1] = 1 + chance.below(plan.last()) as u8;
+    bench
+}
+
+/// Where a call keeps its symbols and its marks: the buffer and the first place in it.
+struct Layout {
+    symbols: (usize, usize),
+    marks: Option<(usize, usize)>,
+}
+
+fn layout(function: Function, plan: &Plan) -> Layout {
+    match function {
+        Function::Start | Function::Mend | Function::WriteFile => Layout { symbols: (0, 0), marks: Some((1, 0)) },
+        Function::RowStep | Function::LevelStep => Layout { symbols: (0, 2), marks: Some((0, 258)) },
+        Function::ReadFile | Function::Text => Layout { symbols: (0, 8 + 4 * plan.rows), marks: Some((0, 8)) },
+        Function::IsCodeword | Function::Encode | Function::Extract => Layout { symbols: (0, 0), marks: None },
+    }
+}
+
+fn bytes_of(call: &mut Call, buffer: usize) -> &mut Vec<u8> {
+    match &mut call.buffers[buffer] {
+        Buffer::Bytes(bytes) => bytes,
+        Buffer::Words(_) => panic!("the buffer holds words"),
+    }
+}
+
+fn mark_word(call: &Call, plan: &Plan, row: usize) -> u32 {
+    match layout(call.function, plan).marks.map(|(buffer, at)| (&call.buffers[buffer], at)) {
+        None => 0,
+        Some((Buffer::Words(words), at)) => words[at + row],
+        Some((Buffer::Bytes(bytes), at)) => {
+            bytes[at + 4 * row..][..4].iter().rev().fold(0, |word, &byte| word << 8 | byte as u32)
+        }
+    }
+}
+
+fn set_mark_word(call: &mut Call, plan: &Plan, row: usize, word: u32) {
+    match layout(call.function, plan).marks.map(|(buffer, at)| (&mut call.buffers[buffer], at)) {
+        None => panic!("{} takes no marks", call.function.name()),
+        Some((Buffer::Words(words), at)) => words[at + row] = word,
+        Some((Buffer::Bytes(bytes), at)) => bytes[at + 4 * row..][..4].copy_from_slice(&word.to_le_bytes()),
+    }
+}
+
+/// A place that bears no mark. For encoding it is a place among the data.
+fn unmarked_place(call: &Call, plan: &Plan, chance: &mut Chance) -> usize {
+    let places = if call.function == Function::Encode { plan.carried() } else { plan.symbols() };
+    loop {
+        let place = chance.below(places);
+        if !marked(mark_word(call, plan, place / plan.columns), place % plan.columns) {
+            return place;
+        }
+    }
+}
+
+fn not_below_q(plan: &Plan, chance: &mut Chance) -> u8 {
+    if chance.one_in(2) {
+        plan.q() as u8
+    } else {
+        (plan.q() + chance.below(256 - plan.q())) as u8
+    }
+}
+
+fn spoil(call: &mut Call, plan: &Plan, flaw: Flaw, chance: &mut Chance) {
+    let in_a_buffer = matches!(call.function, Function::RowStep | Function::LevelStep | Function::ReadFile | Function::Text);
+    match flaw {
+        Flaw::UnknownPlan if in_a_buffer => bytes_of(call, 0)[0] = chance.pick(&[0, 4, 5, 129, 255]),
+        Flaw::UnknownPlan => call.number = chance.pick(&UNKNOWN_PLANS),
+        Flaw::Length(buffer) => other_length(&mut call.buffers[buffer], chance),
+        Flaw::BenchLevel => bytes_of(call, 0)[1] = chance.pick(&[0, plan.last() as u8 + 1, 4, 255]),
+        Flaw::MarkOutside => {
+            let row = chance.below(plan.rows);
+            let word = mark_word(call, plan, row) | 1 << (plan.columns + chance.below(32 - plan.columns));
+            set_mark_word(call, plan, row, word);
+        }
+        Flaw::Symbol => {
+            let (buffer, at) = layout(call.function, plan).symbols;
+            let place = at + unmarked_place(call, plan, chance);
+            bytes_of(call, buffer)[place] = not_below_q(plan, chance);
+        }
+        Flaw::Sum => {
+            let level = bytes_of(call, 0)[1] as usize;
+            let place = 290 + 16 * chance.below(plan.rows) + chance.below(plan.sums_to(level));
+            bytes_of(call, 0)[place] = not_below_q(plan, chance);
+        }
+        Flaw::Row => call.number = chance.pick(&[plan.rows, plan.rows + 1, 8, 255, 256, 1 << 32, usize::MAX]),
+        Flaw::NoCodeword => {
+            let place = chance.below(plan.symbols());
+            bytes_of(call, 0)[place] ^= 1 + chance.below(plan.q() - 1) as u8;
+        }
+        Flaw::ShortFile => bytes_of(call, 0).truncate(chance.below(8)),
+        Flaw::FileLength => {
+            let length = chance.pick(&[8, 9, plan.file_length() - 1, plan.file_length() + 1, 300, 1000]);
+            bytes_of(call, 0).resize(length, 0);
+        }
+        Flaw::Header => {
+            let at = 1 + chance.below(7);
+            bytes_of(call, 0)[at] ^= 1 << chance.below(8);
+        }
+        Flaw::ByteUnderMark => {
+            let place = unmarked_place(call, plan, chance);
+            let (row, column) = (place / plan.columns, place % plan.columns);
+            let word = mark_word(call, plan, row) | 1 << column;
+            set_mark_word(call, plan, row, word);
+            bytes_of(call, 0)[8 + 4 * plan.rows + place] = 1 + chance.below(255) as u8;
+        }
+    }
+}
+
+/// Gives a buffer another length: none at all, one more, one less, or far off.
+fn other_length(buffer: &mut Buffer, chance: &mut Chance) {
+    let choose = |length: usize, chance: &mut Chance| {
+        let lengths = [0, 1, length - 1, length + 1, length + 64, 21, 120, 256, 3, 8];
+        loop {
+            let other = chance.pick(&lengths);
+            if other != length {
+                return other;
+            }
+        }
+    };
+    match buffer {
+        Buffer::Bytes(bytes) => bytes.resize(choose(bytes.len(), chance), 0),
+        Buffer::Words(words) => words.resize(choose(words.len(), chance), 0),
+    }
+}

@@ -1,0 +1,396 @@
+//! Holds the independent decoder itself to account: against the bench sheet, the example file, a listing of plan 1,
+//! the plans' parameters, and what the requirements say of every answer. The library has no part in it.
+
+mod listing;
+
+use listing::{End, Learned, Step};
+use outside::chance::Chance;
+use outside::damage::{self, Content, Marks, CONTENTS, MARKS};
+use outside::oracle::answers::*;
+use outside::oracle::binary::Span;
+use outside::oracle::mending::mended;
+use outside::oracle::plan::{marked, power, times16, times32};
+use outside::oracle::stripe::{agreeing, holds, rank, Agreeing};
+use outside::oracle::{self, Plan};
+use outside::sheet;
+
+/// Counts the checks, and stops at the first that fails.
+#[derive(Default)]
+struct Tally {
+    total: u64,
+}
+
+impl Tally {
+    fn group(&mut self, name: &str, checks: impl Fn(&mut Tally)) {
+        let before = self.total;
+        checks(self);
+        println!("{name}: {} checks", self.total - before);
+    }
+
+    fn check(&mut self, truth: bool, what: impl FnOnce() -> String) {
+        self.total += 1;
+        if !truth {
+            println!("oracle: {}", what());
+            std::process::exit(1);
+        }
+    }
+}
+
+fn main() {
+    let mut tally = Tally::default();
+    tally.group("bench sheet", bench_sheet);
+    tally.group("field arithmetic", fields);
+    tally.group("parameters of the plans", parameters);
+    tally.group("plan 1 by listing, row steps", listed_row_steps);
+    tally.group("plan 1 by listing, level steps", listed_level_steps);
+    tally.group("plan 1 by listing, mending", listed_mending);
+    tally.group("plan 1 by listing, codewords", listed_codewords);
+    tally.group("encoding and extraction", round_trips);
+    tally.group("rounds of steps and mending in one call", rounds);
+    tally.group("what each answer says of the codewords", meaning_of_answers);
+    tally.group("published row counts", row_counts);
+    tally.group("files", files);
+    println!("oracle: {} checks, all as they should be", tally.total);
+}
+
+fn bench_sheet(tally: &mut Tally) {
+    for case in sheet::cases() {
+        let (mut stripe, mut marks, mut report) = (case.stripe(), case.mark_words(), [0; REPORT_LENGTH]);
+        let answer = oracle::mend(case.plan, &mut stripe, &mut marks, &mut report);
+        tally.check(case.is_met_by(answer, &report), || format!("{}: answer {answer}, report {report:?}", case.name));
+    }
+    let mut stripe = [0; 21];
+    let answer = oracle::encode(1, &sheet::ENCODED_DATA, &mut stripe);
+    tally.check(answer == DONE && stripe == sheet::ENCODED_STRIPE, || "the encoded stripe".to_string());
+    let shown = oracle::text::printed(&sheet::EXAMPLE_FILE);
+    tally.check(shown == (RESTORED, sheet::EXAMPLE_TEXT.to_string()), || format!("the example file: {shown:?}"));
+}
+
+fn fields(tally: &mut Tally) {
+    tally.check(times16(8, 2) == 3, || "8 times 2 in GF(16)".to_string());
+    tally.check(times16(15, 15) == 10, || "15 times 15 in GF(16)".to_string());
+    tally.check(times32(16, 2) == 5, || "16 times 2 in GF(32)".to_string());
+    tally.check(power(times32, 4, 3) == 10, || "the cube of 4 in GF(32)".to_string());
+    let order = |times: fn(u8, u8) -> u8| (1..).find(|&n| power(times, 2, n) == 1);
+    tally.check(order(times16) == Some(15), || "the powers of 2 in GF(16)".to_string());
+    tally.check(order(times32) == Some(31), || "the powers of 2 in GF(32)".to_string());
+}
+
+fn parameters(tally: &mut Tally) {
+    let tables = [(1, 3, 7, 15, 2, 4, 2, 41), (2, 8, 32, 198, 4, 8, 3, 296), (3, 8, 15, 98, 3, 8, 3, 160)];
+    for (plan, entry) in Plan::all().zip(tables) {
+        let (number, rows, columns, carried, row_distance, distance, levels, file) = entry;
+        let sizes = [plan.number, plan.rows, plan.columns, plan.carried(), plan.last(), plan.file_length()];
+        tally.check(sizes == [number, rows, columns, carried, levels, file], || format!("plan {number}: sizes {sizes:?}"));
+        let distances = (plan.row_distance, plan.distance);
+        tally.check(distances == (row_distance, distance), || format!("plan {number}: distances {distances:?}"));
+        tally.check(plan.symbols() - rank(plan) == carried, || format!("plan {number}: rank of the checks"));
+        let failing = damage::words_failing_one_check(plan);
+        tally.check(failing.iter().all(|word| !holds(plan, word)), || format!("plan {number}: words that fail one check"));
+    }
+    least_row_distances(tally);
+}
+
+/// Any d' - 1 columns of a row are independent at a level, and some d' are not.
+fn least_row_distances(tally: &mut Tally) {
+    let distances = [(1, 1, 2), (1, 2, 4), (2, 1, 4), (2, 2, 6), (2, 3, 8), (3, 1, 3), (3, 2, 4), (3, 3, 8)];
+    for (number, level, distance) in distances {
+        let plan = Plan::numbered(number).expect("a plan");
+        for word in words_with(distance - 1, plan.columns) {
+            tally.check(independent(plan, level, word), || format!("plan {number}, level {level}: columns {word:b}"));
+        }
+        let dependent = words_with(distance, plan.columns).any(|word| !independent(plan, level, word));
+        tally.check(dependent, || format!("plan {number}, level {level}: no {distance} columns are dependent"));
+    }
+}
+
+/// Every mark word with so many columns.
+fn words_with(count: usize, columns: usize) -> impl Iterator<Item = u32> {
+    let next = |&word: &u64| {
+        let lowest = word & word.wrapping_neg();
+        let carried = word + lowest;
+        Some(carried | (word ^ carried) / lowest >> 2)
+    };
+    let words = std::iter::successors(Some((1u64 << count) - 1), next);
+    words.take_while(move |&word| word < 1 << columns).map(|word| word as u32)
+}
+
+/// Whether these columns of a row are independent under the checks of the levels from 1 to this one.
+fn independent(plan: &Plan, level: usize, word: u32) -> bool {
+    let columns = (0..plan.columns).filter(|&column| marked(word, column));
+    let bits = columns.flat_map(|column| (0..plan.width).map(move |bit| (column, bit)));
+    Span::of(bits.map(|(column, bit)| plan.row_share(0, column, bit).within(plan.up_to(level)))).independent()
+}
+
+/// A bench of plan 1 with these rows.
+fn bench_of(rows: [u8; 3], marks: [u8; 3]) -> Vec<u8> {
+    let mut bench = vec![0; BENCH_LENGTH];
+    oracle::start(1, &symbols(rows), &marks.map(u32::from), &mut bench);
+    bench
+}
+
+/// The symbols of rows of 7 bits, and back.
+fn symbols(rows: [u8; 3]) -> Vec<u8> {
+    rows.iter().flat_map(|row| (0..7).map(move |column| row >> column & 1)).collect()
+}
+
+fn packed(symbols: &[u8]) -> [u8; 3] {
+    [0, 1, 2].map(|row| (0..7).map(|column| symbols[7 * row + column] << column).sum())
+}
+
+fn listed_row_steps(tally: &mut Tally) {
+    let sums = (0..16u8).map(|n| (n & 1, n >> 1));
+    let learned = [1, 2].map(|level| (level, sums.clone().filter(move |&(_, s)| level == 2 || s == 0)));
+    for (level, (parity, locations)) in learned.into_iter().flat_map(|(level, all)| all.map(move |sums| (level, sums))) {
+        for (row, marks) in (0..1u16 << 14).map(|n| ((n & 127) as u8, (n >> 7) as u8)) {
+            let mut bench = bench_of([0, row, 0], [0, marks, 0]);
+            bench[1] = level as u8;
+            bench[290 + 16] = parity;
+            (0..3).for_each(|bit| bench[290 + 17 + bit] = locations >> bit & 1);
+            let mut expected = bench.clone();
+            let number = match listing::row_step(row, marks, level, (parity, locations)) {
+                Step::Tied => TIED,
+                Step::Clash => CLASH,
+                Step::Whole => WHOLE,
+                Step::Filled(filling) => {
+                    expected[2..23].copy_from_slice(&symbols([0, filling, 0]));
+                    expected[262] = 0;
+                    FILLED
+                }
+            };
+            let answer = oracle::row_step(&mut bench, 1);
+            tally.check((answer, &bench) == (number, &expected), || {
+                format!("row {row:b}, marks {marks:b}, level {level}: {answer}")
+            });
+        }
+    }
+}
+
+fn listed_level_steps(tally: &mut Tally) {
+    let mut chance = Chance::seeded(11);
+    let lost = (0..8u8).flat_map(|lost| (0..512u16).map(move |n| (lost, [n & 7, n >> 3 & 7, n >> 6])));
+    for (lost, sums) in lost {
+        let rows = sums.map(|sum| loop {
+            let row = chance.below(128) as u8;
+            if listing::locations(row) as u16 == sum {
+                break row;
+            }
+        });
+        let marks = [0, 1, 2].map(|row| if lost >> row & 1 == 1 { 1 + chance.below(127) as u8 } else { 0 });
+        let mut bench = bench_of(rows, marks);
+        let mut expected = bench.clone();
+        let number = match listing::level_step(rows, marks) {
+            Learned::Blocked => BLOCKED,
+            Learned::Clash => CLASH,
+            Learned::Raised(learned) => {
+                expected[1] = 2;
+                for (row, sum) in learned.into_iter().enumerate() {
+                    (0..3).for_each(|bit| expected[291 + 16 * row + bit] = sum >> bit & 1);
+                }
+                RAISED
+            }
+        };
+        let answer = oracle::level_step(&mut bench);
+        tally.check((answer, &bench) == (number, &expected), || format!("rows {rows:?}, marks {marks:?}: {answer}"));
+    }
+}
+
+fn listed_mending(tally: &mut Tally) {
+    let plan = Plan::numbered(1).expect("a plan");
+    let mut chance = Chance::seeded(12);
+    for n in 0..60_000 {
+        let stripe = damage::stripe(plan, CONTENTS[n % CONTENTS.len()], &mut chance);
+        let kind = chance.pick(&MARKS);
+        let marks = damage::marks(plan, kind, &mut chance);
+        let end = mended(plan, &stripe, &marks);
+        let (rows, words) = (packed(&stripe), [0, 1, 2].map(|row| marks[row] as u8));
+        let expected = listing::mend(rows, words);
+        let found = match (end.answer, end.report[5]) {
+            (CLASH, ACROSS) => End::ClashAcross { level: end.report[7] as usize },
+            (CLASH, _) => End::ClashInRow { row: end.report[6] as usize, level: end.report[7] as usize },
+            _ => End::Stopped {
+                level: end.report[0] as usize,
+                left: end.report[1] as usize,
+                restored: [end.report[2] as usize, end.report[3] as usize],
+                rows: packed(&end.stripe),
+                marks: [0, 1, 2].map(|row| end.marks[row] as u8),
+            },
+        };
+        tally.check(found == expected, || format!("rows {rows:?}, marks {words:?}: {found:?}, listed {expected:?}"));
+        let left = end.marks.iter().any(|&word| word != 0);
+        let restored = end.answer == RESTORED;
+        tally.check(end.answer == CLASH || restored != left, || format!("rows {rows:?}, marks {words:?}: {}", end.answer));
+    }
+}
+
+fn listed_codewords(tally: &mut Tally) {
+    let plan = Plan::numbered(1).expect("a plan");
+    let all = listing::codewords();
+    tally.check(all.len() == 1 << 15, || format!("{} codewords", all.len()));
+    let weight = |rows: &[u8; 3]| rows.iter().map(|row| row.count_ones()).sum::<u32>();
+    let least = all.iter().map(weight).filter(|&weight| weight > 0).min();
+    tally.check(least == Some(4), || format!("least weight {least:?}"));
+    let mut found = 0;
+    for n in 0..1u32 << 21 {
+        let rows = [n & 127, n >> 7 & 127, n >> 14].map(|row| row as u8);
+        found += (oracle::is_codeword(1, &symbols(rows)) == YES) as usize;
+    }
+    tally.check(found == all.len(), || format!("{found} codewords by the test"));
+    for rows in &all {
+        let stripe = symbols(*rows);
+        tally.check(holds(plan, &stripe), || format!("codeword {rows:?}"));
+        let (mut data, mut again) = ([0; 15], [0; 21]);
+        let answers = (oracle::extract(1, &stripe, &mut data), oracle::encode(1, &data, &mut again));
+        tally.check(answers == (DONE, DONE) && again[..] == stripe[..], || format!("codeword {rows:?} and its data"));
+    }
+    let mut chance = Chance::seeded(13);
+    for n in 0..400 {
+        let stripe = damage::stripe(plan, CONTENTS[n % CONTENTS.len()], &mut chance);
+        let kind = chance.pick(&MARKS);
+        let marks = damage::marks(plan, kind, &mut chance);
+        let rows = packed(&stripe);
+        let agrees = |word: &&[u8; 3]| (0..3).all(|row| (word[row] ^ rows[row]) & !(marks[row] as u8) == 0);
+        let listed: Vec<Vec<u8>> = all.iter().filter(agrees).map(|rows| symbols(*rows)).collect();
+        match agreeing(plan, &stripe, &marks) {
+            Agreeing::None => tally.check(listed.is_empty(), || format!("{rows:?} {marks:?}: some codeword agrees")),
+            Agreeing::Some { one, settled } => {
+                let same: Vec<bool> = (0..21).map(|at| listed.iter().all(|word| word[at] == listed[0][at])).collect();
+                tally.check(listed.contains(&one) && same == settled, || {
+                    format!("{rows:?} {marks:?}: which codewords agree")
+                });
+            }
+        }
+    }
+}
+
+fn round_trips(tally: &mut Tally) {
+    let mut chance = Chance::seeded(14);
+    for plan in Plan::all() {
+        for _ in 0..1000 {
+            let data = chance.bytes_below(plan.q(), plan.carried());
+            let (mut stripe, mut back) = (vec![255; plan.symbols()], vec![255; plan.carried()]);
+            let answers = (
+                oracle::encode(plan.number, &data, &mut stripe),
+                oracle::is_codeword(plan.number, &stripe),
+                oracle::extract(plan.number, &stripe, &mut back),
+            );
+            tally.check(answers == (DONE, YES, DONE) && back == data, || format!("plan {}: data {data:?}", plan.number));
+            let place = chance.below(plan.symbols());
+            stripe[place] ^= 1 + chance.below(plan.q() - 1) as u8;
+            let answers = (oracle::is_codeword(plan.number, &stripe), oracle::extract(plan.number, &stripe, &mut back));
+            tally.check(answers == (NO, NO_CODEWORD) && back == data, || {
+                format!("plan {}: one error at {place}", plan.number)
+            });
+        }
+    }
+}
+
+/// The rounds made step by step on a bench: the answer's number, the report, the symbols and the marks.
+fn by_steps(plan: &Plan, stripe: &[u8], marks: &[u32]) -> (usize, [u8; 8], Vec<u8>, Vec<u32>) {
+    let mut bench = vec![0; BENCH_LENGTH];
+    oracle::start(plan.number, stripe, marks, &mut bench);
+    let mut restored = [0; 3];
+    let unchanged = |report| (CLASH, report, stripe.to_vec(), marks.to_vec());
+    loop {
+        let level = bench[1];
+        for row in 0..plan.rows {
+            match oracle::row_step(&mut bench, row) {
+                CLASH => return unchanged([0, 0, 0, 0, 0, IN_A_ROW, row as u8, level]),
+                FILLED => restored[level as usize - 1] += 1,
+                _ => (),
+            }
+        }
+        match oracle::level_step(&mut bench) {
+            CLASH => return unchanged([0, 0, 0, 0, 0, ACROSS, 0, level + 1]),
+            RAISED => (),
+            _ => break,
+        }
+    }
+    let held = oracle::bench::read(&bench).ok().expect("the bench can be read");
+    let left = held.marks.iter().filter(|&&word| word != 0).count() as u8;
+    let answer = if left == 0 { RESTORED } else { STUCK };
+    (answer, [bench[1], left, restored[0], restored[1], restored[2], 0, 0, 0], held.symbols, held.marks)
+}
+
+fn rounds(tally: &mut Tally) {
+    let mut chance = Chance::seeded(15);
+    for plan in Plan::all() {
+        for n in 0..4000 {
+            let stripe = damage::stripe(plan, CONTENTS[n % CONTENTS.len()], &mut chance);
+            let kind = chance.pick(&MARKS);
+            let marks = damage::marks(plan, kind, &mut chance);
+            let stripe = damage::any_under_marks(plan, &stripe, &marks, &mut chance);
+            let end = mended(plan, &stripe, &marks);
+            let steps = by_steps(plan, &stripe, &marks);
+            let same = steps == (end.answer, end.report, end.stripe, end.marks);
+            tally.check(same, || {
+                format!("plan {}, {stripe:?}, {marks:?}: {}, by steps {}", plan.number, end.answer, steps.0)
+            });
+        }
+    }
+}
+
+/// Restored is the one codeword that agrees; with Clash none agrees; after Stuck every one that agrees has what is unmarked.
+fn meaning_of_answers(tally: &mut Tally) {
+    let mut chance = Chance::seeded(16);
+    for plan in Plan::all() {
+        for n in 0..2000 {
+            let stripe = damage::stripe(plan, CONTENTS[n % CONTENTS.len()], &mut chance);
+            let kind = chance.pick(&MARKS);
+            let marks = damage::marks(plan, kind, &mut chance);
+            let end = mended(plan, &stripe, &marks);
+            let known = |place: usize| !marked(end.marks[place / plan.columns], place % plan.columns);
+            let truth = match (end.answer, agreeing(plan, &stripe, &marks)) {
+                (RESTORED, Agreeing::Some { one, settled }) => one == end.stripe && settled.iter().all(|&settled| settled),
+                (CLASH, Agreeing::None) | (STUCK, Agreeing::None) => true,
+                (STUCK, Agreeing::Some { one, settled }) => {
+                    (0..plan.symbols()).all(|place| !known(place) || settled[place] && one[place] == end.stripe[place])
+                }
+                _ => false,
+            };
+            tally.check(truth, || format!("plan {}, {stripe:?}, {marks:?}: {}", plan.number, end.answer));
+        }
+    }
+}
+
+/// A codeword whose marks meet the published counts is restored.
+fn row_counts(tally: &mut Tally) {
+    let mut chance = Chance::seeded(17);
+    for plan in Plan::all() {
+        for kind in [Marks::None, Marks::One, Marks::ThreeRowsFull, Marks::BelowDistance, Marks::Within, Marks::Edge] {
+            for _ in 0..500 {
+                let word = damage::stripe(plan, Content::Codeword, &mut chance);
+                let marks = damage::marks(plan, kind, &mut chance);
+                tally.check(damage::meets_counts(plan, &marks), || format!("plan {}, {kind:?}: {marks:?}", plan.number));
+                let stripe = damage::any_under_marks(plan, &word, &marks, &mut chance);
+                let end = mended(plan, &stripe, &marks);
+                let restored = end.answer == RESTORED && end.stripe == word;
+                tally.check(restored, || format!("plan {}, {stripe:?}, {marks:?}: {}", plan.number, end.answer));
+            }
+        }
+        let marks = damage::marks(plan, Marks::Beyond, &mut chance);
+        tally.check(!damage::meets_counts(plan, &marks), || format!("plan {}: {marks:?} is not beyond", plan.number));
+    }
+}
+
+fn files(tally: &mut Tally) {
+    let mut chance = Chance::seeded(18);
+    for plan in Plan::all() {
+        for _ in 0..1000 {
+            let kind = chance.pick(&MARKS);
+            let marks = damage::marks(plan, kind, &mut chance);
+            let stripe = damage::stripe(plan, Content::Random, &mut chance);
+            let stripe = damage::any_under_marks(plan, &stripe, &marks, &mut chance);
+            let (mut file, mut again) = (vec![7; plan.file_length()], vec![9; plan.file_length()]);
+            let (mut symbols, mut words) = (vec![7; plan.symbols()], vec![7; plan.rows]);
+            let answers = (
+                oracle::write_file(plan.number, &stripe, &marks, &mut file),
+                oracle::read_file(&file, &mut symbols, &mut words),
+                oracle::write_file(plan.number, &symbols, &words, &mut again),
+            );
+            let shown = damage::zero_under_marks(plan, &stripe, &marks);
+            let same = answers == (DONE, DONE, DONE) && (symbols, words) == (shown, marks) && file == again;
+            tally.check(same, || format!("plan {}: file {file:?}", plan.number));
+        }
+    }
+}

@@ -1,0 +1,36 @@
+//! Writes stripe files to a folder, and beside each the text that `mend` must print for it: N.file and N.text.
+//!
+//!     write_cases FOLDER
+
+use outside::chance::Chance;
+use outside::damage::{self, Content, Marks};
+use outside::oracle::text::printed;
+use outside::oracle::{self, Plan};
+use std::path::Path;
+
+/// Stripes that between them reach every level, every check and every kind of answer but the refusals.
+const KINDS: [(Content, Marks); 8] = [
+    (Content::Codeword, Marks::Edge),
+    (Content::Codeword, Marks::BelowDistance),
+    (Content::FailsOneCheck, Marks::None),
+    (Content::FailsAbove(1), Marks::One),
+    (Content::FailsAbove(2), Marks::None),
+    (Content::Codeword, Marks::Beyond),
+    (Content::OneError, Marks::Edge),
+    (Content::Codeword, Marks::SomeRows),
+];
+
+fn main() -> std::io::Result<()> {
+    let folder = std::env::args().nth(1).expect("a folder");
+    let mut chance = Chance::seeded(131);
+    let kinds = KINDS.iter().flat_map(|&kind| Plan::all().map(move |plan| (plan, kind)));
+    for (n, (plan, (content, kind))) in kinds.enumerate() {
+        let stripe = damage::stripe(plan, content, &mut chance);
+        let marks = damage::marks(plan, kind, &mut chance);
+        let mut file = vec![0; plan.file_length()];
+        oracle::write_file(plan.number, &stripe, &marks, &mut file);
+        std::fs::write(Path::new(&folder).join(format!("{n}.file")), &file)?;
+        std::fs::write(Path::new(&folder).join(format!("{n}.text")), printed(&file).1)?;
+    }
+    Ok(())
+}
