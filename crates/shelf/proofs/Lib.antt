@@ -5,3 +5,4 @@ pub mod Bytes
 pub mod Mending
 pub mod Words
 pub mod Benches
+pub mod Telling

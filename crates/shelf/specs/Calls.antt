@@ -1,4 +1,4 @@
--- What each call answers and what it leaves in the lent buffers. A report or a bench of another size is refused by 11.
+-- What each call answers and what it leaves in the lent buffers. A report, a bench or a text buffer of another size is refused by 11.
 use Prim.Native.Nat.{ℕ}
 use mathlib.Core.List.{List}
 use lib.Dec.{eqb}
@@ -7,6 +7,9 @@ use Rattle.field.specs.Lists.{if_then_else_}
 use Rattle.repair.specs.Plan.{known}
 use Rattle.repair.specs.Answers.{answerNumber, stepNumber, outcomeNumber}
 use Rattle.repair.specs.Steps.{started}
+use Rattle.repair.specs.File.{bytes2}
+use Rattle.repair.specs.Tables.{padded}
+use Rattle.repair.specs.Text.{printed}
 use Rattle.repair.specs.Rounds.{mendReport, mendStripe, mendMarks}
 use Rattle.repair.specs.declared.Bench.{Bench}
 use Rattle.repair.specs.declared.Stepped.{Stepped}
@@ -53,3 +56,23 @@ stepAnswer step bench = sized benchSize bench (stepNumber (step (benchIn bench) 
 
 unfoldable pub stepBuffer : (Bench → Stepped) → List ℕ → List ℕ
 stepBuffer step bench = sized benchSize bench (benchBytes (step (benchIn bench) .bench)) bench
+
+-- ---- the text that is printed for a file
+
+abbrev pub textRoom : ℕ
+textRoom = 320
+
+-- x where both buffers have their size, else y
+unfoldable pub roomy : {A : Type 0} → (text size : List ℕ) → A → A → A
+roomy text size x y = sized textRoom text (sized 2 size x y) y
+
+unfoldable pub textNumber : (text size : List ℕ) → ℕ
+textNumber text size = roomy text size 0 11
+
+-- zeros stand behind the text
+unfoldable pub textBuffer : (file text size : List ℕ) → List ℕ
+textBuffer file text size = roomy text size (padded textRoom (printed file)) text
+
+-- how many bytes the text has, low byte first
+unfoldable pub textSizeBuffer : (file text size : List ℕ) → List ℕ
+textSizeBuffer file text size = roomy text size (bytes2 (length (printed file))) size

@@ -7,7 +7,7 @@ ghost use mathlib.Core.Path.{_≡_};
 ghost use mathlib.Core.List.{flatMap};
 ghost use Prim.Native.Nat.{_+_, _*_, _^_, _≤_};
 ghost use lib.ListN.{length};
-ghost use Rattle.repair.specs.File.{bytes4, wordAt};
+ghost use Rattle.repair.specs.File.{bytes2, bytes4, wordAt};
 ghost use Rattle.shelf.specs.Layout.{byte, placeBytes, clashBytes, reportBytes, benchBytes, benchIn};
 ghost use Rattle.shelf.specs.Written.{Written};
 
@@ -16,6 +16,13 @@ fn byte_of(n: usize) -> u8
     ensures { λ r. ⌜ r ≡ byte n ⌝ }
 {
     (n % 256) as u8
+}
+
+// A number of two bytes, low byte first.
+pub fn size_bytes(n: usize) -> [u8; 2]
+    ensures { λ r. ⌜ r ≡ bytes2 n ⌝ }
+{
+    [byte_of(n), byte_of(n / 256)]
 }
 
 // A Clash's place.
@@ -67,6 +74,15 @@ pub fn put(bytes: &[u8], out: &mut [u8], at: usize)
     for i in 0..bytes.len() {
         out[at + i] = bytes[i];
     }
+}
+
+// Writes the room of a text over the whole of `out`.
+pub fn put_room(room: &[u8; 320], out: &mut [u8])
+    requires { ⌜ length (now out) ≡ 320 ⌝ }
+    ensures { λ _. ⌜ now (out .exit) ≡ now (room .entry) ⌝ }
+{
+    let bytes: &[u8] = room;
+    put(bytes, out, 0);
 }
 
 // ---- a bench

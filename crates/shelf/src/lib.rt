@@ -4,10 +4,12 @@ mod numbers;
 
 ghost use mathlib.Core.Path.{_≡_};
 ghost use Rattle.repair.specs.Answers.{verdictNumber};
-ghost use Rattle.repair.specs.Codeword.{tested};
+ghost use Rattle.repair.specs.Codeword.{tested, encodeRefusal, encodeStripe, extractRefusal, extractData};
+ghost use Rattle.repair.specs.File.{readRefusal, readStripe, readMarks, writeRefusal, writeFile};
 ghost use Rattle.repair.specs.Steps.{rowStep, levelStep};
 ghost use Rattle.shelf.specs.Calls.{startNumber, startBuffer, stepAnswer, stepBuffer};
 ghost use Rattle.shelf.specs.Calls.{mendNumber, mendStripeBuffer, mendMarksBuffer, mendReportBuffer};
+ghost use Rattle.shelf.specs.Calls.{textNumber, textBuffer, textSizeBuffer};
 
 // Starts a bench at level 1 with the stripe and the marks as lent; a refusal makes it a bench of zeros.
 #[no_mangle]
@@ -85,4 +87,61 @@ pub extern "C" fn shelf_mend(plan: usize, stripe: &mut [u8], marks: &mut [u32], 
     let bytes = layout::report_bytes(mended);
     layout::put(&bytes, report, 0);
     number
+}
+
+// Encodes data to a stripe. A refusal leaves the stripe as it was.
+#[no_mangle]
+pub extern "C" fn shelf_encode(plan: usize, data: &[u8], stripe: &mut [u8]) -> usize
+    ensures { λ r. ⌜ r ≡ encodeRefusal plan (now («data» .entry)) (now (stripe .entry)) ⌝ }
+    ensures { λ _. ⌜ now (stripe .exit) ≡ encodeStripe plan (now («data» .entry)) (now (stripe .entry)) ⌝ }
+{
+    numbers::of_outcome(repair::encode(plan, data, stripe))
+}
+
+// Takes the data out of a stripe. A refusal leaves the data buffer as it was.
+#[no_mangle]
+pub extern "C" fn shelf_extract(plan: usize, stripe: &[u8], data: &mut [u8]) -> usize
+    ensures { λ r. ⌜ r ≡ extractRefusal plan (now (stripe .entry)) (now («data» .entry)) ⌝ }
+    ensures { λ _. ⌜ now («data» .exit) ≡ extractData plan (now (stripe .entry)) (now («data» .entry)) ⌝ }
+{
+    numbers::of_outcome(repair::extract(plan, stripe, data))
+}
+
+// Reads a stripe file's stripe and marks. A refusal leaves both buffers as they were.
+#[no_mangle]
+pub extern "C" fn shelf_read_file(file: &[u8], stripe: &mut [u8], marks: &mut [u32]) -> usize
+    ensures { λ r. ⌜ r ≡ readRefusal (now (file .entry)) (now (stripe .entry)) (now (marks .entry)) ⌝ }
+    ensures { λ _. ⌜ now (stripe .exit) ≡ readStripe (now (file .entry)) (now (stripe .entry)) (now (marks .entry)) ⌝ }
+    ensures { λ _. ⌜ now (marks .exit) ≡ readMarks (now (file .entry)) (now (stripe .entry)) (now (marks .entry)) ⌝ }
+{
+    numbers::of_outcome(repair::read_file(file, stripe, marks))
+}
+
+// Writes a stripe and its marks as a stripe file, 0 at each marked place. A refusal leaves the file buffer as it was.
+#[no_mangle]
+pub extern "C" fn shelf_write_file(plan: usize, stripe: &[u8], marks: &[u32], file: &mut [u8]) -> usize
+    ensures { λ r. ⌜ r ≡ writeRefusal plan (now (stripe .entry)) (now (marks .entry)) (now (file .entry)) ⌝ }
+    ensures { λ _. ⌜ now (file .exit) ≡ writeFile plan (now (stripe .entry)) (now (marks .entry)) (now (file .entry)) ⌝ }
+{
+    numbers::of_outcome(repair::write_file(plan, stripe, marks, file))
+}
+
+// Writes what `mend` prints for a file into `text`, zeros behind it, and how many bytes it is into `size`.
+#[no_mangle]
+pub extern "C" fn shelf_text(file: &[u8], text: &mut [u8], size: &mut [u8]) -> usize
+    ensures { λ r. ⌜ r ≡ textNumber (now (text .entry)) (now (size .entry)) ⌝ }
+    ensures { λ _. ⌜ now (text .exit) ≡ textBuffer (now (file .entry)) (now (text .entry)) (now (size .entry)) ⌝ }
+    ensures { λ _. ⌜ now (size .exit) ≡ textSizeBuffer (now (file .entry)) (now (text .entry)) (now (size .entry)) ⌝ }
+{
+    if text.len() != 320 {
+        return 11;
+    }
+    if size.len() != 2 {
+        return 11;
+    }
+    let mut room = [0u8; 320];
+    let bytes = layout::size_bytes(repair::text(file, &mut room));
+    layout::put_room(&room, text);
+    layout::put(&bytes, size, 0);
+    0
 }
