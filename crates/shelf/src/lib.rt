@@ -69,7 +69,12 @@ pub extern "C" fn shelf_is_codeword(plan: usize, stripe: &[u8]) -> usize
 
 // Mends a stripe in one call and reports beside the answer. A Clash leaves stripe and marks as they were, a refusal the report too.
 #[no_mangle]
-pub extern "C" fn shelf_mend(plan: usize, stripe: &mut [u8], marks: &mut [u32], report: &mut [u8]) -> usize
+pub extern "C" fn shelf_mend(
+    plan: usize,
+    stripe: &mut [u8],
+    marks: &mut [u32],
+    report: &mut [u8],
+) -> usize
     ensures { λ r. ⌜ r ≡ mendNumber plan (now (stripe .entry)) (now (marks .entry)) (now (report .entry)) ⌝ }
     ensures { λ _. ⌜ now (stripe .exit) ≡ mendStripeBuffer plan (now (stripe .entry)) (now (marks .entry)) (now (report .entry)) ⌝ }
     ensures { λ _. ⌜ now (marks .exit) ≡ mendMarksBuffer plan (now (stripe .entry)) (now (marks .entry)) (now (report .entry)) ⌝ }
@@ -119,7 +124,12 @@ pub extern "C" fn shelf_read_file(file: &[u8], stripe: &mut [u8], marks: &mut [u
 
 // Writes a stripe and its marks as a stripe file, 0 at each marked place. A refusal leaves the file buffer as it was.
 #[no_mangle]
-pub extern "C" fn shelf_write_file(plan: usize, stripe: &[u8], marks: &[u32], file: &mut [u8]) -> usize
+pub extern "C" fn shelf_write_file(
+    plan: usize,
+    stripe: &[u8],
+    marks: &[u32],
+    file: &mut [u8],
+) -> usize
     ensures { λ r. ⌜ r ≡ writeRefusal plan (now (stripe .entry)) (now (marks .entry)) (now (file .entry)) ⌝ }
     ensures { λ _. ⌜ now (file .exit) ≡ writeFile plan (now (stripe .entry)) (now (marks .entry)) (now (file .entry)) ⌝ }
 {
