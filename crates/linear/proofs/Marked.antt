@@ -86,7 +86,7 @@ pub length-bits : (n w : ℕ) → length (bitsOf n w) ≡ n
 unfolding bitsOf
 length-bits n w = length-map (upFrom 0 n) _ ∙ length-up 0 n
 
-bits-at : (n w c : ℕ) → c < n → getD (bitsOf n w) c false ≡ eqb (bitAt w c) 1
+pub bits-at : (n w c : ℕ) → c < n → getD (bitsOf n w) c false ≡ eqb (bitAt w c) 1
 unfolding bitsOf
 bits-at n w c l = getD-map-below (λ c. eqb (bitAt w c) 1) n c false l
 

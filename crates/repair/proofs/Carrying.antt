@@ -69,11 +69,11 @@ module _ {n k : ℕ} (e : n ≡ k) where
 
   -- what a buffer holds afterwards: `new` where nothing is refused, `old` where something is
   module _ (new old : List ℕ) where
-    left-new : n ≡ 0 → new ≡ (if eqb k 0 then new else old)
+    pub left-new : n ≡ 0 → new ≡ (if eqb k 0 then new else old)
     unfolding if_then_else_
     left-new z = ap (λ b. if b then new else old) (sym (eq-eqb k 0 (sym e ∙ z)))
 
-    left-old : (n ≡ 0 → ⊥) → old ≡ (if eqb k 0 then new else old)
+    pub left-old : (n ≡ 0 → ⊥) → old ≡ (if eqb k 0 then new else old)
     unfolding if_then_else_
     left-old ne = ap (λ b. if b then new else old) (sym (ne-eqb k 0 (λ z. ne (e ∙ z))))
 
