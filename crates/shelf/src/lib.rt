@@ -119,7 +119,7 @@ pub extern "C" fn shelf_read_file(file: &[u8], stripe: &mut [u8], marks: &mut [u
     ensures { λ _. ⌜ now (stripe .exit) ≡ readStripe (now (file .entry)) (now (stripe .entry)) (now (marks .entry)) ⌝ }
     ensures { λ _. ⌜ now (marks .exit) ≡ readMarks (now (file .entry)) (now (stripe .entry)) (now (marks .entry)) ⌝ }
 {
-    numbers::of_outcome(repair::read_file(file, stripe, marks))
+    numbers::of_outcome(files::read_file(file, stripe, marks))
 }
 
 // Writes a stripe and its marks as a stripe file, 0 at each marked place. A refusal leaves the file buffer as it was.
@@ -133,7 +133,7 @@ pub extern "C" fn shelf_write_file(
     ensures { λ r. ⌜ r ≡ writeRefusal plan (now (stripe .entry)) (now (marks .entry)) (now (file .entry)) ⌝ }
     ensures { λ _. ⌜ now (file .exit) ≡ writeFile plan (now (stripe .entry)) (now (marks .entry)) (now (file .entry)) ⌝ }
 {
-    numbers::of_outcome(repair::write_file(plan, stripe, marks, file))
+    numbers::of_outcome(files::write_file(plan, stripe, marks, file))
 }
 
 // Writes what `mend` prints for a file into `text`, zeros behind it, and how many bytes it is into `size`.
@@ -150,7 +150,7 @@ pub extern "C" fn shelf_text(file: &[u8], text: &mut [u8], size: &mut [u8]) -> u
         return 11;
     }
     let mut room = [0u8; 320];
-    let bytes = layout::size_bytes(repair::text(file, &mut room));
+    let bytes = layout::size_bytes(files::text(file, &mut room));
     layout::put_room(&room, text);
     layout::put(&bytes, size, 0);
     0
