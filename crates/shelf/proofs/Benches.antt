@@ -1,0 +1,84 @@
+-- A bench read from bytes and written as bytes, and what the calls on it leave. Assumes nothing.
+use mathlib.Core.Path.{_≡_, refl, sym, ap, _∙_}
+use mathlib.Core.List.{List, [], _∷_, _++_}
+use Prim.Native.Nat.{ℕ, _+_, _*_}
+use native.Mathlib.Omega.{arith}
+use lib.ListN.{length, take, drop, getD, length-append}
+use Rattle.field.specs.Lists.{upFrom}
+use Rattle.repair.specs.Answers.{stepNumber, outcomeNumber}
+use Rattle.repair.specs.File.{wordAt}
+use Rattle.repair.specs.Steps.{started}
+use Rattle.repair.specs.declared.Bench.{Bench}
+use Rattle.repair.specs.declared.Stepped.{Stepped}
+use Rattle.repair.specs.declared.Started.{Started}
+use Rattle.shelf.specs.Layout.{byte, benchSize, benchBytes, benchIn}
+use Rattle.shelf.specs.Calls.{unfit, startNumber, startBuffer, stepAnswer, stepBuffer}
+use Rattle.shelf.specs.Written.{Written}
+use Rattle.shelf.proofs.Sizing.{sized-fit, sized-unfit}
+use Rattle.shelf.proofs.Writing.{written-then, written-whole}
+use Rattle.shelf.proofs.Words.{wordBytes, length-words}
+
+-- ---- bytes
+
+-- a bench in bytes, part by part
+module _ (l : List ℕ) where
+  pub bench-is : {symbols sums : List ℕ} {w₀ w₁ w₂ w₃ w₄ w₅ w₆ w₇ : ℕ} → symbols ≡ take 256 (drop 2 l) → sums ≡ take 128 (drop 290 l)
+      → w₀ ≡ wordAt l 258 → w₁ ≡ wordAt l 262 → w₂ ≡ wordAt l 266 → w₃ ≡ wordAt l 270
+      → w₄ ≡ wordAt l 274 → w₅ ≡ wordAt l 278 → w₆ ≡ wordAt l 282 → w₇ ≡ wordAt l 286
+      → _≡_ {A = Bench} record {
+        plan = getD l 0 0;
+        level = getD l 1 0;
+        symbols = symbols;
+        marks = w₀ ∷ w₁ ∷ w₂ ∷ w₃ ∷ w₄ ∷ w₅ ∷ w₆ ∷ w₇ ∷ [];
+        sums = sums;
+      } (benchIn l)
+  unfolding benchIn upFrom
+  bench-is e f e₀ e₁ e₂ e₃ e₄ e₅ e₆ e₇ = rw (e, f, e₀, e₁, e₂, e₃, e₄, e₅, e₆, e₇) refl
+
+-- plan and level, symbols, mark words and sums are all of a bench's bytes
+module _ (b : Bench) (symbols : length (b .symbols) ≡ 256) (marks : length (b .marks) ≡ 8) (sums : length (b .sums) ≡ 128) where
+  pub bench-written : {old l₁ l₂ l₃ new : List ℕ} {plan level : ℕ} → length old ≡ 418 → plan ≡ byte (b .plan) → level ≡ byte (b .level)
+      → Written old 0 (plan ∷ level ∷ []) l₁ → Written l₁ 2 (b .symbols) l₂ → Written l₂ 258 (wordBytes (b .marks)) l₃
+      → Written l₃ 290 (b .sums) new → new ≡ benchBytes b
+  unfolding benchBytes
+  bench-written {old} {plan = plan} {level} fits e f w₁ w₂ w₃ w₄ =
+      let head = plan ∷ level ∷ [] in
+      let words = wordBytes (b .marks) in
+      let n₂ : length (head ++ b .symbols) ≡ 258 = length-append head (b .symbols) ∙ ap (λ n. 2 + n) symbols in
+      let n₃ : length ((head ++ b .symbols) ++ words) ≡ 290 =
+      length-append (head ++ b .symbols) words ∙ (let n = length-words (b .marks) in omega arith) in
+      let n₄ : length (((head ++ b .symbols) ++ words) ++ b .sums) ≡ 418 =
+      length-append ((head ++ b .symbols) ++ words) (b .sums) ∙ omega arith in
+      written-whole (written-then (written-then (written-then w₁ refl w₂) (omega arith) w₃) (omega arith) w₄) (fits ∙ sym n₄)
+      ∙ rw (e, f) refl
+
+-- ---- calls
+
+module _ (step : Bench → Stepped) (bench : List ℕ) where
+  pub steps-unfit : (length bench ≡ 418 → ⊥) → (11 ≡ stepAnswer step bench) × (bench ≡ stepBuffer step bench)
+  unfolding stepAnswer stepBuffer
+  steps-unfit h = (sym (sized-unfit benchSize bench _ _ h), sym (sized-unfit benchSize bench _ _ h))
+
+  pub steps-fit : {n : ℕ} {new : List ℕ} (b : Bench) (s : Stepped) → length bench ≡ 418 → b ≡ benchIn bench → s ≡ step b
+      → n ≡ stepNumber (s .answer) → new ≡ benchBytes (s .bench) → (n ≡ stepAnswer step bench) × (new ≡ stepBuffer step bench)
+  unfolding stepAnswer stepBuffer
+  steps-fit b s fits e f en eb =
+      let g : s ≡ step (benchIn bench) = f ∙ ap step e in (
+        en ∙ ap (λ (s : Stepped). stepNumber (s .answer)) g ∙ sym (sized-fit benchSize bench _ _ fits),
+        eb ∙ ap (λ (s : Stepped). benchBytes (s .bench)) g ∙ sym (sized-fit benchSize bench _ _ fits),
+      )
+
+module _ (p : ℕ) (stripe marks bench : List ℕ) where
+  pub starts-unfit : {n : ℕ} → (length bench ≡ 418 → ⊥) → n ≡ unfit p
+      → (n ≡ startNumber p stripe marks bench) × (bench ≡ startBuffer p stripe marks bench)
+  unfolding startNumber startBuffer
+  starts-unfit h e = (e ∙ sym (sized-unfit benchSize bench _ _ h), sym (sized-unfit benchSize bench _ _ h))
+
+  pub starts-fit : {n : ℕ} {new : List ℕ} (s : Started) → length bench ≡ 418 → s ≡ started p stripe marks
+      → n ≡ outcomeNumber (s .answer) → new ≡ benchBytes (s .bench)
+      → (n ≡ startNumber p stripe marks bench) × (new ≡ startBuffer p stripe marks bench)
+  unfolding startNumber startBuffer
+  starts-fit s fits e en eb = (
+    en ∙ ap (λ (s : Started). outcomeNumber (s .answer)) e ∙ sym (sized-fit benchSize bench _ _ fits),
+    eb ∙ ap (λ (s : Started). benchBytes (s .bench)) e ∙ sym (sized-fit benchSize bench _ _ fits),
+  )

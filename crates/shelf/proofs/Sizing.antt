@@ -1,0 +1,31 @@
+-- A choice by a buffer's size, and by those of the two text buffers. Assumes nothing.
+use mathlib.Core.Path.{_≡_, ap, _∙_}
+use mathlib.Core.List.{List}
+use Prim.Native.Nat.{ℕ}
+use lib.Dec.{eqb}
+use lib.ListN.{length}
+use borrow.Author.Tests.{eq-eqb, ne-eqb}
+use Rattle.field.specs.Lists.{if_then_else_}
+use Rattle.shelf.specs.Calls.{sized, textRoom, roomy}
+
+module _ {A : Type 0} (n : ℕ) (buffer : List ℕ) (x y : A) where
+  pub sized-fit : length buffer ≡ n → sized n buffer x y ≡ x
+  unfolding sized if_then_else_
+  sized-fit e = ap (λ b. if b then x else y) (eq-eqb (length buffer) n e)
+
+  pub sized-unfit : (length buffer ≡ n → ⊥) → sized n buffer x y ≡ y
+  unfolding sized if_then_else_
+  sized-unfit h = ap (λ b. if b then x else y) (ne-eqb (length buffer) n h)
+
+module _ {A : Type 0} (text size : List ℕ) (x y : A) where
+  pub roomy-fit : length text ≡ 320 → length size ≡ 2 → roomy text size x y ≡ x
+  unfolding roomy
+  roomy-fit e f = sized-fit textRoom text (sized 2 size x y) y e ∙ sized-fit 2 size x y f
+
+  pub roomy-no-text : (length text ≡ 320 → ⊥) → roomy text size x y ≡ y
+  unfolding roomy
+  roomy-no-text h = sized-unfit textRoom text (sized 2 size x y) y h
+
+  pub roomy-no-size : length text ≡ 320 → (length size ≡ 2 → ⊥) → roomy text size x y ≡ y
+  unfolding roomy
+  roomy-no-size e h = sized-fit textRoom text (sized 2 size x y) y e ∙ sized-unfit 2 size x y h

@@ -1,0 +1,44 @@
+-- What the calls that say Done or refuse return, and what the call of the text leaves. Assumes nothing.
+use mathlib.Core.Path.{_≡_, refl, sym, ap, _∙_}
+use mathlib.Core.List.{List}
+use Prim.Native.Nat.{ℕ, zero, suc}
+use lib.ListN.{length}
+use Rattle.repair.specs.Answers.{outcomeNumber}
+use Rattle.repair.specs.Codeword.{outcomeOf}
+use Rattle.repair.specs.File.{bytes2}
+use Rattle.repair.specs.Tables.{padded}
+use Rattle.repair.specs.Text.{printed}
+use Rattle.repair.specs.declared.Outcome.{Outcome}
+use Rattle.shelf.specs.Calls.{textRoom, roomy, textNumber, textBuffer, textSizeBuffer}
+use Rattle.shelf.proofs.Sizing.{roomy-fit, roomy-no-text, roomy-no-size}
+
+-- a refusal is returned as its number, and Done as 0
+pub outcome-told : (n : ℕ) {r : ℕ} {o : Outcome} → r ≡ outcomeNumber o → o ≡ outcomeOf n → r ≡ n
+unfolding outcomeNumber outcomeOf
+outcome-told zero e f = e ∙ ap outcomeNumber f
+outcome-told (suc n) e f = e ∙ ap outcomeNumber f
+
+pub length-bytes2 : (n : ℕ) → length (bytes2 n) ≡ 2
+unfolding bytes2
+length-bytes2 n = refl
+
+module _ (file text size : List ℕ) where
+  -- the answer's number and the two buffers
+  abbrev pub Told : ℕ → (t s : List ℕ) → Type 0
+  Told n t s = (n ≡ textNumber text size) × ((t ≡ textBuffer file text size) × (s ≡ textSizeBuffer file text size))
+
+  pub tells-no-text : (length text ≡ 320 → ⊥) → Told 11 text size
+  unfolding textNumber textBuffer textSizeBuffer
+  tells-no-text h = (sym (roomy-no-text text size _ _ h), (sym (roomy-no-text text size _ _ h), sym (roomy-no-text text size _ _ h)))
+
+  pub tells-no-size : length text ≡ 320 → (length size ≡ 2 → ⊥) → Told 11 text size
+  unfolding textNumber textBuffer textSizeBuffer
+  tells-no-size e h = (sym (roomy-no-size text size _ _ e h), (sym (roomy-no-size text size _ _ e h), sym (roomy-no-size text size _ _ e h)))
+
+  pub tells : {t s : List ℕ} → length text ≡ 320 → length size ≡ 2 → t ≡ padded textRoom (printed file) → s ≡ bytes2 (length (printed file))
+      → Told 0 t s
+  unfolding textNumber textBuffer textSizeBuffer
+  tells e f g h = (
+    sym (roomy-fit text size _ _ e f),
+    (g ∙ sym (roomy-fit text size _ _ e f), h ∙ sym (roomy-fit text size _ _ e f)),
+  )

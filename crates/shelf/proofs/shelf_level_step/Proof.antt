@@ -1,0 +1,40 @@
+-- `shelf_level_step` meets its contract. Assumes nothing.
+use Rattle.shelf.proofs.Benches.{steps-unfit, steps-fit}
+use borrow.Author.Needs.{needs}
+use Rattle.shelf.proofs.shelf_level_step.Statement.{statement}
+use Rattle.shelf.proofs.shelf_level_step.Tie as tie
+
+returns : tie.Need-returns
+returns c = steps-unfit _ _ (c .if1 .taken)
+
+bench-in-requires : tie.Need-bench-in-requires
+bench-in-requires c κs = search needs
+
+level-step-requires : tie.Need-level-step-requires
+level-step-requires c κs = search needs
+
+put-bench-requires : tie.Need-put-bench-requires
+put-bench-requires c κs = search needs
+
+of-step-requires : tie.Need-of-step-requires
+of-step-requires c κs = search needs
+
+same-length : tie.Need-same-length
+same-length c = search needs
+
+returns-2 : tie.Need-returns-2
+returns-2 c =
+    steps-fit _ _ _ _ (c .before .before .before .before .before .before .before .before .before .if1 .left) (c .before .before .before .before .before .before .before .bench-in .ensures) (c .before .before .before .before .before .before .level-step .ensures)
+    (c .of-step .ensures) (c .before .before .before .put-bench .ensures)
+
+pub shelf-level-step-spec : {M : Type 1} → statement M
+shelf-level-step-spec =
+    tie.close
+    (tie.spec
+    returns
+    bench-in-requires
+    level-step-requires
+    put-bench-requires
+    of-step-requires
+    same-length
+    returns-2)

@@ -1,0 +1,59 @@
+-- `shelf_text` meets its contract. Assumes nothing.
+use mathlib.Core.Path.{sym, ap, _∙_}
+use lib.ListN.{length}
+use Rattle.repair.specs.File.{bytes2}
+use Rattle.shelf.proofs.Writing.{written-whole}
+use Rattle.shelf.proofs.Telling.{length-bytes2, tells-no-text, tells-no-size, tells}
+use borrow.Author.Needs.{needs}
+use Rattle.shelf.proofs.shelf_text.Statement.{statement}
+use Rattle.shelf.proofs.shelf_text.Tie as tie
+
+returns : tie.Need-returns
+returns c = tells-no-text _ _ _ (c .if1 .taken)
+
+returns-2 : tie.Need-returns-2
+returns-2 c = tells-no-size _ _ _ (c .before .if1 .left) (c .if2 .taken)
+
+text-requires : tie.Need-text-requires
+text-requires c κs = search needs
+
+size-bytes-requires : tie.Need-size-bytes-requires
+size-bytes-requires c κs = search needs
+
+put-room-requires : tie.Need-put-room-requires
+put-room-requires c κs = search needs
+
+slice-aggregate-put : tie.Need-slice-aggregate-put
+slice-aggregate-put c = search needs
+
+put-requires : tie.Need-put-requires
+put-requires c κs = search needs
+
+same-length : tie.Need-same-length
+same-length c = search needs
+
+same-length-2 : tie.Need-same-length-2
+same-length-2 c = search needs
+
+returns-3 : tie.Need-returns-3
+returns-3 c =
+    let text = c .before .before .before .before .before .before .before .before .before .before .before .text in
+    let bytes = c .before .before .before .before .before .before .before .before .before .before .size-bytes .ensures in
+    let fits = c .before .before .before .before .before .before .before .before .before .before .before .before .before .if2 .left in
+    tells _ _ _ (c .before .before .before .before .before .before .before .before .before .before .before .before .before .before .if1 .left) fits (c .before .before .before .before .before .before .before .put-room .ensures ∙ text .ensures .1)
+    (written-whole (c .before .before .put .ensures) (fits ∙ sym (ap length bytes ∙ length-bytes2 _)) ∙ bytes ∙ ap bytes2 (text .ensures .0))
+
+pub shelf-text-spec : {M : Type 1} → statement M
+shelf-text-spec =
+    tie.close
+    (tie.spec
+    returns
+    returns-2
+    text-requires
+    size-bytes-requires
+    put-room-requires
+    slice-aggregate-put
+    put-requires
+    same-length
+    same-length-2
+    returns-3)

@@ -1,0 +1,65 @@
+-- A report and a bench as bytes.
+use Prim.Native.Nat.{ℕ, _+_, _*_, _%_}
+use mathlib.Core.Bool.{Bool, true, false}
+use mathlib.Core.List.{List, [], _∷_, _++_, map, flatMap}
+use lib.ListN.{take, drop, getD}
+use Rattle.field.specs.Lists.{upFrom}
+use Rattle.repair.specs.File.{bytes4, wordAt}
+use Rattle.repair.specs.declared.Bench.{Bench}
+use Rattle.repair.specs.declared.Report.{Report}
+use Rattle.repair.specs.declared.Answer.{Answer}
+use Rattle.repair.specs.declared.Answer.the-variants.{Restored, Stuck, Clash, Refused}
+use Rattle.repair.specs.declared.Place.{Place}
+use Rattle.repair.specs.declared.Place.the-variants.{Row, Across}
+
+-- the low byte of a number
+abbrev pub byte : ℕ → ℕ
+byte n = n % 256
+
+-- ---- a report: 8 bytes
+
+abbrev pub reportSize : ℕ
+reportSize = 8
+
+-- a Clash's place: 1, row and level; or 2, 0 and level
+unfoldable pub placeBytes : Place → List ℕ
+placeBytes (Row row level) = 1 ∷ byte row ∷ byte level ∷ []
+placeBytes (Across level) = 2 ∷ 0 ∷ byte level ∷ []
+
+-- zeros where there is no Clash
+unfoldable pub clashBytes : Answer → List ℕ
+clashBytes Restored = 0 ∷ 0 ∷ 0 ∷ []
+clashBytes Stuck = 0 ∷ 0 ∷ 0 ∷ []
+clashBytes (Clash place) = placeBytes place
+clashBytes (Refused n) = 0 ∷ 0 ∷ 0 ∷ []
+
+-- level, rows left, rows restored at levels 1, 2 and 3, and the place of a Clash
+unfoldable pub reportBytes : Report → List ℕ
+reportBytes r =
+    byte (r .level) ∷ byte (r .left)
+    ∷ byte (getD (r .rows) 0 0) ∷ byte (getD (r .rows) 1 0) ∷ byte (getD (r .rows) 2 0)
+    ∷ clashBytes (r .answer)
+
+unfoldable pub refuses : Answer → Bool
+refuses Restored = false
+refuses Stuck = false
+refuses (Clash place) = false
+refuses (Refused n) = true
+
+-- ---- a bench: 418 bytes
+
+abbrev pub benchSize : ℕ
+benchSize = 418
+
+-- plan, level, symbols, mark words of four bytes each, low byte first, and sums
+unfoldable pub benchBytes : Bench → List ℕ
+benchBytes b = byte (b .plan) ∷ byte (b .level) ∷ b .symbols ++ flatMap bytes4 (b .marks) ++ b .sums
+
+unfoldable pub benchIn : List ℕ → Bench
+benchIn bytes = record {
+  plan = getD bytes 0 0;
+  level = getD bytes 1 0;
+  symbols = take 256 (drop 2 bytes);
+  marks = map (λ r. wordAt bytes (258 + 4 * r)) (upFrom 0 8);
+  sums = take 128 (drop 290 bytes);
+}

@@ -1,0 +1,122 @@
+/* The repair library for scripts: plain numbers and buffers that the caller lends.
+ *
+ * A buffer is a pointer and then its length in elements. Two buffers of one call must not overlap, and none may be null.
+ * No call keeps a buffer, allocates, prints or fails in any other way than by the number that it returns.
+ * Every call answers for any bytes and any lengths; a call that refuses (10 or more) leaves every buffer as it was, except that
+ * a refused shelf_start with a bench buffer of the right length fills it with zeros.
+ *
+ * Plans, and the lengths that a plan asks for:
+ *
+ *     plan  rows  columns  symbols below  stripe bytes  mark words  data bytes  file bytes
+ *        1     3        7              2            21           3          15          41
+ *        2     8       32              2           256           8         198         296
+ *        3     8       15             16           120           8          98         160
+ *
+ * A stripe is one byte for each symbol, row after row. A row's marks are one 32-bit word, bit c for column c; a set bit says
+ * that the symbol there is lost.
+ *
+ * Numbers that are returned:
+ *
+ *     0  Restored; Done; yes, a codeword
+ *     1  Stuck; no, not a codeword
+ *     2  Clash: the unmarked symbols contradict each other
+ *     3  Whole: the row has no marks, and its sums are right
+ *     4  Filled: the row's marked symbols were found, its marks are clear
+ *     5  Tied: the row's marked symbols are not determined at this level
+ *     6  Raised: the next level's sums were learned
+ *     7  Blocked: too many rows have marks to learn them
+ *     8  Top: the bench is at the plan's last level
+ *    10  unknown plan
+ *    11  a buffer of a wrong length
+ *    12  a mark at column N or above
+ *    13  an unmarked symbol, a data symbol, or a learned sum that is too large
+ *    14  no such row
+ *    15  no such level
+ *    16  extraction from a stripe that is not a codeword
+ *    20  a file that is too short or of a wrong length
+ *    21  a file header that disagrees with its plan
+ *    22  a file with a byte other than 0 under a mark
+ *
+ * Where more than one refusal applies, the first is returned in the order 10, 11, 15, 12, 13, 14, 16; for a file that is read,
+ * 20 (shorter than its header), 10, 21, 20 (of a wrong length), 11, 12, 13, 22. */
+#ifndef SHELF_H
+#define SHELF_H
+
+#include <stddef.h>
+#include <stdint.h>
+
+#ifdef __cplusplus
+extern "C" {
+#endif
+
+/* Lengths of the buffers whose layout does not depend on the plan. */
+#define SHELF_BENCH 418
+#define SHELF_REPORT 8
+#define SHELF_TEXT 320
+#define SHELF_TEXT_LENGTH 2
+
+/* ---- mending in one call ---- */
+
+/* Mends a stripe: fills what the marks say is lost, as far as the plan can, and clears the marks of each row that was restored.
+ * Returns 0 Restored, 1 Stuck (some rows are left, the others are restored), 2 Clash (stripe and marks are as they were), or a
+ * refusal. The bytes under marks are not looked at.
+ *
+ * The report, 8 bytes (a refusal leaves it as it was):
+ *     0     level reached          5  place of a Clash: 0 none, 1 in a row, 2 across rows
+ *     1     rows left              6  row of a Clash in a row
+ *     2..4  rows restored at       7  level of a Clash
+ *           levels 1, 2 and 3
+ * Restored and Stuck leave bytes 5 to 7 zero, a Clash bytes 0 to 4. */
+size_t shelf_mend(size_t plan, uint8_t *stripe, size_t stripe_length, uint32_t *marks, size_t marks_length,
+                  uint8_t *report, size_t report_length);
+
+/* Whether a stripe is a codeword: 0 yes, 1 no, or a refusal. */
+size_t shelf_is_codeword(size_t plan, const uint8_t *stripe, size_t stripe_length);
+
+/* ---- data in and out ---- */
+
+/* Encodes data to a stripe: 0, or a refusal. */
+size_t shelf_encode(size_t plan, const uint8_t *data, size_t data_length, uint8_t *stripe, size_t stripe_length);
+
+/* Takes the data out of a stripe that is a codeword: 0, or a refusal. */
+size_t shelf_extract(size_t plan, const uint8_t *stripe, size_t stripe_length, uint8_t *data, size_t data_length);
+
+/* ---- mending step by step ----
+ *
+ * A bench is 418 bytes that the caller keeps and may copy:
+ *     0         plan
+ *     1         level
+ *     2..257    symbols, row after row
+ *     258..289  eight mark words of 4 bytes, low byte first
+ *     290..417  learned sums, row r's from 290 + 16 r on, in the order of the levels
+ * A bench buffer of another length is refused by 11 before anything else by a step, and after 10 by shelf_start. */
+
+/* Starts a bench at level 1 with the stripe and the marks as they are: 0, or a refusal. Stripe and marks are only read. */
+size_t shelf_start(size_t plan, const uint8_t *stripe, size_t stripe_length, const uint32_t *marks, size_t marks_length,
+                   uint8_t *bench, size_t bench_length);
+
+/* The row step: 3 Whole, 4 Filled, 5 Tied, 2 Clash, or a refusal. Only Filled changes the bench. */
+size_t shelf_row_step(uint8_t *bench, size_t bench_length, size_t row);
+
+/* The level step: 6 Raised, 7 Blocked, 8 Top, 2 Clash, or a refusal. Only Raised changes the bench. */
+size_t shelf_level_step(uint8_t *bench, size_t bench_length);
+
+/* ---- stripe files ---- */
+
+/* Reads a stripe file's stripe and marks: 0, or a refusal. The file's first byte is its plan. */
+size_t shelf_read_file(const uint8_t *file, size_t file_length, uint8_t *stripe, size_t stripe_length,
+                       uint32_t *marks, size_t marks_length);
+
+/* Writes a stripe and its marks as a stripe file, with 0 at each marked place: 0, or a refusal. */
+size_t shelf_write_file(size_t plan, const uint8_t *stripe, size_t stripe_length, const uint32_t *marks, size_t marks_length,
+                        uint8_t *file, size_t file_length);
+
+/* What the program `mend` prints for a file, any bytes: 0, or 11 where a buffer has another length. The text is 320 bytes, zeros
+ * behind what is printed; length is 2 bytes, low byte first, the number of bytes that are printed. */
+size_t shelf_text(const uint8_t *file, size_t file_length, uint8_t *text, size_t text_length, uint8_t *length, size_t length_length);
+
+#ifdef __cplusplus
+}
+#endif
+
+#endif
