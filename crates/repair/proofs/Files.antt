@@ -3,7 +3,7 @@ use mathlib.Core.Path.{_≡_, refl, sym, ap, ap₂, _∙_, subst}
 use mathlib.Core.Bool.{Bool, true, false, _&&_, and-true, and-false}
 use mathlib.Core.List.{List, [], _∷_, _++_, map, flatMap, append-assoc}
 use Prim.Native.Nat.{ℕ, zero, suc, _+_, _*_, _-_, _/_, _%_, _^_, _≤_, _<_}
-use native.Mathlib.Nat.{div-add-mod', mod-eq-of-lt, zero-add, add-assoc, not-suc-le-zero, le-of-suc-le-suc, le-of-eq, le-trans}
+use native.Mathlib.Nat.{div-add-mod', mod-eq-of-lt, add-assoc, not-suc-le-zero, le-of-suc-le-suc, le-of-eq, le-trans}
 use native.Mathlib.Omega.{arith}
 use borrow.Author.Tests.{eq-eqb, ne-eqb}
 use lib.Dec.{T, eqb, leb, ltb, ltb→lt, eqb→eq, le→leb}
@@ -21,7 +21,7 @@ use Rattle.repair.specs.Refusal.{firstFailed, unasked, inMemory, inFile,
 use Rattle.repair.specs.File.{bytes2, bytes4, marksOffset, symbolsOffset, fileLength, headerOf, blanked, fileOf, writeRefusal, writeFile, planIn, wordAt, marksIn, symbolsIn, fileRefusal, readRefusal, readStripe, readMarks}
 use Rattle.repair.proofs.Parts.{rest-of}
 use Rattle.repair.proofs.Rows.{sets-whole}
-use Rattle.repair.proofs.Writing.{front-set, sets-three}
+use Rattle.repair.proofs.Writing.{front-set}
 use Rattle.repair.proofs.Shape.{shape}
 use Rattle.repair.proofs.Fit.{pass, go-on, eq→eqb, passed, passes, marks-fit, fit-marks, symbols-fit, fit-symbols, LentFit}
 use Rattle.repair.proofs.Stripes.{length-blanked, blanked-twice, fit-blanked, length-marks-of}
@@ -301,20 +301,6 @@ module _ (p : ℕ) (stripe marks : List ℕ) (f : LentFit p stripe marks) where
   unfolding fileLength fileOf
   length-written =
       length-append (headerOf p ++ flatMap bytes4 marks) (blanked (marksOf Q marks) stripe) ∙ ap₂ _+_ length-front length-back
-
-  -- the three parts, put one behind the other
-  pub parts-put : (old : List ℕ) {header l₁ l₂ l₃ : List ℕ} {i₁ i₂ : ℕ} → length old ≡ fileLength Q → header ≡ headerOf p → l₁ ≡ sets old 0 header
-      → i₁ ≡ 0 + length header → l₂ ≡ sets l₁ i₁ (flatMap bytes4 marks) → i₂ ≡ i₁ + 4 * length marks
-      → l₃ ≡ sets l₂ i₂ (blanked (marksOf Q marks) stripe) → l₃ ≡ file
-  unfolding fileOf
-  parts-put old {header} long h e₁ n₁ e₂ n₂ e₃ =
-      let H = headerOf p in
-      let W = flatMap bytes4 marks in
-      let first = n₁ ∙ zero-add (length header) ∙ ap length h in
-      e₃
-      ∙ ap₂ (λ l i. sets l i (blanked (marksOf Q marks) stripe)) (e₂ ∙ ap₂ (λ l i. sets l i W) (e₁ ∙ ap (sets old 0) h) first)
-      (n₂ ∙ ap₂ _+_ first (sym (length-bytes marks)) ∙ sym (length-append H W))
-      ∙ sets-three H W (blanked (marksOf Q marks) stripe) old (length-written ∙ sym long)
 
   header-written : take 8 file ≡ headerOf p
   unfolding bytes2 headerOf fileOf

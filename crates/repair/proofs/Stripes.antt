@@ -13,7 +13,7 @@ use Rattle.field.specs.Field.{size}
 use Rattle.field.proofs.Test.{both-right}
 use Rattle.linear.specs.Marks.{bitsOf}
 use Rattle.linear.proofs.Marked.{length-bits, bits-at}
-use Rattle.linear.proofs.Tests.{In, up-in, all-in, in-all}
+use Rattle.linear.proofs.Tests.{In, up-in}
 use Rattle.repair.specs.Plan.{Plan, known, rowAt, marksAt, marksOf}
 use Rattle.repair.specs.Refusal.{unmarkedBelow, symbolsFit}
 use Rattle.repair.specs.File.{blanked}
@@ -21,6 +21,7 @@ use Rattle.repair.proofs.Flat.{flat-length}
 use Rattle.repair.proofs.Parts.{part, part-of}
 use Rattle.repair.proofs.Sound.{marks-length}
 use Rattle.repair.proofs.Rows.{row-end, row-length}
+use Rattle.repair.proofs.Fit.{symbols-fit, fit-symbols}
 
 pub known-below : (p : ℕ) → T (known p) → p < 4
 unfolding known
@@ -190,15 +191,13 @@ unmarked-blanked q (false ∷ ms) (x ∷ xs) = ap (λ b. ltb x q && b) (unmarked
 -- what stands under marks is not looked at
 pub fit-blanked : (P : Plan) (marks stripe : List ℕ) → length stripe ≡ P .rows * P .columns
     → T (symbolsFit P marks stripe) → T (symbolsFit P marks (blanked (marksOf P marks) stripe))
-unfolding symbolsFit
 fit-blanked P marks stripe e t =
-    in-all (below (blanked (marksOf P marks) stripe)) (upFrom 0 (P .rows)) (λ r m. subst T (sym (row r m)) (all-in (below stripe) (upFrom 0 (P .rows)) t m))
+    fit-symbols P marks (blanked (marksOf P marks) stripe) (λ r h. subst T (sym (row r h)) (symbols-fit P marks stripe t r h))
   where
     below : List ℕ → ℕ → Bool
     below l r = unmarkedBelow (size (P .field)) (marksAt P marks r) (rowAt P l r)
 
-    row : (r : ℕ) → In r (upFrom 0 (P .rows)) → below (blanked (marksOf P marks) stripe) r ≡ below stripe r
-    row r m =
-        let h = up-in 0 (P .rows) m .1 in
-        ap (unmarkedBelow (size (P .field)) (marksAt P marks r)) (row-blanked P marks stripe e r (omega arith))
+    row : (r : ℕ) → r < P .rows → below (blanked (marksOf P marks) stripe) r ≡ below stripe r
+    row r h =
+        ap (unmarkedBelow (size (P .field)) (marksAt P marks r)) (row-blanked P marks stripe e r h)
         ∙ unmarked-blanked (size (P .field)) (marksAt P marks r) (rowAt P stripe r)

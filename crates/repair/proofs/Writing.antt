@@ -14,6 +14,8 @@ use Rattle.repair.specs.Written.{Put}
 use Rattle.repair.proofs.Rows.{take-sets, sets-append, sets-whole}
 use Rattle.repair.proofs.Flat.{flat-append}
 
+-- ---- what was put
+
 -- what was put behind what was put
 pub put-then : {old l k : List ℕ} {at i j : ℕ} {xs ys : List ℕ} → Put old at xs i l → Put l i ys j k → Put old at (xs ++ ys) j k
 put-then {old} {at} {xs} {ys} p q = record {
@@ -27,12 +29,6 @@ put-is {old} {l} {at} {i} e p = subst (λ zs. Put old at zs i l) (sym e) p
 
 pub put-one : {old l : List ℕ} {at i : ℕ} {xs : List ℕ} → Put old at xs i l → i < length l → (v : ℕ) → Put old at (xs ++ (v ∷ [])) (i + 1) (set l i v)
 put-one p h v = put-then {ys = v ∷ []} p record { reached = refl; inside = omega arith; written = refl }
-
--- three lists as long as the buffer take its place
-pub sets-three : (a b c l : List ℕ) → length (a ++ b ++ c) ≡ length l → sets (sets (sets l 0 a) (length a) b) (length (a ++ b)) c ≡ a ++ b ++ c
-sets-three a b c l e =
-    ap₂ (λ k i. sets k i c) (ap (λ i. sets (sets l 0 a) i b) (sym (zero-add (length a))) ∙ sym (sets-append a b l 0)) (sym (zero-add (length (a ++ b))))
-    ∙ sym (sets-append (a ++ b) c l 0) ∙ sets-whole (a ++ b ++ c) l e
 
 -- what was written at the front is read there
 pub front-set : (n : ℕ) (x l : List ℕ) → length x ≡ n → n ≤ length l → take n (sets l 0 x) ≡ x

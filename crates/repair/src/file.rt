@@ -15,7 +15,7 @@ ghost use Rattle.linear.specs.Marks.{bitsOf};
 ghost use Rattle.repair.specs.Plan.{planOf, known, marksOf};
 ghost use Rattle.repair.specs.Refusal.{firstFailed, unasked};
 ghost use Rattle.repair.specs.File.{bytes4, headerOf, fileLength, blanked, fileOf, writeRefusal, planIn, wordAt, marksIn, symbolsIn, fileRefusal};
-ghost use Rattle.repair.specs.Written.{contentTests};
+ghost use Rattle.repair.specs.Written.{Put, contentTests};
 
 // ---- words of four bytes, low byte first
 
@@ -107,8 +107,7 @@ fn kept(word: u32, column: usize, symbol: u8) -> u8
 // Writes a row from `at` on, 0 under its marks, and gives the place behind it. The rest of the file is unchanged.
 fn put_row(word: u32, row: &[u8], file: &mut [u8], at: usize) -> usize
     requires { ⌜ (length (now row) ≤ 32) × (at + length (now row) ≤ length (now file)) ⌝ }
-    ensures { λ r. ⌜ r ≡ at + length (now (row .entry)) ⌝ }
-    ensures { λ r. ⌜ now (file .exit) ≡ sets (now (file .entry)) at (blanked (bitsOf (length (now (row .entry))) word) (now (row .entry))) ⌝ }
+    ensures { λ r. ⌜ Put (now (file .entry)) at (blanked (bitsOf (length (now (row .entry))) word) (now (row .entry))) r (now (file .exit)) ⌝ }
 {
     for c in 0..row.len() {
         file[at + c] = kept(word, c, row[c]);
@@ -116,13 +115,13 @@ fn put_row(word: u32, row: &[u8], file: &mut [u8], at: usize) -> usize
     at + row.len()
 }
 
-// Writes the symbols from `at` on, 0 under marks. The rest of the file is unchanged.
-fn put_symbols(plan: usize, stripe: &[u8], marks: &[u32], file: &mut [u8], at: usize)
+// Writes the symbols from `at` on, 0 under marks, and gives the place behind them. The rest of the file is unchanged.
+fn put_symbols(plan: usize, stripe: &[u8], marks: &[u32], file: &mut [u8], at: usize) -> usize
     requires { ⌜ T (known plan) ⌝ }
     requires { ⌜ length (now marks) ≡ planOf plan .rows ⌝ }
     requires { ⌜ length (now stripe) ≡ planOf plan .rows * planOf plan .columns ⌝ }
     requires { ⌜ at + length (now stripe) ≤ length (now file) ⌝ }
-    ensures { λ _. ⌜ now (file .exit) ≡ sets (now (file .entry)) at (blanked (marksOf (planOf plan) (now (marks .entry))) (now (stripe .entry))) ⌝ }
+    ensures { λ r. ⌜ Put (now (file .entry)) at (blanked (marksOf (planOf plan) (now (marks .entry))) (now (stripe .entry))) r (now (file .exit)) ⌝ }
 {
     let columns = plan::columns(plan);
     let mut next = at;
@@ -131,6 +130,7 @@ fn put_symbols(plan: usize, stripe: &[u8], marks: &[u32], file: &mut [u8], at: u
         let end = start + columns;
         next = put_row(marks[r], &stripe[start..end], file, next);
     }
+    next
 }
 
 // ---- marks
@@ -138,8 +138,7 @@ fn put_symbols(plan: usize, stripe: &[u8], marks: &[u32], file: &mut [u8], at: u
 // Writes the mark words from `at` on, and gives the place behind them. The rest of the file is unchanged.
 fn put_marks(marks: &[u32], file: &mut [u8], at: usize) -> usize
     requires { ⌜ at + 4 * length (now marks) ≤ length (now file) ⌝ }
-    ensures { λ r. ⌜ r ≡ at + 4 * length (now (marks .entry)) ⌝ }
-    ensures { λ r. ⌜ now (file .exit) ≡ sets (now (file .entry)) at (flatMap bytes4 (now (marks .entry))) ⌝ }
+    ensures { λ r. ⌜ Put (now (file .entry)) at (flatMap bytes4 (now (marks .entry))) r (now (file .exit)) ⌝ }
 {
     let mut next = at;
     for r in 0..marks.len() {

@@ -25,7 +25,7 @@ front : (c : tie.After-put-symbols)
     take (length (now (a .symbols))) (c .put-symbols .last .1 .1 .1 .0) ≡ blanked (marksOf (planOf (a .plan)) (now (a .marks))) (now (a .symbols))
 front c =
     let s = c .before .before .before .before in
-    ap (take (length (now (s .args .symbols)))) (c .put-symbols .ensures) ∙ front-set _ _ (replicate 256 0) (long s) (small s)
+    ap (take (length (now (s .args .symbols)))) (c .put-symbols .ensures .written) ∙ front-set _ _ (replicate 256 0) (long s) (small s)
 
 slice-aggregate-put-symbols : tie.Need-slice-aggregate-put-symbols
 slice-aggregate-put-symbols c = search needs

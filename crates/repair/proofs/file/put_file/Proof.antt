@@ -1,12 +1,14 @@
 -- `repair::file::put_file` meets its contract: header, marks and symbols stand one behind the other, and fill the file. Assumes nothing.
-use mathlib.Core.Path.{_≡_, ap}
+use mathlib.Core.Path.{_≡_, sym, ap, _∙_}
 use native.Mathlib.Omega.{arith}
 use borrow.Author.Needs.{needs}
 use denote.Ref.{now}
 use lib.ListN.{length}
 use Rattle.repair.specs.Plan.{planOf}
-use Rattle.repair.specs.File.{bytes2, marksOffset, symbolsOffset, fileLength, headerOf}
-use Rattle.repair.proofs.Files.{write-fit, parts-put}
+use Rattle.repair.specs.File.{bytes2, marksOffset, symbolsOffset, fileLength, headerOf, fileOf}
+use Rattle.repair.proofs.Files.{write-fit, length-bytes, length-written}
+use Rattle.repair.proofs.Rows.{sets-whole}
+use Rattle.repair.proofs.Writing.{put-then, put-is}
 use Rattle.repair.proofs.Fit.{LentFit}
 use Rattle.repair.proofs.file.put_file.Statement.{statement}
 use Rattle.repair.proofs.file.put_file.Tie as tie
@@ -34,15 +36,27 @@ put-marks-requires c κs =
 put-symbols-requires : tie.Need-put-symbols-requires
 unfolding bytes2 marksOffset symbolsOffset fileLength headerOf
 put-symbols-requires c κs =
+    let s = c .before .before .before .before .before .before .before .before .before .before .before .before .before .before in
     let put = c .before .before .before .before .before .before .before .put in
     let marks = c .before .before .before .put-marks in
-    let f = fit (c .before .before .before .before .before .before .before .before .before .before .before .before .before .before) in (
+    let f = fit s in (
       f .0 .plan-known,
       (
         f .0 .words,
         (
           f .0 .long,
-          omega (arith, put .ensures .reached, put .kept .1 .0, marks .ensures .0, marks .kept .1 .0, ap length (c .before .before .before .before .before .before .before .before .before .before .header-of .ensures), f .0 .words, f .0 .long, f .1),
+          omega (
+            arith,
+            put .ensures .reached,
+            put .kept .1 .0,
+            marks .ensures .reached,
+            marks .kept .1 .0,
+            length-bytes (now (s .args .marks)),
+            ap length (c .before .before .before .before .before .before .before .before .before .before .header-of .ensures),
+            f .0 .words,
+            f .0 .long,
+            f .1,
+          ),
         ),
       ),
     )
@@ -51,11 +65,12 @@ same-length : tie.Need-same-length
 same-length c = search needs
 
 returns : tie.Need-returns
+unfolding fileOf
 returns c =
-    let put = c .before .before .before .before .before .before .before .before .before .before .put .ensures in
-    let marks = c .before .before .before .before .before .before .put-marks .ensures in
     let f = fit (c .before .before .before .before .before .before .before .before .before .before .before .before .before .before .before .before .before) in
-    parts-put _ _ _ (f .0) _ (f .1) (c .before .before .before .before .before .before .before .before .before .before .before .before .before .header-of .ensures) (put .written) (put .reached) (marks .1) (marks .0) (c .before .before .put-symbols .ensures)
+    let header = put-is (sym (c .before .before .before .before .before .before .before .before .before .before .before .before .before .header-of .ensures)) (c .before .before .before .before .before .before .before .before .before .before .put .ensures) in
+    put-then (put-then header (c .before .before .before .before .before .before .put-marks .ensures)) (c .before .before .put-symbols .ensures) .written
+    ∙ sets-whole _ _ (length-written _ _ _ (f .0) ∙ sym (f .1))
 
 pub put-file-spec : {M : Type 1} → statement M
 put-file-spec =

@@ -54,8 +54,7 @@ same-length : tie.Need-same-length Inv-loop μ-loop
 same-length c = joining-length bytes4 _ _ _ (c .before .loop .inv .2)
 
 returns : tie.Need-returns Inv-loop μ-loop
-returns c =
-    (omega arith, joining-ends bytes4 _ _ _ (c .before .loop .inv .2) (omega arith) (omega arith) .written)
+returns c = joining-ends bytes4 _ _ _ (c .before .loop .inv .2) (omega arith) (omega arith)
 
 pub put-marks-spec : {M : Type 1} → statement M
 put-marks-spec =

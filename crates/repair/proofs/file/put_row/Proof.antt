@@ -1,12 +1,12 @@
 -- `repair::file::put_row` meets its contract: after c turns the first c symbols are written, 0 under marks. Assumes nothing.
-use mathlib.Core.Path.{_≡_, refl, _∙_}
-use Prim.Native.Nat.{_-_}
+use mathlib.Core.Path.{_≡_, refl, sym, ap, _∙_}
+use Prim.Native.Nat.{_+_, _-_}
 use native.Mathlib.Omega.{arith}
 use borrow.Author.Needs.{needs}
 use lib.ListN.{length}
 use Rattle.linear.specs.Marks.{bitsOf}
 use Rattle.repair.specs.File.{blanked}
-use Rattle.repair.proofs.Writing.{Writing, writing-starts, writing-length, writing-turns, writing-ends}
+use Rattle.repair.proofs.Writing.{Writing, writing-starts, writing-length, writing-turns, writing-put}
 use Rattle.repair.proofs.Stripes.{length-kept, getD-kept}
 use Rattle.repair.proofs.file.put_row.Statement.{statement}
 use Rattle.repair.proofs.file.put_row.Tie as tie
@@ -56,7 +56,8 @@ same-length c = writing-length _ _ _ (c .before .loop .inv .1)
 returns : tie.Need-returns Inv-loop μ-loop
 returns c =
     let a = c .before .before .before .before .args in
-    (refl, writing-ends _ _ _ (c .before .loop .inv .1) (omega (arith, length-kept (a .word) (a .row .now))))
+    let long = length-kept (a .word) (a .row .now) in
+    writing-put _ _ _ (c .before .loop .inv .1) (omega (arith, long)) (ap (λ n. a .at + n) (sym long)) (omega arith)
 
 pub put-row-spec : {M : Type 1} → statement M
 put-row-spec =

@@ -1,10 +1,9 @@
 -- `repair::file::put_symbols` meets its contract: after r turns the first r rows are written. Assumes nothing.
-use mathlib.Core.Path.{ap₂, ap, _≡_, refl, sym, _∙_}
+use mathlib.Core.Path.{ap₂, _≡_, refl}
 use Prim.Native.Nat.{_+_, _*_, _-_}
 use native.Mathlib.Nat.{add-mul}
 use native.Mathlib.Omega.{arith}
 use borrow.Author.Needs.{needs}
-use lib.Seq.{sets}
 use lib.ListN.{length}
 use Rattle.field.proofs.Lists.{length-up}
 use Rattle.field.specs.Lists.{upFrom}
@@ -12,7 +11,7 @@ use Rattle.repair.specs.File.{blanked}
 use Rattle.repair.specs.Plan.{planOf, rowAt, marksAt}
 use Rattle.repair.proofs.Shape.{shape}
 use Rattle.repair.proofs.Stripes.{Cut, cut-inside, cut-length, cut-marks, length-kept, blanked-rows}
-use Rattle.repair.proofs.Writing.{Joining, joining-starts, joining-length, counting-turns, counting-ends}
+use Rattle.repair.proofs.Writing.{Joining, joining-starts, joining-length, counting-turns, counting-ends, put-is}
 use Rattle.repair.proofs.file.put_symbols.Statement.{statement}
 use Rattle.repair.proofs.file.put_symbols.Tie as tie
 
@@ -73,9 +72,8 @@ loop-again c =
     let l = i .before .loop in
     let put = c .before .before .put-row .ensures in (
       refl,
-      omega (arith, put .0, cut-length (cut i), add-mul (l .r) 1 (i .before .before .columns .result)),
-      counting-turns _ _ _ _ (l .inv .2) (cut i .below) (cut-marks (cut i) blanked _) (put .1)
-          (simp length-kept (put .0)),
+      omega (arith, simp length-kept at (put .reached), cut-length (cut i), add-mul (l .r) 1 (i .before .before .columns .result)),
+      counting-turns _ _ _ _ (l .inv .2) (cut i .below) (cut-marks (cut i) blanked _) (put .written) (put .reached),
     )
 
 same-length : tie.Need-same-length Inv-loop μ-loop
@@ -87,9 +85,9 @@ returns c =
     let l = c .before .loop in
     let P = planOf (s .args .plan) in
     let all : l .r ≡ P .rows = omega (arith, l .inv .2 .within, length-up 0 (P .rows), s .pre .1 .0) in
-    counting-ends _ _ _ _ (l .inv .2) (omega arith)
-    (omega (arith, l .inv .1, ap₂ _*_ all (c .before .before .columns .ensures), s .pre .1 .1 .0, s .pre .1 .1 .1)) .written
-    ∙ ap (sets _ _) (sym (blanked-rows P (s .args .marks .now) (s .args .stripe .now) (s .pre .1 .1 .0)))
+    put-is (blanked-rows P (s .args .marks .now) (s .args .stripe .now) (s .pre .1 .1 .0))
+    (counting-ends _ _ _ _ (l .inv .2) (omega arith)
+    (omega (arith, l .inv .1, ap₂ _*_ all (c .before .before .columns .ensures), s .pre .1 .1 .0, s .pre .1 .1 .1)))
 
 pub put-symbols-spec : {M : Type 1} → statement M
 put-symbols-spec =
