@@ -23,7 +23,7 @@ use Rattle.repair.proofs.Parts.{rest-of}
 use Rattle.repair.proofs.Rows.{sets-whole}
 use Rattle.repair.proofs.Writing.{front-set}
 use Rattle.repair.proofs.Shape.{shape}
-use Rattle.repair.proofs.Fit.{pass, go-on, eq→eqb, passed, passes, marks-fit, fit-marks, symbols-fit, fit-symbols, LentFit}
+use Rattle.repair.proofs.Fit.{pass, go-on, eq→eqb, passed, marks-fit, fit-marks, symbols-fit, fit-symbols, LentFit, lent-fit, fit-lent}
 use Rattle.repair.proofs.Stripes.{length-blanked, blanked-twice, fit-blanked, length-marks-of}
 
 -- ---- words of four bytes
@@ -387,38 +387,6 @@ module _ (p : ℕ) (stripe marks old : List ℕ) where
   abbrev room : Bool
   room = eqb (length old) (fileLength S)
 
-  pub write-fit : writeRefusal p stripe marks old ≡ 0 → LentFit p stripe marks × (length old ≡ fileLength S)
-  unfolding unasked stripeFits wordsFit writeRefusal
-  write-fit e =
-      let h = passed (known p) (lengths && room) unasked (marksFit S marks) (symbolsFit S marks stripe) unasked unasked e in
-      let l = both-left lengths room (h .lengths) in (
-        record {
-          plan-known = h .plan;
-          long = eqb→eq (length stripe) (S .rows * S .columns) (both-left (stripeFits S stripe) (wordsFit S marks) l);
-          words = eqb→eq (length marks) (S .rows) (both-right (stripeFits S stripe) (wordsFit S marks) l);
-          mark-lt = marks-fit S marks (h .marks);
-          row-fits = symbols-fit S marks stripe (h .symbols);
-        },
-        eqb→eq (length old) (fileLength S) (both-right lengths room (h .lengths)),
-      )
-
-  pub fit-write : LentFit p stripe marks → length old ≡ fileLength S → writeRefusal p stripe marks old ≡ 0
-  unfolding unasked stripeFits wordsFit writeRefusal
-  fit-write f e =
-      passes (known p) (lengths && room) unasked (marksFit S marks) (symbolsFit S marks stripe) unasked unasked
-      record {
-        plan = f .plan-known;
-        lengths =
-            both lengths room
-            (both (stripeFits S stripe) (wordsFit S marks) (eq→eqb (length stripe) (S .rows * S .columns) (f .long)) (eq→eqb (length marks) (S .rows) (f .words)))
-            (eq→eqb (length old) (fileLength S) e);
-        level = tt;
-        marks = fit-marks S marks (f .mark-lt);
-        symbols = fit-symbols S marks stripe (f .row-fits);
-        row = tt;
-        codeword = tt;
-      }
-
   pub room-refused : known p ≡ true → (length old ≡ fileLength S → ⊥) → writeRefusal p stripe marks old ≡ 11
   unfolding if_then_else_ firstFailed inMemory writeRefusal
   room-refused k h = rw (k, ne-eqb (length old) (fileLength S) h, and-false)
@@ -426,6 +394,15 @@ module _ (p : ℕ) (stripe marks old : List ℕ) where
   pub room-fits : length old ≡ fileLength S → writeRefusal p stripe marks old ≡ lentRefusal p stripe marks
   unfolding lentRefusal writeRefusal
   room-fits h = rw (eq-eqb (length old) (fileLength S) h, and-true)
+
+  pub write-fit : writeRefusal p stripe marks old ≡ 0 → LentFit p stripe marks × (length old ≡ fileLength S)
+  unfolding writeRefusal
+  write-fit e =
+      let h = passed (known p) (lengths && room) unasked (marksFit S marks) (symbolsFit S marks stripe) unasked unasked e in
+      let r = eqb→eq (length old) (fileLength S) (both-right lengths room (h .lengths)) in (lent-fit p stripe marks (sym (room-fits r) ∙ e), r)
+
+  pub fit-write : LentFit p stripe marks → length old ≡ fileLength S → writeRefusal p stripe marks old ≡ 0
+  fit-write f e = room-fits e ∙ fit-lent p stripe marks f
 
   pub written : writeRefusal p stripe marks old ≡ 0 → writeFile p stripe marks old ≡ fileOf p stripe marks
   unfolding if_then_else_ writeFile
