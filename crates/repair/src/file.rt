@@ -56,6 +56,8 @@ fn header_of(plan: usize) -> [u8; 8]
     let rows = plan::rows(plan);
     let columns = plan::columns(plan);
     let symbols = 8 + 4 * rows;
+    let low = symbols % 256;
+    let high = symbols / 256 % 256;
     [
         plan as u8,
         rows as u8,
@@ -63,8 +65,8 @@ fn header_of(plan: usize) -> [u8; 8]
         0,
         8,
         0,
-        (symbols % 256) as u8,
-        (symbols / 256 % 256) as u8,
+        low as u8,
+        high as u8,
     ]
 }
 

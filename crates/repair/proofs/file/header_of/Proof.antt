@@ -19,17 +19,17 @@ mul-symbols c = omega (arith, shape _ (c .before .before .pre))
 add-symbols : tie.Need-add-symbols
 add-symbols c = omega (arith, shape _ (c .before .before .pre))
 
-cast-t6 : tie.Need-cast-t6
-cast-t6 c = omega (arith, known-below _ (c .before .before .pre))
-
-cast-t7 : tie.Need-cast-t7
-cast-t7 c = omega (arith, shape _ (c .before .before .pre))
-
 cast-t8 : tie.Need-cast-t8
-cast-t8 c = omega (arith, shape _ (c .before .before .pre))
+cast-t8 c = omega (arith, known-below _ (c .before .before .pre))
 
 cast-t9 : tie.Need-cast-t9
-cast-t9 c = search needs
+cast-t9 c = omega (arith, shape _ (c .before .before .pre))
+
+cast-t10 : tie.Need-cast-t10
+cast-t10 c = omega (arith, shape _ (c .before .before .pre))
+
+cast-t11 : tie.Need-cast-t11
+cast-t11 c = search needs
 
 cast-t12 : tie.Need-cast-t12
 cast-t12 c = search needs
@@ -46,9 +46,9 @@ header-of-spec =
     columns-requires
     mul-symbols
     add-symbols
-    cast-t6
-    cast-t7
     cast-t8
     cast-t9
+    cast-t10
+    cast-t11
     cast-t12
     returns)
