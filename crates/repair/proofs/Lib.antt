@@ -43,10 +43,3 @@ pub mod Learning
 pub mod Data
 pub mod Placing
 pub mod Carrying
--- the stripe file
-pub mod Writing
-pub mod Stripes
-pub mod Files
--- the text
-pub mod Texts
-pub mod Printing

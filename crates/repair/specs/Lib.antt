@@ -11,4 +11,3 @@ pub mod Text
 pub mod Tables
 pub mod Learned
 pub mod Walk
-pub mod Written

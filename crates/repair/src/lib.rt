@@ -1,26 +1,18 @@
 // The repair library: what a bench is, and what each call answers.
-mod buffer;
 mod codeword;
 mod copies;
 mod encoding;
-mod file;
 mod level;
-mod lines;
-mod marks;
 mod mending;
 pub mod plan;
-mod refusal;
+pub mod refusal;
 mod steps;
 mod sums;
 
 ghost use mathlib.Core.Path.{_≡_};
-ghost use lib.ListN.{length};
 ghost use Rattle.repair.specs.Steps.{started, rowStep, levelStep};
 ghost use Rattle.repair.specs.Rounds.{mendReport, mendStripe, mendMarks};
 ghost use Rattle.repair.specs.Codeword.{tested, outcomeOf, encodeRefusal, encodeStripe, extractRefusal, extractData};
-ghost use Rattle.repair.specs.File.{writeRefusal, writeFile, readRefusal, readStripe, readMarks};
-ghost use Rattle.repair.specs.Tables.{padded};
-ghost use Rattle.repair.specs.Text.{printed};
 
 // A plan's number, the level t that was reached, symbols and mark words row after row, and each row's learned sums, 16 places a row.
 pub struct Bench {
@@ -245,44 +237,4 @@ pub fn extract(plan: usize, stripe: &[u8], data: &mut [u8]) -> Outcome
     let rows = plan::rows(plan);
     encoding::take(plan, &words[..rows], stripe, data);
     Outcome::Done
-}
-
-// Writes a stripe and its marks as a file, 0 under marks. Where it is refused the file is unchanged.
-pub fn write_file(plan: usize, stripe: &[u8], marks: &[u32], file: &mut [u8]) -> Outcome
-    ensures { λ r. ⌜ r ≡ outcomeOf (writeRefusal plan (now (stripe .entry)) (now (marks .entry)) (now (file .entry))) ⌝ }
-    ensures { λ _. ⌜ now (file .exit) ≡ writeFile plan (now (stripe .entry)) (now (marks .entry)) (now (file .entry)) ⌝ }
-{
-    let number = file::write_refusal(plan, stripe, marks, file);
-    if number != 0 {
-        return Outcome::Refused(number);
-    }
-    file::put_file(plan, stripe, marks, file);
-    Outcome::Done
-}
-
-// Reads a file into a stripe and its marks. Where it is refused both are unchanged.
-pub fn read_file(file: &[u8], stripe: &mut [u8], marks: &mut [u32]) -> Outcome
-    ensures { λ r. ⌜ r ≡ outcomeOf (readRefusal (now (file .entry)) (now (stripe .entry)) (now (marks .entry))) ⌝ }
-    ensures { λ _. ⌜ now (stripe .exit) ≡ readStripe (now (file .entry)) (now (stripe .entry)) (now (marks .entry)) ⌝ }
-    ensures { λ _. ⌜ now (marks .exit) ≡ readMarks (now (file .entry)) (now (stripe .entry)) (now (marks .entry)) ⌝ }
-{
-    let plan = file::plan_in(file);
-    let lengths = refusal::lengths_fit(plan, stripe, marks);
-    let number = file::file_refusal(file, lengths);
-    if number != 0 {
-        return Outcome::Refused(number);
-    }
-    file::load(file, stripe, marks);
-    Outcome::Done
-}
-
-// What `mend` prints for any bytes that it reads: the text at the front of `out` and zeros behind it, and its length.
-pub fn text(file: &[u8], out: &mut [u8; 320]) -> usize
-    ensures { λ r. ⌜ r ≡ length (printed (now (file .entry))) ⌝ }
-    ensures { λ _. ⌜ now (out .exit) ≡ padded 320 (printed (now (file .entry))) ⌝ }
-{
-    let mut room = [0u8; 320];
-    let size = lines::put_text(file, &mut room);
-    *out = room;
-    size
 }

@@ -1,0 +1,336 @@
+-- What mending leaves can be printed: its numbers are below 100, and its unmarked symbols are below q. Assumes nothing.
+use mathlib.Core.Path.{_≡_, refl, sym, ap, _∙_, subst, subst₂}
+use mathlib.Core.Bool.{Bool, true, false, not}
+use mathlib.Core.List.{List, [], _∷_, _++_, map}
+use Prim.Native.Nat.{ℕ, zero, suc, suc-le-suc, pred, _+_, _*_, _<_, _≤_}
+use native.Mathlib.Nat.{mul-le-mul}
+use native.Mathlib.Omega.{arith}
+use borrow.Author.Tests.{ltb-true, ne-eqb}
+use lib.Dec.{T, eqb, ltb, lt→ltb}
+use lib.ListN.{length, take, drop, getD, set, replicate, length-set, length-map, take-append-drop}
+use lib.Seq.{length-take-le, getD-take}
+use Rattle.field.specs.Lists.{if_then_else_, upFrom}
+use Rattle.field.specs.Field.{size}
+use Rattle.field.proofs.Lists.{length-up}
+use Rattle.field.proofs.Test.{both}
+use Rattle.linear.specs.Lists.{all, only}
+use Rattle.linear.specs.Marks.{bitsOf}
+use Rattle.linear.specs.Fill.{Fill, tied, none, one}
+use Rattle.repair.specs.Plan.{Plan, planOf, known, rowAt, marksAt}
+use Rattle.repair.specs.Answers.{answerNumber, placeValues, answerValues, reportValues, stepNumber}
+use Rattle.repair.specs.Refusal.{unasked, allBelow, unmarkedBelow, symbolsFit, lentRefusal, benchRefusal}
+use Rattle.repair.specs.Steps.{fresh, stepped, unlessRefused, rowFill, putRow, rowStepBy, rowStep, lossy, Learned, blocked, failing, learned, levelFill, raise, levelStepBy, levelStep}
+use Rattle.repair.specs.Rounds.{Standing, Turn, on, end, clash, counted, afterRow, afterLevel, takeTurn, goOn, turns, mended, rowsLeft, endReport, bare, turnReport, turnStripe, turnMarks, mendReport, mendStripe, mendMarks}
+use Rattle.repair.specs.File.{planIn, symbolsIn, marksIn, fileRefusal}
+use Rattle.repair.specs.Text.{item, lineEnd, reportText, mendText, printed}
+use Rattle.repair.specs.declared.Bench.{Bench}
+use Rattle.repair.specs.declared.Step.{Step}
+use Rattle.repair.specs.declared.Step.the-variants.{Whole, Filled, Tied, Raised, Blocked, Top, Clash, Refused}
+use Rattle.repair.specs.declared.Place.the-variants.{Row}
+use Rattle.repair.specs.declared.Answer.the-variants.{Restored, Stuck}
+use Rattle.repair.specs.declared.Report.{Report}
+use Rattle.repair.proofs.Rows.{row-end, row-append}
+use Rattle.repair.proofs.Shape.{Shape, shape}
+use Rattle.repair.proofs.Fit.{RowFits, LentFit, fit-symbols, lent-fit}
+use Rattle.repair.proofs.Sound.{Sound, sound-fresh, sound-row, sound-level}
+
+-- ---- steps keep the plan
+
+module _ (b : Bench) where
+  row-plan : (r : ℕ) → rowStep b r .bench .plan ≡ b .plan
+  unfolding stepped unlessRefused putRow rowStepBy rowStep
+  row-plan r = go (benchRefusal b (ltb r (planOf (b .plan) .rows))) (rowFill b r)
+    where
+      go : (n : ℕ) (f : Fill) → unlessRefused n b (rowStepBy b r f) .bench .plan ≡ b .plan
+      go zero tied = refl
+      go zero none = refl
+      go zero (one row) = refl
+      go (suc n) f = refl
+
+  level-plan : levelStep b .bench .plan ≡ b .plan
+  unfolding if_then_else_ stepped unlessRefused raise levelStepBy levelStep
+  level-plan = go (benchRefusal b unasked) (ltb (b .level) (length (planOf (b .plan) .levels))) (levelFill b)
+    where
+      go : (n : ℕ) (c : Bool) (l : Learned) → unlessRefused n b (if c then levelStepBy b l else stepped b Top) .bench .plan ≡ b .plan
+      go zero true blocked = refl
+      go zero true failing = refl
+      go zero true (learned cs) = refl
+      go zero false l = refl
+      go (suc n) c l = refl
+
+only-length : (f : Bool → Bool) (l : List Bool) → length (only f l) ≤ length l
+unfolding if_then_else_ only
+only-length f [] = omega arith
+only-length f (x ∷ l) = go (f x) (only-length f l)
+  where
+    go : (b : Bool) → length (only f l) ≤ length l → length (if b then x ∷ only f l else only f l) ≤ suc (length l)
+    go true h = omega arith
+    go false h = omega arith
+
+-- ---- after n turns
+
+-- the bench is sound, and no more than n rows were counted at a level
+record After (p n : ℕ) (m : Standing) : Type 0 where
+  sound : Sound (m .bench)
+  plan : m .bench .plan ≡ p
+  three : length (m .restored) ≡ 3
+  few : (i : ℕ) → getD (m .restored) i 0 ≤ n
+
+-- and the numbers of a Clash's place are small
+abbrev Reached : (p n : ℕ) → Turn → Type 0
+Reached p n (on m) = After p n m
+Reached p n (end m) = After p n m
+Reached p n (clash place) = T (allBelow 100 (placeValues place))
+
+set-le : (n : ℕ) (l : List ℕ) (j v : ℕ) → ((i : ℕ) → getD l i 0 ≤ n) → v ≤ n → (i : ℕ) → getD (set l j v) i 0 ≤ n
+set-le n [] j v h e i = h i
+set-le n (x ∷ l) zero v h e zero = e
+set-le n (x ∷ l) zero v h e (suc i) = h (suc i)
+set-le n (x ∷ l) (suc j) v h e zero = h zero
+set-le n (x ∷ l) (suc j) v h e (suc i) = set-le n l j v (λ i. h (suc i)) e i
+
+module _ (s : Step) (t : ℕ) (l : List ℕ) where
+  counted-length : length (counted s t l) ≡ length l
+  unfolding if_then_else_ counted
+  counted-length = go (eqb (stepNumber s) 4)
+    where
+      go : (b : Bool) → length (if b then set l (pred t) (suc (getD l (pred t) 0)) else l) ≡ length l
+      go true = length-set l (pred t) (suc (getD l (pred t) 0))
+      go false = refl
+
+  counted-le : (n : ℕ) → ((i : ℕ) → getD l i 0 ≤ n) → (i : ℕ) → getD (counted s t l) i 0 ≤ suc n
+  unfolding if_then_else_ counted
+  counted-le n h = go (eqb (stepNumber s) 4)
+    where
+      go : (b : Bool) (i : ℕ) → getD (if b then set l (pred t) (suc (getD l (pred t) 0)) else l) i 0 ≤ suc n
+      go true = let v = h (pred t) in set-le (suc n) l (pred t) (suc (getD l (pred t) 0)) (λ i. let w = h i in omega arith) (omega arith)
+      go false = λ i. let w = h i in omega arith
+
+below-more : (x : ℕ) (l : List ℕ) → x < 100 → T (allBelow 100 l) → T (allBelow 100 (x ∷ l))
+unfolding all allBelow
+below-more x l h t = both (ltb x 100) (allBelow 100 l) (lt→ltb x 100 h) t
+
+below-none : T (allBelow 100 [])
+unfolding all allBelow
+below-none = tt
+
+below-each : (l : List ℕ) → ((i : ℕ) → getD l i 0 < 100) → T (allBelow 100 l)
+below-each [] h = below-none
+below-each (x ∷ l) h = below-more x l (h 0) (below-each l (λ i. h (suc i)))
+
+more : (p n k : ℕ) (m : Standing) → n ≤ k → After p n m → After p k m
+more p n k m h a = record { sound = a .sound; plan = a .plan; three = a .three; few = λ i. let w = a .few i in omega arith }
+
+module _ (p n : ℕ) (m : Standing) (a : After p n m) where
+  later : After p (suc n) m
+  later = more p n (suc n) m (omega arith) a
+
+  abbrev sizes : Shape (planOf (m .bench .plan))
+  sizes = shape (m .bench .plan) (a .sound .fit .plan-known)
+
+  level-low : m .bench .level < 50
+  level-low = omega (arith, a .sound .fit .level-le, sizes .levels-le)
+
+  row-reached : m .turn < planOf (m .bench .plan) .rows → Reached p (suc n) (afterRow m (rowStep (m .bench) (m .turn)))
+  unfolding if_then_else_ placeValues afterRow
+  row-reached h = go (eqb (stepNumber (rowStep (m .bench) (m .turn) .answer)) 2)
+    where
+      go : (b : Bool)
+          → let s = rowStep (m .bench) (m .turn) in
+          Reached p (suc n) (if b then clash (Row (m .turn) (m .bench .level))
+          else on (record { bench = s .bench; turn = suc (m .turn); restored = counted (s .answer) (m .bench .level) (m .restored) }))
+      go true =
+          below-more (m .bench .level) (m .turn ∷ []) (omega (arith, level-low))
+          (below-more (m .turn) [] (omega (arith, sizes .rows-le)) below-none)
+      go false = record {
+        sound = sound-row (m .bench) (a .sound) (m .turn);
+        plan = row-plan (m .bench) (m .turn) ∙ a .plan;
+        three = counted-length (rowStep (m .bench) (m .turn) .answer) (m .bench .level) (m .restored) ∙ a .three;
+        few = counted-le (rowStep (m .bench) (m .turn) .answer) (m .bench .level) (m .restored) n (a .few);
+      }
+
+  level-reached : (s : Step) → Reached p (suc n) (afterLevel m s (levelStep (m .bench) .bench))
+  unfolding placeValues afterLevel
+  level-reached Raised = record {
+    sound = sound-level (m .bench) (a .sound);
+    plan = level-plan (m .bench) ∙ a .plan;
+    three = a .three;
+    few = later .few;
+  }
+  level-reached Clash = below-more (suc (m .bench .level)) [] (omega (arith, level-low)) below-none
+  level-reached Blocked = later
+  level-reached Top = later
+  level-reached Whole = later
+  level-reached Filled = later
+  level-reached Tied = later
+  level-reached (Refused k) = later
+
+  turn-reached : Reached p (suc n) (takeTurn m)
+  unfolding if_then_else_ takeTurn
+  turn-reached = go (ltb (m .turn) (planOf (m .bench .plan) .rows)) refl
+    where
+      go : (b : Bool) → ltb (m .turn) (planOf (m .bench .plan) .rows) ≡ b
+          → let s = levelStep (m .bench) in
+          Reached p (suc n) (if b then afterRow m (rowStep (m .bench) (m .turn)) else afterLevel m (s .answer) (s .bench))
+      go true e = row-reached (ltb-true (m .turn) (planOf (m .bench .plan) .rows) e)
+      go false e = level-reached (levelStep (m .bench) .answer)
+
+-- n turns more
+turns-reached : (p k n N : ℕ) (m : Standing) → After p k m → k + n ≤ N → Reached p N (turns n m)
+unfolding goOn turns
+turns-reached p k zero N m a h = more p k N m (omega arith) a
+turns-reached p k (suc n) N m a h = go (takeTurn m) (turn-reached p k m a) (λ l b. turns-reached p (suc k) n N l b (omega arith))
+  where
+    go : (t : Turn) → Reached p (suc k) t → ((l : Standing) → After p (suc k) l → Reached p N (turns n l)) → Reached p N (goOn (turns n) t)
+    go (on l) b rest = rest l b
+    go (end l) b rest = more p (suc k) N l (omega arith) b
+    go (clash place) b rest = b
+
+-- ---- mending in one call
+
+module _ (p : ℕ) (stripe marks : List ℕ) (e : lentRefusal p stripe marks ≡ 0) where
+  reached : Reached p 27 (mended p stripe marks)
+  unfolding fresh mended
+  reached =
+      let s = sound-fresh p stripe marks e in
+      let room = shape p (s .fit .plan-known) in
+      turns-reached p 0 (length (planOf p .levels) * suc (planOf p .rows)) 27 _
+      (record { sound = s; plan = refl; three = refl; few = none })
+      (omega (arith, mul-le-mul (room .levels-le) (suc-le-suc (room .rows-le))))
+    where
+      none : (i : ℕ) → getD (replicate 3 0) i 0 ≤ 0
+      none zero = omega arith
+      none (suc zero) = omega arith
+      none (suc (suc zero)) = omega arith
+      none (suc (suc (suc i))) = omega arith
+
+  abbrev P : Plan
+  P = planOf p
+
+  abbrev f : LentFit p stripe marks
+  f = lent-fit p stripe marks e
+
+  abbrev fits : Shape (planOf p)
+  fits = shape p (f .plan-known)
+
+  stripe-room : (m : Standing) → After p 27 m → length stripe ≤ length (m .bench .symbols)
+  stripe-room m a = omega (arith, f .long, fits .symbols-le, a .sound .sized .symbols)
+
+  marks-room : (m : Standing) → After p 27 m → length marks ≤ length (m .bench .marks)
+  marks-room m a = omega (arith, f .words, fits .rows-le, a .sound .sized .marks)
+
+  -- the rows of a bench's symbols, under its marks
+  rows-fit : (m : Standing) → After p 27 m → T (symbolsFit P (take (length marks) (m .bench .marks)) (take (length stripe) (m .bench .symbols)))
+  unfolding marksAt
+  rows-fit m a =
+      fit-symbols P (take (length marks) (m .bench .marks)) (take (length stripe) (m .bench .symbols)) (λ r h.
+      subst (λ row. T (unmarkedBelow (size (P .field)) (marksAt P (take (length marks) (m .bench .marks)) r) row)) (sym (row r h))
+      (subst (λ w. T (unmarkedBelow (size (P .field)) (bitsOf (P .columns) w) (rowAt P (m .bench .symbols) r))) (sym (word r h))
+      (subst (λ k. RowFits (planOf k) (m .bench .marks) (m .bench .symbols) r) (a .plan) (a .sound .fit .row-fits r (subst (λ k. r < planOf k .rows) (sym (a .plan)) h)))))
+    where
+      word : (r : ℕ) → r < P .rows → getD (take (length marks) (m .bench .marks)) r 0 ≡ getD (m .bench .marks) r 0
+      word r h = getD-take (length marks) (m .bench .marks) r 0 (omega (arith, f .words))
+
+      row : (r : ℕ) → r < P .rows → rowAt P (take (length stripe) (m .bench .symbols)) r ≡ rowAt P (m .bench .symbols) r
+      row r h =
+          sym (row-append P (take (length stripe) (m .bench .symbols)) (drop (length stripe) (m .bench .symbols)) r
+          (omega (arith, length-take-le (length stripe) (m .bench .symbols) (stripe-room m a), f .long, row-end (P .columns) h)))
+          ∙ ap (λ l. rowAt P l r) (take-append-drop (length stripe) (m .bench .symbols))
+
+  pub mend-fits : T (symbolsFit P (mendMarks p stripe marks) (mendStripe p stripe marks))
+  unfolding if_then_else_ turnStripe turnMarks mendStripe mendMarks
+  mend-fits = rw e (go (mended p stripe marks) reached)
+    where
+      go : (t : Turn) → Reached p 27 t → T (symbolsFit P (turnMarks t marks) (turnStripe t stripe))
+      go (on m) a = rows-fit m a
+      go (end m) a = rows-fit m a
+      go (clash place) a = fit-symbols P marks stripe (f .row-fits)
+
+  pub mend-stripe-length : length (mendStripe p stripe marks) ≡ length stripe
+  unfolding if_then_else_ turnStripe mendStripe
+  mend-stripe-length = rw e (go (mended p stripe marks) reached)
+    where
+      go : (t : Turn) → Reached p 27 t → length (turnStripe t stripe) ≡ length stripe
+      go (on m) a = length-take-le (length stripe) (m .bench .symbols) (stripe-room m a)
+      go (end m) a = length-take-le (length stripe) (m .bench .symbols) (stripe-room m a)
+      go (clash place) a = refl
+
+  pub mend-marks-length : length (mendMarks p stripe marks) ≡ length marks
+  unfolding if_then_else_ turnMarks mendMarks
+  mend-marks-length = rw e (go (mended p stripe marks) reached)
+    where
+      go : (t : Turn) → Reached p 27 t → length (turnMarks t marks) ≡ length marks
+      go (on m) a = length-take-le (length marks) (m .bench .marks) (marks-room m a)
+      go (end m) a = length-take-le (length marks) (m .bench .marks) (marks-room m a)
+      go (clash place) a = refl
+
+  -- ---- numbers
+
+  left-low : (m : Standing) → After p 27 m → rowsLeft (m .bench) < 100
+  unfolding lossy rowsLeft
+  left-low m a =
+      let R = planOf (m .bench .plan) .rows in
+      let few : R ≤ 8 = shape (m .bench .plan) (a .sound .fit .plan-known) .rows-le in
+      let marked : ℕ → Bool = λ r. not (eqb (getD (m .bench .marks) r 0) 0) in
+      omega (arith, only-length (λ m. m) (map marked (upFrom 0 R)), length-map (upFrom 0 R) marked, length-up 0 R)
+
+  beside : (m : Standing) → After p 27 m → T (allBelow 100 (m .bench .level ∷ rowsLeft (m .bench) ∷ m .restored))
+  beside m a =
+      below-more (m .bench .level) (rowsLeft (m .bench) ∷ m .restored) (omega (arith, level-low p 27 m a))
+      (below-more (rowsLeft (m .bench)) (m .restored) (left-low m a) (below-each (m .restored) (λ i. let w = a .few i in omega arith)))
+
+  end-below : (m : Standing) → After p 27 m → (b : Bool)
+      → (answerNumber (if b then Restored else Stuck) < 100)
+      × T (allBelow 100 (answerValues (if b then Restored else Stuck) (m .bench .level ∷ rowsLeft (m .bench) ∷ m .restored)))
+  unfolding if_then_else_ answerNumber answerValues
+  end-below m a true = (omega arith, beside m a)
+  end-below m a false = (omega arith, beside m a)
+
+  pub report-below : (answerNumber (mendReport p stripe marks .answer) < 100) × T (allBelow 100 (reportValues (mendReport p stripe marks)))
+  unfolding if_then_else_ reportValues answerNumber answerValues endReport bare turnReport mendReport
+  report-below = rw e (go (mended p stripe marks) reached)
+    where
+      go : (t : Turn) → Reached p 27 t → (answerNumber (turnReport t .answer) < 100) × T (allBelow 100 (reportValues (turnReport t)))
+      go (on m) a = end-below m a (eqb (rowsLeft (m .bench)) 0)
+      go (end m) a = end-below m a (eqb (rowsLeft (m .bench)) 0)
+      go (clash place) a = (omega arith, a)
+
+-- a report, a stripe and marks that can be printed
+pub record Printable (p : ℕ) (r : Report) (s m : List ℕ) : Type 0 where
+  pub plan-known : T (known p)
+  pub long : length s ≡ planOf p .rows * planOf p .columns
+  pub words : length m ≡ planOf p .rows
+  pub symbols : T (symbolsFit (planOf p) m s)
+  pub answer : answerNumber (r .answer) < 100
+  pub values : T (allBelow 100 (reportValues r))
+
+pub mend-printable : (p : ℕ) (stripe marks : List ℕ) → lentRefusal p stripe marks ≡ 0 → {r : Report} {s m : List ℕ} → r ≡ mendReport p stripe marks
+    → s ≡ mendStripe p stripe marks → m ≡ mendMarks p stripe marks → Printable p r s m
+mend-printable p stripe marks e er es em =
+    let f = lent-fit p stripe marks e in
+    let below = subst (λ r. (answerNumber (r .answer) < 100) × T (allBelow 100 (reportValues r))) (sym er) (report-below p stripe marks e) in
+    record {
+      plan-known = f .plan-known;
+      long = ap length es ∙ mend-stripe-length p stripe marks e ∙ f .long;
+      words = ap length em ∙ mend-marks-length p stripe marks e ∙ f .words;
+      symbols = subst₂ (λ m s. T (symbolsFit (planOf p) m s)) (sym em) (sym es) (mend-fits p stripe marks e);
+      answer = below .0;
+      values = below .1;
+    }
+
+-- the text of a report, a stripe and marks that are those of mending
+pub text-mended : (p : ℕ) (stripe marks : List ℕ) {r : Report} {s m : List ℕ} → r ≡ mendReport p stripe marks
+    → s ≡ mendStripe p stripe marks → m ≡ mendMarks p stripe marks
+    → mendText p stripe marks ≡ item "plan " p ++ item " answer " (answerNumber (r .answer)) ++ reportText p r (r .answer) s m
+unfolding mendText
+text-mended p stripe marks er es em = rw (er, es, em)
+
+-- ---- the text of a file
+
+pub text-refused : (file : List ℕ) → (fileRefusal file unasked ≡ 0 → ⊥) → printed file ≡ item "refused " (fileRefusal file unasked) ++ lineEnd
+unfolding if_then_else_ printed
+text-refused file h = rw (ne-eqb (fileRefusal file unasked) 0 h)
+
+pub text-loaded : (file : List ℕ) → fileRefusal file unasked ≡ 0 → printed file ≡ mendText (planIn file) (symbolsIn file) (marksIn file)
+unfolding if_then_else_ printed
+text-loaded file e = rw e

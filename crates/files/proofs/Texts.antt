@@ -1,0 +1,117 @@
+-- The text's digits and rows, place by place. Assumes nothing.
+use mathlib.Core.Path.{_≡_, refl, sym, ap, _∙_, subst}
+use mathlib.Core.Bool.{Bool, true, false, _||_}
+use mathlib.Core.List.{List, [], _∷_}
+use Prim.Native.Nat.{ℕ, zero, suc, _+_, _/_, _%_, _^_, _≤_, _<_}
+use native.Mathlib.Nat.{suc-inj, not-suc-le-zero, le-of-suc-le-suc, le-trans}
+use native.Mathlib.Omega.{arith}
+use borrow.Author.Tests.{lt-ltb, le-ltb}
+use lib.Dec.{T, eqb, ltb, ltb→lt, lt→ltb, lit<, lit≤}
+use lib.ListN.{length, getD}
+use Rattle.field.specs.Lists.{if_then_else_}
+use Rattle.field.specs.Field.{size, gf2, gf16}
+use Rattle.field.proofs.Test.{both-left, both-right, both}
+use Rattle.linear.specs.Lists.{all}
+use Rattle.linear.specs.Marks.{bitsOf}
+use Rattle.linear.proofs.Marked.{length-bits, bits-at}
+use Rattle.repair.specs.Plan.{plan1, plan2, plan3, planOf, known, rowAt, marksAt}
+use Rattle.repair.specs.Refusal.{allBelow, unmarkedBelow, symbolsFit}
+use Rattle.repair.specs.Answers.{placeValues}
+use Rattle.repair.specs.declared.Place.{Place}
+use Rattle.repair.specs.declared.Place.the-variants.{Row, Across}
+use Rattle.repair.specs.Text.{digitsIn, decimal, hex, shown}
+use Rattle.repair.proofs.Shape.{of-known}
+use Rattle.repair.proofs.Fit.{all-rows, symbols-fit}
+use Rattle.repair.proofs.Scan.{fitsIn, row-up}
+
+-- ---- numbers below 100
+
+pub one-digit : (n : ℕ) → n < 10 → decimal n ≡ (48 + n % 10) ∷ []
+unfolding if_then_else_ digitsIn decimal
+one-digit n h = rw (lt-ltb n 10 h)
+
+pub two-digits : (n : ℕ) → 10 ≤ n → n < 100 → decimal n ≡ (48 + n / 10) ∷ (48 + n % 10) ∷ []
+unfolding if_then_else_ digitsIn decimal
+two-digits zero l h = absurd (omega arith)
+two-digits (suc n) l h =
+    rw (le-ltb (suc n) 10 l, lt-ltb (suc n / 10) 10 (omega arith)) (ap (λ d. (48 + d) ∷ (48 + suc n % 10) ∷ []) (omega arith))
+
+pub below-at : (q : ℕ) (xs : List ℕ) → T (allBelow q xs) → (i : ℕ) → i < length xs → getD xs i 0 < q
+unfolding all allBelow
+below-at q [] t i h = absurd (not-suc-le-zero h)
+below-at q (x ∷ xs) t zero h = ltb→lt x q (both-left (ltb x q) (allBelow q xs) t)
+below-at q (x ∷ xs) t (suc i) h = below-at q xs (both-right (ltb x q) (allBelow q xs) t) i (le-of-suc-le-suc h)
+
+pub row-below : {place : Place} {row level q : ℕ} → place ≡ Row row level → T (allBelow q (placeValues place)) → (level < q) × (row < q)
+unfolding placeValues
+row-below {place} {row} {level} {q} e t =
+    let h = below-at q (level ∷ row ∷ []) (subst (λ p. T (allBelow q (placeValues p))) e t) in (h 0 (lit< tt), h 1 (lit< tt))
+
+pub across-below : {place : Place} {level q : ℕ} → place ≡ Across level → T (allBelow q (placeValues place)) → level < q
+unfolding placeValues
+across-below {place} {level} {q} e t = below-at q (level ∷ []) (subst (λ p. T (allBelow q (placeValues p))) e t) 0 (lit< tt)
+
+pub beside-below : (q level left : ℕ) (rows : List ℕ) → T (allBelow q (level ∷ left ∷ rows)) → (level < q) × (left < q) × T (allBelow q rows)
+unfolding all allBelow
+beside-below q level left rows t =
+    let u = both-right (ltb level q) (allBelow q (left ∷ rows)) t in (
+      ltb→lt level q (both-left (ltb level q) (allBelow q (left ∷ rows)) t),
+      ltb→lt left q (both-left (ltb left q) (allBelow q rows) u),
+      both-right (ltb left q) (allBelow q rows) u,
+    )
+
+-- ---- rows
+
+pub length-shown : (ms : List Bool) (xs : List ℕ) → length ms ≡ length xs → length (shown ms xs) ≡ length xs
+unfolding shown
+length-shown [] [] e = refl
+length-shown [] (x ∷ xs) e = absurd (omega arith)
+length-shown (m ∷ ms) [] e = refl
+length-shown (true ∷ ms) (x ∷ xs) e = ap suc (length-shown ms xs (suc-inj e))
+length-shown (false ∷ ms) (x ∷ xs) e = ap suc (length-shown ms xs (suc-inj e))
+
+pub getD-shown : (ms : List Bool) (xs : List ℕ) (i : ℕ) → i < length ms → i < length xs
+    → getD (shown ms xs) i 0 ≡ (if getD ms i false then 63 else hex (getD xs i 0))
+unfolding shown if_then_else_
+getD-shown [] xs i h l = absurd (not-suc-le-zero h)
+getD-shown (m ∷ ms) [] i h l = absurd (not-suc-le-zero l)
+getD-shown (true ∷ ms) (x ∷ xs) zero h l = refl
+getD-shown (false ∷ ms) (x ∷ xs) zero h l = refl
+getD-shown (true ∷ ms) (x ∷ xs) (suc i) h l = getD-shown ms xs i (le-of-suc-le-suc h) (le-of-suc-le-suc l)
+getD-shown (false ∷ ms) (x ∷ xs) (suc i) h l = getD-shown ms xs i (le-of-suc-le-suc h) (le-of-suc-le-suc l)
+
+-- the marks are a word's bits
+module _ (word : ℕ) (row : List ℕ) where
+  pub length-row-shown : length (shown (bitsOf (length row) word) row) ≡ length row
+  length-row-shown = length-shown (bitsOf (length row) word) row (length-bits (length row) word)
+
+  module _ (c : ℕ) (h : c < length row) where
+    pub getD-row-shown : (if eqb (word / 2 ^ c % 2) 1 then 63 else hex (getD row c 0)) ≡ getD (shown (bitsOf (length row) word) row) c 0
+    getD-row-shown =
+        ap (λ b. if b then 63 else hex (getD row c 0)) (sym (bits-at (length row) word c h))
+        ∙ sym (getD-shown (bitsOf (length row) word) row c (subst (λ n. c < n) (sym (length-bits (length row) word)) h) h)
+
+    -- a symbol that is not marked is one
+    pub unmarked-at : (q : ℕ) → T (unmarkedBelow q (bitsOf (length row) word) row) → eqb (word / 2 ^ c % 2) 1 ≡ false → getD row c 0 < q
+    unmarked-at q t e =
+        ltb→lt (getD row c 0) q
+        (subst (λ b. T (b || ltb (getD row c 0) q)) (bits-at (length row) word c h ∙ e)
+        (all-rows (fitsIn q word row) (length row) (subst T (row-up q word row) t) c h))
+
+unmarked-le : (q r : ℕ) → q ≤ r → (ms : List Bool) (xs : List ℕ) → T (unmarkedBelow q ms xs) → T (unmarkedBelow r ms xs)
+unfolding unmarkedBelow
+unmarked-le q r l [] xs t = tt
+unmarked-le q r l (m ∷ ms) [] t = tt
+unmarked-le q r l (true ∷ ms) (x ∷ xs) t = unmarked-le q r l ms xs t
+unmarked-le q r l (false ∷ ms) (x ∷ xs) t =
+    both (ltb x r) (unmarkedBelow r ms xs) (lt→ltb x r (le-trans (ltb→lt x q (both-left (ltb x q) (unmarkedBelow q ms xs) t)) l))
+    (unmarked-le q r l ms xs (both-right (ltb x q) (unmarkedBelow q ms xs) t))
+
+-- every symbol has a hex digit
+pub fit-hex : (p : ℕ) → T (known p) → (marks stripe : List ℕ) → T (symbolsFit (planOf p) marks stripe) → (r : ℕ) → r < planOf p .rows
+    → T (unmarkedBelow 16 (marksAt (planOf p) marks r) (rowAt (planOf p) stripe r))
+fit-hex p k marks stripe t r h =
+    unmarked-le (size (planOf p .field)) 16 (few p k) (marksAt (planOf p) marks r) (rowAt (planOf p) stripe r) (symbols-fit (planOf p) marks stripe t r h)
+  where
+    few : (p : ℕ) → T (known p) → size (planOf p .field) ≤ 16
+    few = unfold size gf2 gf16 plan1 plan2 plan3 planOf in of-known (λ p. size (planOf p .field) ≤ 16) (lit≤ tt) (lit≤ tt) (lit≤ tt)

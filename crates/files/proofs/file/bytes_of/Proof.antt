@@ -1,0 +1,24 @@
+-- `repair::file::bytes_of` meets its contract: the bytes are those of the definition. Assumes nothing.
+use borrow.Author.Needs.{needs}
+use Rattle.repair.specs.File.{bytes4}
+use Rattle.files.proofs.file.bytes_of.Statement.{statement}
+use Rattle.files.proofs.file.bytes_of.Tie as tie
+
+cast-t3 : tie.Need-cast-t3
+cast-t3 c = search needs
+
+cast-t6 : tie.Need-cast-t6
+cast-t6 c = search needs
+
+cast-t9 : tie.Need-cast-t9
+cast-t9 c = search needs
+
+cast-t12 : tie.Need-cast-t12
+cast-t12 c = search needs
+
+returns : tie.Need-returns
+unfolding bytes4
+returns c = search needs
+
+pub bytes-of-spec : {M : Type 1} → statement M
+bytes-of-spec = tie.close (tie.spec cast-t3 cast-t6 cast-t9 cast-t12 returns)

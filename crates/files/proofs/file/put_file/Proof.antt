@@ -1,0 +1,85 @@
+-- `repair::file::put_file` meets its contract: header, marks and symbols stand one behind the other, and fill the file. Assumes nothing.
+use mathlib.Core.Path.{_≡_, sym, ap, _∙_}
+use native.Mathlib.Omega.{arith}
+use borrow.Author.Needs.{needs}
+use denote.Ref.{now}
+use lib.ListN.{length}
+use Rattle.repair.specs.Plan.{planOf}
+use Rattle.repair.specs.File.{bytes2, marksOffset, symbolsOffset, fileLength, headerOf, fileOf}
+use Rattle.files.proofs.Files.{write-fit, length-bytes, length-written}
+use Rattle.repair.proofs.Rows.{sets-whole}
+use Rattle.files.proofs.Writing.{put-then, put-is}
+use Rattle.repair.proofs.Fit.{LentFit}
+use Rattle.files.proofs.file.put_file.Statement.{statement}
+use Rattle.files.proofs.file.put_file.Tie as tie
+
+fit : (c : tie.Start)
+    → let a = c .args in LentFit (a .plan) (now (a .stripe)) (now (a .marks)) × (length (now (a .file)) ≡ fileLength (planOf (a .plan)))
+fit c = write-fit _ _ _ _ (c .pre)
+
+header-of-requires : tie.Need-header-of-requires
+header-of-requires c κs = fit (c .before .before .before) .0 .plan-known
+
+slice-aggregate-put : tie.Need-slice-aggregate-put
+slice-aggregate-put c = search needs
+
+put-requires : tie.Need-put-requires
+unfolding bytes2 marksOffset symbolsOffset fileLength headerOf
+put-requires c κs = omega (arith, ap length (c .before .before .header-of .ensures), fit (c .before .before .before .before .before .before) .1)
+
+put-marks-requires : tie.Need-put-marks-requires
+unfolding bytes2 marksOffset symbolsOffset fileLength headerOf
+put-marks-requires c κs =
+    let put = c .before .before .before .put in
+    omega (arith, put .ensures .reached, put .kept .1 .0, ap length (c .before .before .before .before .before .before .header-of .ensures), fit (c .before .before .before .before .before .before .before .before .before .before) .0 .words, fit (c .before .before .before .before .before .before .before .before .before .before) .1)
+
+put-symbols-requires : tie.Need-put-symbols-requires
+unfolding bytes2 marksOffset symbolsOffset fileLength headerOf
+put-symbols-requires c κs =
+    let s = c .before .before .before .before .before .before .before .before .before .before .before .before .before .before in
+    let put = c .before .before .before .before .before .before .before .put in
+    let marks = c .before .before .before .put-marks in
+    let f = fit s in (
+      f .0 .plan-known,
+      (
+        f .0 .words,
+        (
+          f .0 .long,
+          omega (
+            arith,
+            put .ensures .reached,
+            put .kept .1 .0,
+            marks .ensures .reached,
+            marks .kept .1 .0,
+            length-bytes (now (s .args .marks)),
+            ap length (c .before .before .before .before .before .before .before .before .before .before .header-of .ensures),
+            f .0 .words,
+            f .0 .long,
+            f .1,
+          ),
+        ),
+      ),
+    )
+
+same-length : tie.Need-same-length
+same-length c = search needs
+
+returns : tie.Need-returns
+unfolding fileOf
+returns c =
+    let f = fit (c .before .before .before .before .before .before .before .before .before .before .before .before .before .before .before .before .before) in
+    let header = put-is (sym (c .before .before .before .before .before .before .before .before .before .before .before .before .before .header-of .ensures)) (c .before .before .before .before .before .before .before .before .before .before .put .ensures) in
+    put-then (put-then header (c .before .before .before .before .before .before .put-marks .ensures)) (c .before .before .put-symbols .ensures) .written
+    ∙ sets-whole _ _ (length-written _ _ _ (f .0) ∙ sym (f .1))
+
+pub put-file-spec : {M : Type 1} → statement M
+put-file-spec =
+    tie.close
+    (tie.spec
+    header-of-requires
+    slice-aggregate-put
+    put-requires
+    put-marks-requires
+    put-symbols-requires
+    same-length
+    returns)

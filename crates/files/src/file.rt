@@ -1,0 +1,275 @@
+// The stripe file, read and written.
+use crate::buffer;
+use crate::marks;
+use repair::plan;
+use repair::refusal;
+ghost use mathlib.Core.Path.{_≡_};
+ghost use mathlib.Core.List.{flatMap};
+ghost use Prim.Native.Nat.{_+_, _*_, _/_, _%_, _^_, _≤_, _<_};
+ghost use lib.Dec.{T, eqb};
+ghost use lib.ListN.{length, getD};
+ghost use lib.Seq.{sets};
+ghost use Rattle.field.specs.Lists.{if_then_else_, upFrom};
+ghost use Rattle.linear.specs.Lists.{«same» as equal};
+ghost use Rattle.linear.specs.Marks.{bitsOf};
+ghost use Rattle.repair.specs.Plan.{planOf, known, marksOf};
+ghost use Rattle.repair.specs.Refusal.{firstFailed, unasked};
+ghost use Rattle.repair.specs.File.{bytes4, headerOf, fileLength, blanked, fileOf, writeRefusal, planIn, wordAt, marksIn, symbolsIn, fileRefusal};
+ghost use Rattle.files.specs.Written.{Put, contentTests};
+
+// ---- words of four bytes, low byte first
+
+// The word of these bytes.
+fn word_of(b0: u8, b1: u8, b2: u8, b3: u8) -> u32
+    ensures { λ r. ⌜ r ≡ b0 + b1 * 256 + b2 * 2 ^ 16 + b3 * 2 ^ 24 ⌝ }
+{
+    b0 as u32 + b1 as u32 * 0x100 + b2 as u32 * 0x10000 + b3 as u32 * 0x1000000
+}
+
+// The word that stands at `at`.
+fn word_at(file: &[u8], at: usize) -> u32
+    requires { ⌜ at + 4 ≤ length (now file) ⌝ }
+    ensures { λ r. ⌜ r ≡ wordAt (now (file .entry)) at ⌝ }
+{
+    word_of(file[at], file[at + 1], file[at + 2], file[at + 3])
+}
+
+// The bytes of a word.
+fn bytes_of(word: u32) -> [u8; 4]
+    ensures { λ r. ⌜ r ≡ bytes4 word ⌝ }
+{
+    [
+        (word % 0x100) as u8,
+        (word / 0x100 % 0x100) as u8,
+        (word / 0x10000 % 0x100) as u8,
+        (word / 0x1000000 % 0x100) as u8,
+    ]
+}
+
+// ---- the header
+
+// The header of a plan's file: offsets low byte first.
+fn header_of(plan: usize) -> [u8; 8]
+    requires { ⌜ T (known plan) ⌝ }
+    ensures { λ r. ⌜ r ≡ headerOf plan ⌝ }
+{
+    let rows = plan::rows(plan);
+    let columns = plan::columns(plan);
+    let symbols = 8 + 4 * rows;
+    let low = symbols % 256;
+    let high = symbols / 256 % 256;
+    [
+        plan as u8,
+        rows as u8,
+        columns as u8,
+        0,
+        8,
+        0,
+        low as u8,
+        high as u8,
+    ]
+}
+
+// Whether two lists of bytes, equally long, are the same.
+fn same(a: &[u8], b: &[u8]) -> bool
+    requires { ⌜ length (now a) ≡ length (now b) ⌝ }
+    ensures { λ r. ⌜ r ≡ equal (now (a .entry)) (now (b .entry)) ⌝ }
+{
+    for i in 0..a.len() {
+        if a[i] != b[i] {
+            return false;
+        }
+    }
+    true
+}
+
+// The plan number of a file; 0 where it is empty.
+pub fn plan_in(file: &[u8]) -> usize
+    ensures { λ r. ⌜ r ≡ planIn (now (file .entry)) ⌝ }
+{
+    if file.len() == 0 {
+        return 0;
+    }
+    file[0] as usize
+}
+
+// ---- symbols
+
+// A symbol as a file holds it: 0 where its column is marked.
+fn kept(word: u32, column: usize, symbol: u8) -> u8
+    requires { ⌜ column < 32 ⌝ }
+    ensures { λ r. ⌜ r ≡ (if eqb (word / 2 ^ column % 2) 1 then 0 else symbol) ⌝ }
+{
+    if marks::is_marked(word, column) {
+        return 0;
+    }
+    symbol
+}
+
+// Writes a row from `at` on, 0 under its marks, and gives the place behind it. The rest of the file is unchanged.
+fn put_row(word: u32, row: &[u8], file: &mut [u8], at: usize) -> usize
+    requires { ⌜ (length (now row) ≤ 32) × (at + length (now row) ≤ length (now file)) ⌝ }
+    ensures { λ r. ⌜ Put (now (file .entry)) at (blanked (bitsOf (length (now (row .entry))) word) (now (row .entry))) r (now (file .exit)) ⌝ }
+{
+    for c in 0..row.len() {
+        file[at + c] = kept(word, c, row[c]);
+    }
+    at + row.len()
+}
+
+// Writes the symbols from `at` on, 0 under marks, and gives the place behind them. The rest of the file is unchanged.
+fn put_symbols(plan: usize, stripe: &[u8], marks: &[u32], file: &mut [u8], at: usize) -> usize
+    requires { ⌜ T (known plan) ⌝ }
+    requires { ⌜ length (now marks) ≡ planOf plan .rows ⌝ }
+    requires { ⌜ length (now stripe) ≡ planOf plan .rows * planOf plan .columns ⌝ }
+    requires { ⌜ at + length (now stripe) ≤ length (now file) ⌝ }
+    ensures { λ r. ⌜ Put (now (file .entry)) at (blanked (marksOf (planOf plan) (now (marks .entry))) (now (stripe .entry))) r (now (file .exit)) ⌝ }
+{
+    let columns = plan::columns(plan);
+    let mut next = at;
+    for r in 0..marks.len() {
+        let start = r * columns;
+        let end = start + columns;
+        next = put_row(marks[r], &stripe[start..end], file, next);
+    }
+    next
+}
+
+// ---- marks
+
+// Writes the mark words from `at` on, and gives the place behind them. The rest of the file is unchanged.
+fn put_marks(marks: &[u32], file: &mut [u8], at: usize) -> usize
+    requires { ⌜ at + 4 * length (now marks) ≤ length (now file) ⌝ }
+    ensures { λ r. ⌜ Put (now (file .entry)) at (flatMap bytes4 (now (marks .entry))) r (now (file .exit)) ⌝ }
+{
+    let mut next = at;
+    for r in 0..marks.len() {
+        let bytes = bytes_of(marks[r]);
+        next = buffer::put(&bytes, file, next);
+    }
+    next
+}
+
+// Reads the mark words of a file into `marks`. What is behind them there is unchanged.
+fn read_marks(file: &[u8], rows: usize, marks: &mut [u32])
+    requires { ⌜ rows ≡ planOf (planIn (now file)) .rows ⌝ }
+    requires { ⌜ (8 + 4 * rows ≤ length (now file)) × (rows ≤ length (now marks)) ⌝ }
+    ensures { λ _. ⌜ now (marks .exit) ≡ sets (now (marks .entry)) 0 (marksIn (now (file .entry))) ⌝ }
+{
+    for r in 0..rows {
+        marks[r] = word_at(file, 8 + 4 * r);
+    }
+}
+
+// ---- writing
+
+// What writing refuses; 0 where it does not.
+pub fn write_refusal(plan: usize, stripe: &[u8], marks: &[u32], file: &[u8]) -> usize
+    ensures { λ r. ⌜ r ≡ writeRefusal plan (now (stripe .entry)) (now (marks .entry)) (now (file .entry)) ⌝ }
+{
+    if !plan::is_known(plan) {
+        return 10;
+    }
+    if file.len() != plan::file_length(plan) {
+        return 11;
+    }
+    refusal::lent_refusal(plan, stripe, marks)
+}
+
+// Writes the whole file of a stripe and its marks that are not refused.
+pub fn put_file(plan: usize, stripe: &[u8], marks: &[u32], file: &mut [u8])
+    requires { ⌜ writeRefusal plan (now stripe) (now marks) (now file) ≡ 0 ⌝ }
+    ensures { λ _. ⌜ now (file .exit) ≡ fileOf plan (now (stripe .entry)) (now (marks .entry)) ⌝ }
+{
+    let header = header_of(plan);
+    let at_marks = buffer::put(&header, file, 0);
+    let at_symbols = put_marks(marks, file, at_marks);
+    put_symbols(plan, stripe, marks, file, at_symbols);
+}
+
+// ---- reading
+
+// Whether every marked symbol is 0.
+fn is_blank(plan: usize, symbols: &[u8], marks: &[u32]) -> bool
+    requires { ⌜ T (known plan) ⌝ }
+    requires { ⌜ length (now marks) ≡ planOf plan .rows ⌝ }
+    requires { ⌜ length (now symbols) ≡ planOf plan .rows * planOf plan .columns ⌝ }
+    ensures { λ r. ⌜ r ≡ equal (now (symbols .entry)) (blanked (marksOf (planOf plan) (now (marks .entry))) (now (symbols .entry))) ⌝ }
+{
+    let mut blank = [0u8; 256];
+    put_symbols(plan, symbols, marks, &mut blank, 0);
+    let size = symbols.len();
+    same(symbols, &blank[..size])
+}
+
+// What of marks and symbols that were read is refused; 0 where nothing is.
+fn content_refusal(plan: usize, symbols: &[u8], marks: &[u32]) -> usize
+    requires { ⌜ T (known plan) ⌝ }
+    requires { ⌜ length (now marks) ≡ planOf plan .rows ⌝ }
+    requires { ⌜ length (now symbols) ≡ planOf plan .rows * planOf plan .columns ⌝ }
+    ensures { λ r. ⌜ r ≡ firstFailed (contentTests (planOf plan) (now (marks .entry)) (now (symbols .entry))) ⌝ }
+{
+    if !refusal::marks_fit(plan, marks) {
+        return 12;
+    }
+    if !refusal::symbols_fit(plan, marks, symbols) {
+        return 13;
+    }
+    if !is_blank(plan, symbols, marks) {
+        return 22;
+    }
+    0
+}
+
+// The same of a file whose header and length are right.
+fn whole_refusal(plan: usize, file: &[u8]) -> usize
+    requires { ⌜ T (known plan) ⌝ }
+    requires { ⌜ plan ≡ planIn (now file) ⌝ }
+    requires { ⌜ length (now file) ≡ fileLength (planOf plan) ⌝ }
+    ensures { λ r. ⌜ r ≡ firstFailed (contentTests (planOf plan) (marksIn (now (file .entry))) (symbolsIn (now (file .entry)))) ⌝ }
+{
+    let rows = plan::rows(plan);
+    let mut words = [0u32; 8];
+    read_marks(file, rows, &mut words);
+    let start = 8 + 4 * rows;
+    content_refusal(plan, &file[start..], &words[..rows])
+}
+
+// What of a file is refused, `lengths` saying whether the buffers lent to receive it fit; 0 where nothing is.
+pub fn file_refusal(file: &[u8], lengths: bool) -> usize
+    ensures { λ r. ⌜ r ≡ fileRefusal (now (file .entry)) lengths ⌝ }
+{
+    if file.len() < 8 {
+        return 20;
+    }
+    let plan = plan_in(file);
+    if !plan::is_known(plan) {
+        return 10;
+    }
+    let header = header_of(plan);
+    if !same(&file[..8], &header) {
+        return 21;
+    }
+    if file.len() != plan::file_length(plan) {
+        return 20;
+    }
+    if !lengths {
+        return 11;
+    }
+    whole_refusal(plan, file)
+}
+
+// Reads a file that is not refused to the front of two buffers. What is behind the symbols and marks there is unchanged.
+pub fn load(file: &[u8], stripe: &mut [u8], marks: &mut [u32])
+    requires { ⌜ fileRefusal (now file) unasked ≡ 0 ⌝ }
+    requires { ⌜ planOf (planIn (now file)) .rows * planOf (planIn (now file)) .columns ≤ length (now stripe) ⌝ }
+    requires { ⌜ planOf (planIn (now file)) .rows ≤ length (now marks) ⌝ }
+    ensures { λ _. ⌜ now (stripe .exit) ≡ sets (now (stripe .entry)) 0 (symbolsIn (now (file .entry))) ⌝ }
+    ensures { λ _. ⌜ now (marks .exit) ≡ sets (now (marks .entry)) 0 (marksIn (now (file .entry))) ⌝ }
+{
+    let plan = plan_in(file);
+    let rows = plan::rows(plan);
+    read_marks(file, rows, marks);
+    let start = 8 + 4 * rows;
+    buffer::put(&file[start..], stripe, 0);
+}
