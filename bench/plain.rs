@@ -713,16 +713,16 @@ pub fn text(file: &[u8], text: &mut [u8], length: &mut [u8]) -> usize {
         return 11;
     }
     let (mut symbols, mut words) = ([0; SYMBOLS], [0; ROWS]);
-    let (answer, lines) = match open(file, &mut symbols, &mut words, |_| true) {
-        Err(number) => (number, format!("refused {number}\n")),
+    let lines = match open(file, &mut symbols, &mut words, |_| true) {
+        Err(number) => format!("refused {number}\n"),
         Ok(plan) => {
             let (symbols, words, mut report) = (&mut symbols[..plan.symbols()], &mut words[..plan.rows], [0; 8]);
             let answer = mend(plan.number, symbols, words, &mut report);
-            (answer, shown(plan, answer, &report, symbols, words))
+            shown(plan, answer, &report, symbols, words)
         }
     };
     text.fill(0);
     text[..lines.len()].copy_from_slice(lines.as_bytes());
     length.copy_from_slice(&(lines.len() as u16).to_le_bytes());
-    answer
+    0
 }

@@ -133,7 +133,7 @@ impl Function {
             Function::Encode => &[0, 10, 11, 13],
             Function::Extract => &[0, 10, 11, 13, 16],
             Function::ReadFile => &[0, 10, 11, 12, 13, 20, 21, 22],
-            Function::Text => &[0, 1, 2, 10, 11, 12, 13, 20, 21, 22],
+            Function::Text => &[0, 11],
         }
     }
 }

@@ -40,7 +40,7 @@ fn long_and_short(ledger: &mut Ledger, path: &str, file: &[u8]) {
 }
 
 fn hold(ledger: &mut Ledger, path: &str, file: &[u8], piece: usize) {
-    let (_, expected) = printed(file);
+    let expected = printed(file);
     let found = output(path, file, piece);
     if found != expected.as_bytes() {
         let hex: String = file.iter().map(|byte| format!("{byte:02x}")).collect();

@@ -48,6 +48,14 @@ impl Flaw {
             Flaw::ByteUnderMark => BYTE_UNDER_MARK,
         }
     }
+
+    /// What a function answers where this flaw stands first. A refused file has a text, which says the number.
+    fn answer_due(self, function: Function) -> usize {
+        match (function, self.number()) {
+            (Function::Text, number) if number != WRONG_LENGTH => DONE,
+            (_, number) => number,
+        }
+    }
 }
 
 /// The flaws that a function can meet, the one that is refused first standing first.
@@ -95,8 +103,9 @@ fn one_set(ledger: &mut Ledger, function: Function, plan: &Plan, flaws: &[Flaw],
     match flaws.first() {
         None => ledger.demand(outcome.number < UNKNOWN_PLAN, "a fit call is refused", &call),
         Some(first) => {
-            ledger.demand(outcome.number == first.number(), &format!("refusal {} is due", first.number()), &call);
-            let left = left_by_refusal(&call, outcome.number);
+            let due = first.answer_due(function);
+            ledger.demand(outcome.number == due, &format!("{due} is due"), &call);
+            let left = left_by_refusal(&call, *first);
             ledger.demand(outcome.buffers == left, "a refusal leaves other buffers behind", &call);
             if function == Function::Start && outcome.buffers[2].bytes().len() == BENCH_LENGTH {
                 refused_bench(ledger, outcome.buffers[2].bytes(), chance);
@@ -107,13 +116,13 @@ fn one_set(ledger: &mut Ledger, function: Function, plan: &Plan, flaws: &[Flaw],
 
 /// The buffers after a refusal: as they were. But a refused start writes a bench of zeros where it fits, and a refused file
 /// has a text.
-fn left_by_refusal(call: &Call, number: usize) -> Vec<Buffer> {
+fn left_by_refusal(call: &Call, first: Flaw) -> Vec<Buffer> {
     let mut buffers = call.buffers.clone();
     if call.function == Function::Start && buffers[2].bytes().len() == BENCH_LENGTH {
         buffers[2] = Buffer::Bytes(vec![0; BENCH_LENGTH]);
     }
-    if call.function == Function::Text && number != WRONG_LENGTH {
-        let mut text = format!("refused {number}\n").into_bytes();
+    if call.function == Function::Text && first.number() != WRONG_LENGTH {
+        let mut text = format!("refused {}\n", first.number()).into_bytes();
         buffers[2] = Buffer::Bytes(vec![text.len() as u8, 0]);
         text.resize(TEXT_LENGTH, 0);
         buffers[1] = Buffer::Bytes(text);

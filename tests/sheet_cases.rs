@@ -54,6 +54,6 @@ fn example_file(ledger: &mut Ledger) {
     let outcome = ledger.hold(&call);
     let [low, high] = outcome.buffers[2].bytes() else { unreachable!("two bytes") };
     let length = *low as usize + 256 * *high as usize;
-    let met = outcome.number == RESTORED && outcome.buffers[1].bytes()[..length] == *sheet::EXAMPLE_TEXT.as_bytes();
+    let met = outcome.number == DONE && outcome.buffers[1].bytes()[..length] == *sheet::EXAMPLE_TEXT.as_bytes();
     ledger.demand(met, "bench sheet: the example file's text", &call);
 }

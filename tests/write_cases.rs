@@ -30,7 +30,7 @@ fn main() -> std::io::Result<()> {
         let mut file = vec![0; plan.file_length()];
         oracle::write_file(plan.number, &stripe, &marks, &mut file);
         std::fs::write(Path::new(&folder).join(format!("{n}.file")), &file)?;
-        std::fs::write(Path::new(&folder).join(format!("{n}.text")), printed(&file).1)?;
+        std::fs::write(Path::new(&folder).join(format!("{n}.text")), printed(&file))?;
     }
     Ok(())
 }

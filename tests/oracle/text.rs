@@ -5,13 +5,13 @@ use super::file::opened;
 use super::mending::{mended, Mended};
 use super::plan::{marked, Plan};
 
-/// The answer's number and the printed text.
-pub fn printed(file: &[u8]) -> (usize, String) {
+/// The printed text.
+pub fn printed(file: &[u8]) -> String {
     match opened(file, |_| true) {
-        Err(number) => (number, format!("refused {number}\n")),
+        Err(number) => format!("refused {number}\n"),
         Ok((plan, marks, symbols)) => {
             let end = mended(plan, &symbols, &marks);
-            (end.answer, if end.answer == CLASH { clash_line(plan, &end) } else { grid(plan, &end) })
+            if end.answer == CLASH { clash_line(plan, &end) } else { grid(plan, &end) }
         }
     }
 }
@@ -43,9 +43,9 @@ pub fn text(file: &[u8], text: &mut [u8], length: &mut [u8]) -> usize {
     if text.len() != TEXT_LENGTH || length.len() != COUNT_LENGTH {
         return WRONG_LENGTH;
     }
-    let (answer, shown) = printed(file);
+    let shown = printed(file);
     text.fill(0);
     text[..shown.len()].copy_from_slice(shown.as_bytes());
     length.copy_from_slice(&(shown.len() as u16).to_le_bytes());
-    answer
+    DONE
 }
