@@ -1,16 +1,18 @@
 -- The gathered system answers `fill`: its solutions are the fillings, and its dependencies those of the marked columns. Assumes nothing.
 use Prim.Native.Nat.{ℕ, _^_, _<_}
 use mathlib.Core.Path.{_≡_, refl, sym, ap, ap₂, _∙_, subst}
-use mathlib.Core.Bool.{Bool, true, false}
+use mathlib.Core.Bool.{Bool, true, false, true≢false}
 use mathlib.Core.Logic.{_≢_}
 use mathlib.Core.List.{List}
-use native.Mathlib.Nat.{le-of-eq}
+use native.Mathlib.Nat.{le-of-eq, lt-of-lt-of-le}
 use native.Mathlib.Decide.{ℕ-discrete}
 use native.Mathlib.Omega.{arith}
+use lib.Count.{ones}
 use lib.Dec.{T, not-T, T-not}
 use lib.ListN.{length}
+use lib.Pow.{pow-mono}
 use lib.Seq.{ext-getD}
-use Rattle.field.specs.Field.{Field, _⊕_, mul}
+use Rattle.field.specs.Field.{Field, _⊕_, size, mul}
 use Rattle.field.proofs.Sum.{⊕-comm, ⊕-undo, zero-⊕}
 use Rattle.field.specs.Ours.{fieldOf}
 use Rattle.field.proofs.Laws.{IsField, mul-zero}
@@ -18,15 +20,16 @@ use Rattle.field.proofs.Fields.{our-field}
 use Rattle.linear.specs.Lists.{same, zeros, vanish}
 use Rattle.linear.specs.Fill.{sumsOf, tied, none, one, fill}
 use Rattle.linear.specs.System.{vec, Matrix, ent, inner, Elements, Ker, Solves, Consistency, Dependence, Solved}
-use Rattle.linear.specs.Marks.{rowsOf, bitAt, bitsOf, fillOf, answerOf, vectorOf, Places, hidden, Gathered, scattered}
+use Rattle.linear.specs.Marks.{Fit, rowsOf, bitAt, bitsOf, fillOf, answerOf, vectorOf, Places, hidden, Gathered, scattered}
 use Rattle.linear.specs.declared.Outcome.{Outcome}
 use Rattle.linear.specs.declared.Outcome.the-variants.{Tied, None, One}
 use Rattle.linear.proofs.Tests.{same→eq, same-refl}
 use Rattle.linear.proofs.Filling.{Dependency, Independent, independent-of, Filling, fill-tied, fill-none, fill-one}
 use Rattle.linear.proofs.Choices.{Agrees}
-use Rattle.linear.proofs.Inner.{inner-same, inner-zero, inner-split}
+use Rattle.linear.proofs.Inner.{put, put-same, put-other, inner-same, inner-zero, inner-lt, inner-split}
 use Rattle.linear.proofs.Flat.{length-sums, sums-at, sums-are}
-use Rattle.linear.proofs.Words.{bit-bound, bit-of-none}
+use Rattle.linear.proofs.Words.{bit-bound, bit-of-none, places-of}
+use Rattle.linear.proofs.Wide.{Loose, wide-loose}
 use Rattle.linear.proofs.Columns.{hidden-marked, hidden-unmarked, length-scattered, scattered-at, scattered-off}
 use Rattle.linear.proofs.Marked.{zeros-at, length-zeros, vanish-at, vanish-of, length-bits, agrees-size, agrees-marked, agrees-unmarked, agrees-bits}
 
@@ -206,6 +209,44 @@ outcomes q checks target v marks k places M dependent consistent x z P fit G S =
 
     seen : (c : ℕ) → c < length v → bitAt marks c ≢ 1 → hidden marks v c ≡ vec v c
     seen c l = hidden-unmarked marks v c
+
+-- more marks than target sums: the marked columns are dependent, whatever their coefficients
+module _ (q : ℕ) (checks target v : List ℕ) (marks : ℕ) (fit : Fit q checks target v marks) (wide : length target < ones marks) where
+  n : ℕ
+  n = length v
+
+  listed : (at : ℕ → ℕ) × Places marks (ones marks) at
+  listed = places-of marks (length v) (fit .within) (lt-of-lt-of-le (fit .within) (pow-mono (fit .narrow)))
+
+  -- the system as it would be gathered
+  system : Matrix
+  system i = put (λ t. ent checks n i (listed .0 t)) (ones marks) (vec target i ⊕ inner (fieldOf q) (ent checks n i) (hidden marks v) n)
+
+  gathered : Gathered (fieldOf q) checks target (hidden marks v) n (ones marks) (listed .0) system (length target)
+  unfolding system
+  gathered = record { coefficient = λ i _ t l. put-other _ (ones marks) _ t (omega arith); remainder = λ i _. put-same _ (ones marks) _ }
+
+  system-lt : (i j : ℕ) → system i j < size (fieldOf q)
+  unfolding system
+  system-lt i j = elim (ℕ-discrete j (ones marks)) [
+    | yes e ↦
+        rw (e, put-same (λ t. ent checks n i (listed .0 t)) (ones marks) (vec target i ⊕ inner (fieldOf q) (ent checks n i) (hidden marks v) n))
+        (our-field q .sum-lt _ _ (fit .sums i) (inner-lt (fieldOf q) (our-field q) _ _ n))
+    | no ne ↦
+        rw (put-other (λ t. ent checks n i (listed .0 t)) (ones marks) (vec target i ⊕ inner (fieldOf q) (ent checks n i) (hidden marks v) n) j ne)
+        (fit .coefficients _)
+  ]
+
+  loose : Loose (fieldOf q) (our-field q) system (length target) (ones marks)
+  loose = wide-loose (fieldOf q) (our-field q) (ones marks) (length target) system wide system-lt
+
+  pub wide-tied : Answer q checks target v marks Tied v
+  unfolding fillOf answerOf vectorOf n
+  wide-tied =
+      let e = answer-tied (fieldOf q) (our-field q) (length target) (length v) checks target v marks (ones marks) (listed .0) (hidden marks v) system
+      (listed .1) (fit .within) gathered (λ t l. hidden-marked marks v _ (listed .1 .marked t l)) (λ c _. hidden-unmarked marks v c) refl refl
+      (loose .0) record { dependency = λ _. (loose .1, loose .2, loose .3); none = λ e. absurd (true≢false e) } in
+      (rw e, rw e)
 
 module _ (q : ℕ) (checks target v : List ℕ) (marks : ℕ) (free : marks ≡ 0) where
   no-bit : (c : ℕ) → bitAt marks c ≢ 1

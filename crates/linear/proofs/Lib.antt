@@ -11,4 +11,5 @@ pub mod Flat
 pub mod Words
 pub mod Columns
 pub mod Marked
+pub mod Wide
 pub mod Answers

@@ -12,6 +12,7 @@ use lib.Count.{ones, ones-step, ones-le, trailingZeros, under}
 use lib.Pow.{pow-mono, shr-shr, shr-lt, shr-le}
 use Rattle.field.proofs.Sum.{of-bits, bit}
 use Rattle.linear.specs.Marks.{bitAt, Places}
+use Rattle.linear.proofs.Inner.{put, put-same, put-other}
 
 -- bit d of a word that was shifted by c
 bit-shifted : (w c d : ℕ) → bitAt (w / 2 ^ c) d ≡ bitAt w (c + d)
@@ -156,3 +157,18 @@ module _ (marks rest n k c t : ℕ) (at : ℕ → ℕ) (P : Placing marks rest n
             let g : c + (d - c) ≡ d = omega arith in
             absurd (omega (arith, ap (λ x. bitAt x (d - c)) none, bit-of-none (d - c), rest-bit (d - c), ap (bitAt marks) g, e))
       ]
+
+-- the loop without its code: the set bits can be listed
+list-on : (r marks rest n k c t : ℕ) (at : ℕ → ℕ) → marks < 2 ^ n → marks < 2 ^ 32 → r + t ≡ k → Placing marks rest n k c t at
+    → (to : ℕ → ℕ) × Places marks k to
+list-on zero marks rest n k c t at h h32 e P = (at, placing-end marks rest n k c t at P h32 (omega arith))
+list-on (suc r) marks rest n k c t at h h32 e P =
+    let z = trailingZeros 32 rest in
+    let to = put at t (c + z) in
+    list-on r marks (rest / 2 ^ z / 2) n k (c + z + 1) (t + 1) to h h32 (omega arith)
+    (placing-turn marks rest n k c t at P z to h (omega arith) (placing-next marks rest n k c t at P h32 (omega arith))
+    (λ s b. put-other at t (c + z) s (omega arith)) (put-same at t (c + z)))
+
+pub places-of : (marks n : ℕ) → marks < 2 ^ n → marks < 2 ^ 32 → (at : ℕ → ℕ) × Places marks (ones marks) at
+places-of marks n h h32 =
+    list-on (ones marks) marks marks n (ones marks) 0 0 (λ _. 0) h h32 (add-zero _) (placing-start marks n (λ _. 0))

@@ -236,7 +236,8 @@ fn fill_marked(
 
 // Fills the marked places of v, in field `q`, so that its sums are the target: for each sum `checks` has a row of coefficients, as
 // many as v has symbols, and bit c of `marks` marks column c. v changes only where the answer is `One`, and no answer depends on
-// what stands under a mark. Where nothing is marked the sums are compared; else the system of the marked columns is solved.
+// what stands under a mark. More columns than checks are dependent. Where nothing is marked the sums are compared; else the system of
+// the marked columns is solved.
 pub fn fill(
     q: usize,
     table: &[u8; 256],
@@ -250,6 +251,9 @@ pub fn fill(
     ensures { λ r. ⌜ r ≡ answerOf (fillOf q (now (checks .entry)) (now (target .entry)) (now (v .entry)) marks) ⌝ }
     ensures { λ _. ⌜ now (v .exit) ≡ vectorOf (fillOf q (now (checks .entry)) (now (target .entry)) (now (v .entry)) marks) (now (v .entry)) ⌝ }
 {
+    if target.len() < u32::count_ones(marks) as usize {
+        return Outcome::Tied;
+    }
     if marks != 0 {
         return fill_marked(q, table, checks, target, v, marks);
     }

@@ -1,18 +1,27 @@
 -- `fill` meets its contract. Assumes nothing.
 use mathlib.Core.Path.{refl, sym, _∙_}
+use native.Mathlib.Omega.{arith}
 use borrow.Author.Needs.{needs}
-use Rattle.linear.proofs.Answers.{unmarked-one, unmarked-none}
+use lib.Count.{ones-le}
+use Rattle.linear.proofs.Answers.{wide-tied, unmarked-one, unmarked-none}
 use Rattle.linear.proofs.fill.Statement.{statement}
 use Rattle.linear.proofs.fill.Tie as tie
 
-fill-marked-requires : tie.Need-fill-marked-requires
-fill-marked-requires c κs = search needs
+cast-if1 : tie.Need-cast-if1
+cast-if1 c = let s = c .before .before .before in omega (arith, ones-le _ (s .args .marks) (s .pre .1 .within), s .pre .1 .narrow)
 
 same-length : tie.Need-same-length
 same-length c = search needs
 
 returns : tie.Need-returns
-returns c = search needs
+returns c = let s = c .before .before .before .before in
+    wide-tied (s .args .q) (s .args .checks .now) (s .args .target .now) (s .args .v .now) (s .args .marks) (s .pre .1) (search needs)
+
+fill-marked-requires : tie.Need-fill-marked-requires
+fill-marked-requires c κs = search needs
+
+returns-2 : tie.Need-returns-2
+returns-2 c = search needs
 
 has-sums-requires : tie.Need-has-sums-requires
 has-sums-requires c κs = search needs
@@ -20,28 +29,30 @@ has-sums-requires c κs = search needs
 same-length-2 : tie.Need-same-length-2
 same-length-2 c = refl
 
-returns-2 : tie.Need-returns-2
-returns-2 c = let s = c .before .before .before .before .before .before .before in
+returns-3 : tie.Need-returns-3
+returns-3 c = let s = c .before .before .before .before .before .before .before .before in
     unmarked-one (s .args .q) (s .args .checks .now) (s .args .target .now) (s .args .v .now) (s .args .marks) (search needs)
-    (sym (c .if2 .taken) ∙ c .before .has-sums .ensures)
+    (sym (c .if3 .taken) ∙ c .before .has-sums .ensures)
 
 same-length-3 : tie.Need-same-length-3
 same-length-3 c = refl
 
-returns-3 : tie.Need-returns-3
-returns-3 c = let s = c .before .before .before .before .before .before .before in
+returns-4 : tie.Need-returns-4
+returns-4 c = let s = c .before .before .before .before .before .before .before .before in
     unmarked-none (s .args .q) (s .args .checks .now) (s .args .target .now) (s .args .v .now) (s .args .marks) (search needs)
-    (sym (c .if2 .left) ∙ c .before .has-sums .ensures)
+    (sym (c .if3 .left) ∙ c .before .has-sums .ensures)
 
 pub fill-spec : {M : Type 1} → statement M
 fill-spec =
     tie.close
     (tie.spec
+    cast-if1
+    returns
     fill-marked-requires
     same-length
-    returns
+    returns-2
     has-sums-requires
     same-length-2
-    returns-2
+    returns-3
     same-length-3
-    returns-3)
+    returns-4)
