@@ -1,8 +1,8 @@
-//! Times the library and the plain Rust code in turn, on the same stripes, and prints a table of nanoseconds and ratios.
+//! Times the library, the plain Rust code and the packed code in turn, on the same stripes, and prints a table.
 //!
 //! Each kind of work has a pool of stripes that differ. A pass makes one call on each; before a pass the pool is put back as
-//! it was, untimed. The two sides take passes in turn, so that both meet the machine in the same state. A side's time is the
-//! median of its passes; the ratio is the median of the ratios of neighbouring passes.
+//! it was, untimed. The sides take passes in turn, so that all meet the machine in the same state. A side's time is the
+//! median of its passes; the ratio is the median of the ratios of the library's passes to the plain code's beside them.
 
 use outside::chance::Chance;
 use outside::damage::{self, Content, Marks};
@@ -30,8 +30,12 @@ const LIBRARY: Side =
     Side { is_codeword: shelf::is_codeword, encode: shelf::encode, mend: shelf::mend, row_step: shelf::row_step };
 const PLAIN: Side =
     Side { is_codeword: plain::is_codeword, encode: plain::encode, mend: plain::mend, row_step: plain::row_step };
+const PACKED: Side =
+    Side { is_codeword: packed::is_codeword, encode: packed::encode, mend: packed::mend, row_step: packed::row_step };
 const ORACLE: Side =
     Side { is_codeword: oracle::is_codeword, encode: oracle::encode, mend: oracle::mend, row_step: oracle::row_step };
+
+const SIDES: [(&str, Side); 3] = [("library", LIBRARY), ("plain code", PLAIN), ("packed code", PACKED)];
 
 #[derive(Clone, Copy)]
 enum Work {
@@ -163,46 +167,58 @@ fn median(mut values: Vec<f64>) -> f64 {
     values[values.len() / 2]
 }
 
-/// The times of the library and of the plain code, and their ratio.
-fn timed(plan: &Plan, work: Work, start: &Pool) -> (f64, f64, f64) {
+/// The times of the three sides.
+struct Times {
+    library: f64,
+    plain: f64,
+    packed: f64,
+    /// The library's to the plain code's.
+    ratio: f64,
+}
+
+fn timed(plan: &Plan, work: Work, start: &Pool) -> Times {
     let mut pool = start.clone();
-    let (mut library, mut plain) = (Vec::new(), Vec::new());
+    let mut times = [const { Vec::new() }; SIDES.len()];
     let begun = Instant::now();
-    while library.len() < LEAST_PASSES || library.len() < MOST_PASSES && begun.elapsed() < TIME_ENOUGH {
-        let mut time = |side| timed_pass(plan, work, side, &mut pool, start);
+    for pass in 0..MOST_PASSES {
+        if pass >= LEAST_PASSES && begun.elapsed() >= TIME_ENOUGH {
+            break;
+        }
         // The side that goes first changes from pass to pass.
-        let (one, other) = if library.len() % 2 == 0 {
-            let one = time(LIBRARY);
-            (one, time(PLAIN))
-        } else {
-            let other = time(PLAIN);
-            (time(LIBRARY), other)
-        };
-        library.push(one);
-        plain.push(other);
+        for turn in 0..SIDES.len() {
+            let at = (pass + turn) % SIDES.len();
+            times[at].push(timed_pass(plan, work, SIDES[at].1, &mut pool, start));
+        }
     }
+    let [library, plain, packed] = times;
     let ratios = library.iter().zip(&plain).map(|(library, plain)| library / plain).collect();
-    (median(library), median(plain), median(ratios))
+    Times { library: median(library), plain: median(plain), packed: median(packed), ratio: median(ratios) }
 }
 
 fn main() {
-    println!("| Plan | Work | library, ns | plain Rust, ns | ratio |");
-    println!("|---|---|---:|---:|---:|");
+    let mut slowest = (0.0, String::new());
+    println!("| Plan | Work | library, ns | plain, ns | library / plain | packed, ns |");
+    println!("|---|---|---:|---:|---:|---:|");
     for plan in Plan::all() {
         for (name, work) in WORKS {
             let start = Pool::new(plan, work, &mut Chance::seeded(121));
             let expected = after_pass(plan, work, ORACLE, &start);
-            for (side, whose) in [(LIBRARY, "library"), (PLAIN, "plain Rust code")] {
+            for (whose, side) in SIDES {
                 if after_pass(plan, work, side, &start) != expected {
                     println!("bench: the {whose} and the independent decoder differ: plan {}, {name}", plan.number);
                     std::process::exit(1);
                 }
             }
-            let (library, plain, ratio) = timed(plan, work, &start);
-            match work {
-                Work::Copy => println!("| {} | {name} | {:.1} | | |", plan.number, library.min(plain)),
-                _ => println!("| {} | {name} | {library:.1} | {plain:.1} | {ratio:.2} |", plan.number),
+            let Times { library, plain, packed, ratio } = timed(plan, work, &start);
+            if let Work::Copy = work {
+                println!("| {} | {name} | {:.1} | | | |", plan.number, library.min(plain).min(packed));
+                continue;
+            }
+            println!("| {} | {name} | {library:.1} | {plain:.1} | {ratio:.2} | {packed:.1} |", plan.number);
+            if ratio > slowest.0 {
+                slowest = (ratio, format!("plan {}, {name}", plan.number));
             }
         }
     }
+    println!("\nThe slowest ratio is {:.2}: {}.", slowest.0, slowest.1);
 }

@@ -1,0 +1,292 @@
+//! What `plain.rs` and `packed.rs` share: the fields, the plans, what is refused, a bench's bytes, and solving.
+
+pub const ROWS: usize = 8;
+pub const COLUMNS: usize = 32;
+pub const SYMBOLS: usize = 256;
+pub const SUMS: usize = 16;
+pub const TOTALS: usize = 2;
+/// Bytes of a bench.
+pub const BENCH: usize = 418;
+
+pub const RESTORED: usize = 0;
+pub const STUCK: usize = 1;
+pub const CLASH: usize = 2;
+pub const WHOLE: usize = 3;
+pub const FILLED: usize = 4;
+pub const TIED: usize = 5;
+pub const RAISED: usize = 6;
+pub const BLOCKED: usize = 7;
+pub const TOP: usize = 8;
+
+// ---- fields
+
+const fn product(x: u8, y: u8, modulus: u8, degree: u32) -> u8 {
+    let (mut x, mut sum, mut bit) = (x, 0, 0);
+    while bit < degree {
+        if y >> bit & 1 == 1 {
+            sum ^= x;
+        }
+        let carry = x >> (degree - 1) & 1;
+        x = (x << 1) & ((1 << degree) - 1) ^ carry * modulus;
+        bit += 1;
+    }
+    sum
+}
+
+pub const fn times16(x: u8, y: u8) -> u8 {
+    product(x, y, 0b0011, 4)
+}
+
+pub const fn times32(x: u8, y: u8) -> u8 {
+    product(x, y, 0b00101, 5)
+}
+
+/// The location of a column: a^c, in plan 2 with 0 for the last column, in plan 1 the number c + 1.
+pub const fn location(plan: usize, column: usize) -> u8 {
+    if plan == 1 {
+        return column as u8 + 1;
+    }
+    if plan == 2 && column == 31 {
+        return 0;
+    }
+    let (mut power, mut exponent) = (1, 0);
+    while exponent < column {
+        power = if plan == 2 { times32(power, 2) } else { times16(power, 2) };
+        exponent += 1;
+    }
+    power
+}
+
+/// Products and inverses in GF(16).
+pub static PRODUCTS: [u8; 256] = {
+    let mut table = [0; 256];
+    let mut entry = 0;
+    while entry < 256 {
+        table[entry] = times16((entry / 16) as u8, (entry % 16) as u8);
+        entry += 1;
+    }
+    table
+};
+
+static INVERSES: [u8; 16] = {
+    let mut table = [0; 16];
+    let mut entry = 0;
+    while entry < 256 {
+        if times16((entry / 16) as u8, (entry % 16) as u8) == 1 {
+            table[entry / 16] = (entry % 16) as u8;
+        }
+        entry += 1;
+    }
+    table
+};
+
+pub fn times(x: u8, y: u8) -> u8 {
+    PRODUCTS[(x as usize * 16 + y as usize) & 255]
+}
+
+// ---- plans
+
+pub struct Plan {
+    pub number: usize,
+    pub q: u8,
+    pub rows: usize,
+    pub columns: usize,
+    pub levels: usize,
+    pub carried: usize,
+    /// The number of sums at the levels from 1 to this one.
+    pub sums_to: [usize; 4],
+    /// The number of totals of each level, and their weights.
+    pub totals: [usize; 4],
+    pub weights: [[[u8; ROWS]; TOTALS]; 4],
+    pub check_places: [u32; ROWS],
+}
+
+const ONES: [u8; ROWS] = [1; ROWS];
+
+pub const POWERS: [u8; ROWS] = {
+    let mut powers = [1; ROWS];
+    let mut row = 1;
+    while row < ROWS {
+        powers[row] = times16(powers[row - 1], 2);
+        row += 1;
+    }
+    powers
+};
+
+static PLANS: [Plan; 3] = [
+    Plan {
+        number: 1,
+        q: 2,
+        rows: 3,
+        columns: 7,
+        levels: 2,
+        carried: 15,
+        sums_to: [0, 1, 4, 4],
+        totals: [0, 0, 1, 0],
+        weights: [[ONES; 2]; 4],
+        check_places: [1 << 6, 1 << 6, 0b1110100, 0, 0, 0, 0, 0],
+    },
+    Plan {
+        number: 2,
+        q: 2,
+        rows: 8,
+        columns: 32,
+        levels: 3,
+        carried: 198,
+        sums_to: [0, 6, 11, 16],
+        totals: [0, 0, 1, 1],
+        weights: [[ONES; 2]; 4],
+        check_places: {
+            let mut places = [1 << 31 | 0x1f; ROWS];
+            places[7] = 1 << 31 | 0x7fff;
+            places
+        },
+    },
+    Plan {
+        number: 3,
+        q: 16,
+        rows: 8,
+        columns: 15,
+        levels: 3,
+        carried: 98,
+        sums_to: [0, 2, 3, 7],
+        totals: [0, 0, 2, 1],
+        weights: [[ONES; 2], [ONES; 2], [ONES, POWERS], [ONES; 2]],
+        check_places: [0x6000, 0x6000, 0x6000, 0x6000, 0x6000, 0x6000, 0x7000, 0x7f00],
+    },
+];
+
+impl Plan {
+    pub fn numbered(number: usize) -> Result<&'static Plan, usize> {
+        PLANS.get(number.wrapping_sub(1)).ok_or(10)
+    }
+
+    pub fn symbols(&self) -> usize {
+        self.rows * self.columns
+    }
+}
+
+// ---- refusals
+
+pub fn all_below(q: u8, symbols: &[u8]) -> bool {
+    symbols.iter().fold(0, |most, &symbol| most.max(symbol)) < q
+}
+
+/// Refusals 12 and 13.
+pub fn test(plan: &Plan, stripe: &[u8], marks: &[u32]) -> Result<(), usize> {
+    if plan.columns < 32 && marks.iter().any(|word| word >> plan.columns != 0) {
+        return Err(12);
+    }
+    if all_below(plan.q, stripe) {
+        return Ok(());
+    }
+    let fits = |(row, &word): (&[u8], &u32)| {
+        row.iter().enumerate().all(|(column, &symbol)| symbol < plan.q || word >> column & 1 == 1)
+    };
+    match stripe.chunks_exact(plan.columns).zip(marks).all(fits) {
+        true => Ok(()),
+        false => Err(13),
+    }
+}
+
+/// Refusals 10 to 13 of a call that is lent a stripe and its marks.
+pub fn lent(plan: usize, stripe: &[u8], marks: &[u32], rest_fits: impl Fn(&Plan) -> bool) -> Result<&'static Plan, usize> {
+    let plan = Plan::numbered(plan)?;
+    if stripe.len() != plan.symbols() || marks.len() != plan.rows || !rest_fits(plan) {
+        return Err(11);
+    }
+    test(plan, stripe, marks)?;
+    Ok(plan)
+}
+
+// ---- solving
+
+pub enum Solved {
+    Dependent,
+    None,
+    One,
+}
+
+/// Reduces equations in some unknowns, the right-hand side after them. The solution stands there afterwards.
+pub fn solve<const CELLS: usize>(q: u8, system: &mut [[u8; CELLS]], unknowns: usize) -> Solved {
+    if unknowns > system.len() {
+        return Solved::Dependent;
+    }
+    for at in 0..unknowns {
+        let Some(pivot) = (at..system.len()).find(|&row| system[row][at] != 0) else {
+            return Solved::Dependent;
+        };
+        system.swap(at, pivot);
+        let own = &mut system[at];
+        if own[at] != 1 {
+            let inverse = INVERSES[own[at] as usize & 15];
+            own[at..=unknowns].iter_mut().for_each(|cell| *cell = times(inverse, *cell));
+        }
+        let own = *own;
+        for row in (0..system.len()).filter(|&row| row != at) {
+            let factor = system[row][at];
+            if factor != 0 {
+                add(q, factor, &own[at..=unknowns], &mut system[row][at..=unknowns]);
+            }
+        }
+    }
+    match system[unknowns..].iter().all(|row| row[unknowns] == 0) {
+        true => Solved::One,
+        false => Solved::None,
+    }
+}
+
+/// Adds a row times a factor that is not 0 to another row.
+fn add(q: u8, factor: u8, row: &[u8], other: &mut [u8]) {
+    let cells = other.iter_mut().zip(row);
+    match q {
+        2 => cells.for_each(|(cell, more)| *cell ^= more),
+        _ => cells.for_each(|(cell, &more)| *cell ^= times(factor, more)),
+    }
+}
+
+// ---- the bench
+
+pub struct Bench {
+    pub plan: &'static Plan,
+    pub level: usize,
+    pub symbols: [u8; SYMBOLS],
+    pub marks: [u32; ROWS],
+    /// The learned sums.
+    pub sums: [[u8; SUMS]; ROWS],
+}
+
+impl Bench {
+    pub fn new(plan: &'static Plan, stripe: &[u8], marks: &[u32]) -> Bench {
+        let mut bench = Bench { plan, level: 1, symbols: [0; SYMBOLS], marks: [0; ROWS], sums: [[0; SUMS]; ROWS] };
+        bench.symbols[..stripe.len()].copy_from_slice(stripe);
+        bench.marks[..marks.len()].copy_from_slice(marks);
+        bench
+    }
+
+    pub fn read(bytes: &[u8]) -> Result<Bench, usize> {
+        if bytes.len() != BENCH {
+            return Err(11);
+        }
+        let plan = Plan::numbered(bytes[0] as usize)?;
+        let level = bytes[1] as usize;
+        if level < 1 || level > plan.levels {
+            return Err(15);
+        }
+        let mut marks = [0; ROWS];
+        for (word, four) in marks[..plan.rows].iter_mut().zip(bytes[258..290].chunks_exact(4)) {
+            *word = u32::from_le_bytes([four[0], four[1], four[2], four[3]]);
+        }
+        let stripe = &bytes[2..2 + plan.symbols()];
+        test(plan, stripe, &marks[..plan.rows])?;
+        let mut bench = Bench::new(plan, stripe, &marks[..plan.rows]);
+        bench.level = level;
+        for (row, sums) in bench.sums[..plan.rows].iter_mut().zip(bytes[290..].chunks_exact(SUMS)) {
+            row.copy_from_slice(sums);
+        }
+        match bench.sums[..plan.rows].iter().all(|sums| all_below(plan.q, &sums[..plan.sums_to[level]])) {
+            true => Ok(bench),
+            false => Err(13),
+        }
+    }
+}
