@@ -20,10 +20,10 @@ use Rattle.linear.specs.Lists.{all, only, vanish, first, rest}
 use Rattle.linear.specs.Marks.{bitsOf}
 use Rattle.linear.proofs.Choices.{Alike, Inside}
 use Rattle.linear.proofs.Filling.{Independent, independent-of}
-use Rattle.repair.specs.Plan.{Plan, planOf, rowAt, marksAt, marksOf}
-use Rattle.repair.specs.Refusal.{allBelow, unmarkedBelow}
-use Rattle.repair.proofs.Flat.{flat-length}
-use Rattle.repair.proofs.Sound.{marks-length}
+use Rattle.plans.specs.Plan.{Plan, planOf, rowAt, marksAt, marksOf}
+use Rattle.plans.specs.Refusal.{allBelow, unmarkedBelow}
+use Rattle.plans.proofs.Flat.{flat-length}
+use Rattle.plans.proofs.Rows.{marks-length}
 use Rattle.demands.specs.Words.{Agree}
 use Rattle.demands.proofs.Marked.{marked, bits-step, marked-bits, agrees-weight, weightless-vanish}
 

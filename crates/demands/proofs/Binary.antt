@@ -20,7 +20,7 @@ use Rattle.field.proofs.Powers.{power-lt, square-sum}
 use Rattle.linear.specs.Lists.{vanish}
 use Rattle.linear.specs.Fill.{sumsOf}
 use Rattle.linear.proofs.Tests.{In, all-in}
-use Rattle.repair.specs.Plan.{ones, bitChecks}
+use Rattle.plans.specs.Plan.{ones, bitChecks}
 use Rattle.demands.proofs.Lists.{in-below, in-flat}
 use Rattle.demands.proofs.Marked.{half-lt}
 

@@ -14,9 +14,9 @@ use Rattle.field.specs.Field.{size}
 use Rattle.linear.specs.Lists.{all, first, rest}
 use Rattle.linear.specs.Marks.{bitsOf}
 use Rattle.linear.proofs.Choices.{Alike}
-use Rattle.repair.specs.Plan.{Plan, known, planOf, rowAt, marksAt, marksOf}
-use Rattle.repair.specs.Refusal.{unasked, inMemory, stripeFits, wordsFit, marksFit, unmarkedBelow, symbolsFit, lentRefusal}
-use Rattle.repair.specs.File.{bytes4, fileLength, headerOf, blanked, fileOf, writeRefusal, writeFile}
+use Rattle.plans.specs.Plan.{Plan, known, planOf, rowAt, marksAt, marksOf, fileLength}
+use Rattle.plans.specs.Refusal.{unasked, inMemory, stripeFits, wordsFit, marksFit, unmarkedBelow, symbolsFit, lentRefusal}
+use Rattle.repair.specs.File.{bytes4, headerOf, blanked, fileOf, writeRefusal, writeFile}
 use Rattle.repair.specs.Text.{hex, lineEnd, shown, grid}
 use Rattle.demands.specs.Silence.{SameUnmarked, SilentWriting}
 use Rattle.demands.proofs.Alike.{at-alike, row-at, agree-rows}

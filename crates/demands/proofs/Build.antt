@@ -21,8 +21,8 @@ use Rattle.linear.proofs.Tests.{In, either, all-append, zeros-vanish}
 use Rattle.linear.proofs.Choices.{areSymbols, agrees-alike, agrees-length, agrees-symbols}
 use Rattle.linear.proofs.Vectors.{sums-append}
 use Rattle.linear.proofs.Filling.{Filling}
-use Rattle.repair.specs.Plan.{Plan, Level, planOf, levelOf, checksTo, marksAt}
-use Rattle.repair.proofs.Levels.{checks-suc}
+use Rattle.plans.specs.Plan.{Plan, Level, planOf, levelOf, checksTo, marksAt}
+use Rattle.steps.proofs.Levels.{checks-suc}
 use Rattle.demands.proofs.Lists.{map-in, all-map, all-getD, append-same}
 use Rattle.demands.proofs.Alike.{alike-at}
 use Rattle.demands.proofs.Codewords.{sums-count}

@@ -16,12 +16,12 @@ use Rattle.field.proofs.Laws.{IsField, dot-lt}
 use Rattle.linear.specs.Lists.{all, zeros, vanish}
 use Rattle.linear.specs.Fill.{sumsOf}
 use Rattle.linear.proofs.Tests.{In, all-in, vanish→zeros}
-use Rattle.repair.specs.Plan.{Plan, noLevel, planOf, levelOf, rowAt}
-use Rattle.repair.specs.Refusal.{allBelow}
-use Rattle.repair.specs.Steps.{across}
-use Rattle.repair.specs.Codeword.{rowsHold, totalsHold, isCodeword}
-use Rattle.repair.proofs.Rows.{row-end, row-length, learnedAt}
-use Rattle.repair.proofs.Fit.{all-rows, all-take, all-drop}
+use Rattle.plans.specs.Plan.{Plan, noLevel, planOf, levelOf, rowAt, across}
+use Rattle.plans.specs.Refusal.{allBelow}
+use Rattle.codewords.specs.Codeword.{rowsHold, totalsHold, isCodeword}
+use Rattle.plans.proofs.Rows.{row-end, row-length}
+use Rattle.steps.proofs.Sums.{learnedAt}
+use Rattle.steps.proofs.Fit.{all-rows, all-take, all-drop}
 use Rattle.demands.specs.Words.{Codeword}
 
 -- ---- lists of zeros

@@ -19,14 +19,13 @@ use Rattle.linear.specs.Marks.{bitsOf}
 use Rattle.linear.specs.Fill.{sumsOf}
 use Rattle.linear.proofs.Tests.{in-all, zeros-vanish}
 use Rattle.linear.proofs.Choices.{agrees-alike}
-use Rattle.repair.specs.Plan.{Plan, Level, known, planOf, levelOf, rowAt, marksAt}
-use Rattle.repair.specs.Refusal.{allBelow}
-use Rattle.repair.specs.Steps.{across}
-use Rattle.repair.specs.Codeword.{rowsHold, totalsHold, isCodeword}
-use Rattle.repair.specs.Rounds.{mendStripe}
-use Rattle.repair.proofs.Shape.{plan-field}
-use Rattle.repair.proofs.Fit.{rows-all, all-zeros, all-take, all-drop, fit-lent}
-use Rattle.repair.proofs.Sound.{unmarked-below}
+use Rattle.plans.specs.Plan.{Plan, Level, known, planOf, levelOf, rowAt, marksAt, across}
+use Rattle.plans.specs.Refusal.{allBelow}
+use Rattle.codewords.specs.Codeword.{rowsHold, totalsHold, isCodeword}
+use Rattle.repair.specs.Mending.{mendStripe}
+use Rattle.plans.proofs.Shape.{plan-field}
+use Rattle.steps.proofs.Fit.{rows-all, all-zeros, all-take, all-drop, fit-lent}
+use Rattle.steps.proofs.Sound.{unmarked-below}
 use Rattle.demands.specs.Words.{Codeword, Agree, Fit, total, distance}
 use Rattle.demands.specs.Parameters.{Distance}
 use Rattle.demands.proofs.Lists.{all-map}

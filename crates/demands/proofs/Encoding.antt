@@ -14,16 +14,17 @@ use Rattle.field.proofs.Test.{both-left, below, at}
 use Rattle.field.proofs.Ring.{size-pos}
 use Rattle.linear.proofs.Tests.{either}
 use Rattle.linear.proofs.Filling.{independent-inside}
-use Rattle.repair.specs.Plan.{Plan, wordOf, plan1, plan2, plan3, known, planOf, levelOf, rowAt, marksAt, marksOf}
-use Rattle.repair.specs.Steps.{lossy}
-use Rattle.repair.specs.Refusal.{unasked, stripeFits, allBelow}
-use Rattle.repair.specs.Codeword.{isCodeword, checkPlacesOf, carried, placed, encoded, encodeRefusal, encodeStripe, extracted, extractRefusal, extractData}
-use Rattle.repair.proofs.Shape.{of-known}
-use Rattle.repair.proofs.Fit.{passed, if-true, all-take, all-drop, fit-lent}
-use Rattle.repair.proofs.Sound.{unmarked-below}
-use Rattle.repair.proofs.Placing.{rows-length}
-use Rattle.repair.proofs.Carrying.{words-count}
-use Rattle.repair.proofs.Data.{placed-length, placed-all, taken-length, taken-all, taken-placed, alike-taken, taken-alike}
+use Rattle.plans.specs.Plan.{Plan, wordOf, plan1, plan2, plan3, known, planOf, levelOf, rowAt, marksAt, marksOf, checkPlacesOf, carried}
+use Rattle.steps.specs.Steps.{lossy}
+use Rattle.plans.specs.Refusal.{unasked, stripeFits, allBelow}
+use Rattle.codewords.specs.Codeword.{isCodeword, placed, encodeRefusal, extracted, extractRefusal, extractData}
+use Rattle.repair.specs.Encoding.{encoded, encodeStripe}
+use Rattle.plans.proofs.Shape.{of-known}
+use Rattle.steps.proofs.Fit.{passed, if-true, all-take, all-drop, fit-lent}
+use Rattle.steps.proofs.Sound.{unmarked-below}
+use Rattle.codewords.proofs.Placing.{rows-length}
+use Rattle.codewords.proofs.Carrying.{words-count}
+use Rattle.codewords.proofs.Data.{placed-length, placed-all, taken-length, taken-all, taken-placed, alike-taken, taken-alike}
 use Rattle.demands.specs.Words.{Codeword, Agree, Fit}
 use Rattle.demands.specs.Second.{IsEncoded, EncodingMeans, ExtractionMeans, CodewordsAreEncodings}
 use Rattle.demands.proofs.Alike.{alike-at, at-alike, inside-refl}

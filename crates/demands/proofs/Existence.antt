@@ -17,16 +17,16 @@ use Rattle.linear.specs.Lists.{all, zeros, vanish}
 use Rattle.linear.specs.Fill.{sumsOf}
 use Rattle.linear.proofs.Tests.{in-all, zeros-vanish}
 use Rattle.linear.proofs.Choices.{agrees-alike, agrees-length}
-use Rattle.repair.specs.Plan.{Plan, noLevel, planOf, levelOf, checksTo, rowAt, marksAt}
-use Rattle.repair.specs.Refusal.{allBelow}
-use Rattle.repair.specs.Steps.{across}
-use Rattle.repair.specs.Codeword.{rowsHold, totalsHold, isCodeword}
-use Rattle.repair.proofs.Levels.{checks-first}
-use Rattle.repair.proofs.Shape.{shape, plan-field}
-use Rattle.repair.proofs.Fit.{LentFit, lent-fit, rows-all}
-use Rattle.repair.proofs.Sound.{agrees-below, marks-length}
+use Rattle.plans.specs.Plan.{Plan, noLevel, planOf, levelOf, checksTo, rowAt, marksAt, across}
+use Rattle.plans.specs.Refusal.{allBelow}
+use Rattle.codewords.specs.Codeword.{rowsHold, totalsHold, isCodeword}
+use Rattle.steps.proofs.Levels.{checks-first}
+use Rattle.plans.proofs.Shape.{shape, plan-field}
+use Rattle.steps.proofs.Fit.{LentFit, lent-fit, rows-all}
+use Rattle.steps.proofs.Sound.{agrees-below}
+use Rattle.plans.proofs.Rows.{marks-length}
 use Rattle.demands.specs.Words.{Codeword, Agree, Fit}
-use Rattle.repair.proofs.Flat.{flat-length}
+use Rattle.plans.proofs.Flat.{flat-length}
 use Rattle.demands.proofs.Lists.{at-all, flat-all, flat-row}
 use Rattle.demands.proofs.Alike.{alike-sym, rows-agree}
 use Rattle.demands.proofs.Build.{Built, built}

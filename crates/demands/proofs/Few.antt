@@ -16,8 +16,8 @@ use Rattle.field.proofs.Fields.{gf8-field, gf16-field, gf32-field}
 use Rattle.field.proofs.Words.{Fit, weight, fit-le, fit, distinct, are-fit, are-distinct}
 use Rattle.field.proofs.Powers.{independent}
 use Rattle.linear.proofs.Filling.{Independent}
-use Rattle.repair.specs.Plan.{ones, bitChecks, locations1, plan1, locations2, powers2, plan2, locations3, powers3, plan3}
-use Rattle.repair.specs.Plan.{noPlan, planOf, noLevel, levelOf, checksTo}
+use Rattle.plans.specs.Plan.{ones, bitChecks, locations1, plan1, locations2, powers2, plan2, locations3, powers3, plan3}
+use Rattle.plans.specs.Plan.{noPlan, planOf, noLevel, levelOf, checksTo}
 use Rattle.demands.specs.Words.{counts}
 use Rattle.demands.proofs.Lists.{in-below}
 use Rattle.demands.proofs.Marked.{marked, light-independent}

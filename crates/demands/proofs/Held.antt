@@ -19,17 +19,17 @@ use Rattle.linear.proofs.Tests.{In, either}
 use Rattle.linear.proofs.Choices.{Alike}
 use Rattle.linear.proofs.Vectors.{sums-append}
 use Rattle.linear.proofs.Filling.{fill-true}
-use Rattle.repair.specs.Plan.{Plan, Level, noLevel, known, planOf, levelOf, checksTo, rowAt, marksAt}
-use Rattle.repair.specs.Refusal.{allBelow, room, sumsAt}
-use Rattle.repair.specs.Steps.{fresh, stepped, rowFill, putRow, rowStepBy, rowStep, lossy, across, blocked, learned, join, joined, levelFill, raise, levelStepBy, levelStep}
-use Rattle.repair.specs.declared.Bench.{Bench}
-use Rattle.repair.specs.declared.Stepped.{Stepped}
-use Rattle.repair.specs.declared.Step.the-variants.{Top}
-use Rattle.repair.proofs.Rows.{of-rows, row-end, row-length}
-use Rattle.repair.proofs.Levels.{checks-first, checks-suc, checks-le, sums-length}
-use Rattle.repair.proofs.Shape.{shape, plan-field}
-use Rattle.repair.proofs.Fit.{if-true, if-false, lent-fit, fresh-mark, fresh-row, fresh-sums}
-use Rattle.repair.proofs.Sound.{Sound, sound-fresh, marks-length, across-below, totalFill, row-outside, sized-put, sized-raise, row-step, level-step, row-place, put-mark-other, put-row, put-row-other, fit-put, raise-sums, fit-raise}
+use Rattle.plans.specs.Plan.{Plan, Level, noLevel, known, planOf, levelOf, checksTo, rowAt, marksAt, across}
+use Rattle.plans.specs.Refusal.{allBelow, room, sumsAt}
+use Rattle.steps.specs.Steps.{fresh, stepped, rowFill, putRow, rowStepBy, rowStep, lossy, blocked, learned, join, joined, levelFill, raise, levelStepBy, levelStep}
+use Rattle.plans.specs.declared.Bench.{Bench}
+use Rattle.plans.specs.declared.Stepped.{Stepped}
+use Rattle.plans.specs.declared.Step.the-variants.{Top}
+use Rattle.plans.proofs.Rows.{of-rows, row-end, row-length, marks-length}
+use Rattle.steps.proofs.Levels.{checks-first, checks-suc, checks-le, sums-length}
+use Rattle.plans.proofs.Shape.{shape, plan-field}
+use Rattle.steps.proofs.Fit.{if-true, if-false, lent-fit, fresh-mark, fresh-row, fresh-sums}
+use Rattle.steps.proofs.Sound.{Sound, sound-fresh, across-below, totalFill, row-outside, sized-put, sized-raise, row-step, level-step, row-place, put-mark-other, put-row, put-row-other, fit-put, raise-sums, fit-raise}
 use Rattle.demands.specs.Words.{Codeword, Agree, Fit, Move, onRow, onLevel, after, walk}
 use Rattle.demands.proofs.Alike.{alike-refl, alike-sym, alike-unmarked, agree-rows, clear-unmarked}
 use Rattle.demands.proofs.Codewords.{vanish-same, all-at, sums-count, sums-below, across-row, word-row, word-below, word-sums, word-totals}

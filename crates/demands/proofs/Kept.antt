@@ -14,15 +14,16 @@ use Rattle.linear.specs.Lists.{only}
 use Rattle.linear.specs.Marks.{bitsOf}
 use Rattle.linear.specs.Fill.{Fill, tied, none, one}
 use Rattle.linear.proofs.Tests.{either}
-use Rattle.repair.specs.Plan.{Plan, planOf, rowAt, marksAt, marksOf}
-use Rattle.repair.specs.Refusal.{unasked, lentRefusal, benchRefusal}
-use Rattle.repair.specs.Steps.{fresh, stepped, unlessRefused, rowFill, putRow, rowStepBy, rowStep, Learned, blocked, failing, learned, levelFill, raise, levelStepBy, levelStep}
-use Rattle.repair.specs.Rounds.{Standing, Turn, on, end, clash, mended, turnStripe, turnMarks}
-use Rattle.repair.specs.declared.Bench.{Bench}
-use Rattle.repair.specs.declared.Step.the-variants.{Top}
-use Rattle.repair.proofs.Rows.{of-rows, row-end, row-other}
-use Rattle.repair.proofs.Fit.{BenchFit, lent-fit, bench-fit}
-use Rattle.repair.proofs.Sound.{marks-length, filled-row}
+use Rattle.plans.specs.Plan.{Plan, planOf, rowAt, marksAt, marksOf}
+use Rattle.plans.specs.Refusal.{unasked, lentRefusal, benchRefusal}
+use Rattle.steps.specs.Steps.{fresh, stepped, unlessRefused, rowFill, putRow, rowStepBy, rowStep, Learned, blocked, failing, learned, levelFill, raise, levelStepBy, levelStep}
+use Rattle.steps.specs.Rounds.{Standing, Turn, on, end, clash}
+use Rattle.repair.specs.Mending.{mended, turnStripe, turnMarks}
+use Rattle.plans.specs.declared.Bench.{Bench}
+use Rattle.plans.specs.declared.Step.the-variants.{Top}
+use Rattle.plans.proofs.Rows.{of-rows, row-end, row-other, marks-length}
+use Rattle.steps.proofs.Fit.{BenchFit, lent-fit, bench-fit}
+use Rattle.steps.proofs.Sound.{filled-row}
 use Rattle.demands.specs.Words.{Fit, Move, onRow, onLevel, after, walk, rounds}
 use Rattle.demands.specs.Silence.{StepsKeep, MarkedKeep}
 use Rattle.demands.proofs.Marked.{marked}

@@ -17,18 +17,19 @@ use Rattle.linear.specs.Lists.{all, only, zeros}
 use Rattle.linear.specs.Fill.{sumsOf, Fill, tied, none, one}
 use Rattle.linear.proofs.Tests.{all-append}
 use Rattle.linear.proofs.Filling.{Means, no-dependency, fill-means}
-use Rattle.repair.specs.Plan.{Plan, Level, planOf, levelOf, checksTo, rowAt, marksAt}
-use Rattle.repair.specs.Refusal.{allBelow, lentRefusal}
-use Rattle.repair.specs.Steps.{lossy, across, Learned, blocked, failing, learned, join, joined, levelFill}
-use Rattle.repair.specs.Rounds.{Standing, mended, rowsLeft, bare, turnReport, turnStripe, turnMarks, mendReport, mendStripe, mendMarks}
-use Rattle.repair.specs.Codeword.{rowsHold, totalsHold, isCodeword}
-use Rattle.repair.specs.declared.Bench.{Bench}
-use Rattle.repair.specs.declared.Answer.{Answer}
-use Rattle.repair.specs.declared.Answer.the-variants.{Refused}
-use Rattle.repair.proofs.Rows.{row-end, row-length, row-append, rows-ext}
-use Rattle.repair.proofs.Shape.{shape}
-use Rattle.repair.proofs.Fit.{if-true, RowFits, lent-fit}
-use Rattle.repair.proofs.Sound.{marks-length, totalFill}
+use Rattle.plans.specs.Plan.{Plan, Level, planOf, levelOf, checksTo, rowAt, marksAt, across}
+use Rattle.plans.specs.Refusal.{allBelow, lentRefusal}
+use Rattle.steps.specs.Steps.{lossy, Learned, blocked, failing, learned, join, joined, levelFill}
+use Rattle.steps.specs.Rounds.{Standing}
+use Rattle.repair.specs.Mending.{mended, rowsLeft, bare, turnReport, turnStripe, turnMarks, mendReport, mendStripe, mendMarks}
+use Rattle.codewords.specs.Codeword.{rowsHold, totalsHold, isCodeword}
+use Rattle.plans.specs.declared.Bench.{Bench}
+use Rattle.plans.specs.declared.Answer.{Answer}
+use Rattle.plans.specs.declared.Answer.the-variants.{Refused}
+use Rattle.plans.proofs.Rows.{row-end, row-length, row-append, rows-ext, marks-length}
+use Rattle.plans.proofs.Shape.{shape}
+use Rattle.steps.proofs.Fit.{if-true, RowFits, lent-fit}
+use Rattle.steps.proofs.Sound.{totalFill}
 use Rattle.demands.specs.Words.{Codeword, Agree, Fit}
 use Rattle.demands.specs.Second.{IsRestored}
 use Rattle.demands.proofs.Marked.{marked}

@@ -14,11 +14,11 @@ use Rattle.field.specs.Lists.{upFrom}
 use Rattle.linear.specs.Marks.{bitsOf}
 use Rattle.linear.proofs.Choices.{Inside}
 use Rattle.linear.proofs.Filling.{Independent, independent-inside, independent-mono}
-use Rattle.repair.specs.Plan.{Plan, planOf, levelOf, checksTo, marksAt}
-use Rattle.repair.specs.Steps.{putRow, raise, lossy}
-use Rattle.repair.specs.declared.Bench.{Bench}
-use Rattle.repair.proofs.Rows.{of-rows}
-use Rattle.repair.proofs.Levels.{checks-grow}
+use Rattle.plans.specs.Plan.{Plan, planOf, levelOf, checksTo, marksAt}
+use Rattle.steps.specs.Steps.{putRow, raise, lossy}
+use Rattle.plans.specs.declared.Bench.{Bench}
+use Rattle.plans.proofs.Rows.{of-rows}
+use Rattle.steps.proofs.Levels.{checks-grow}
 use Rattle.demands.specs.Words.{Move, onRow, onLevel, after, walk, Quiet}
 use Rattle.demands.proofs.Alike.{inside-refl, inside-trans, clear-inside, inside-clear}
 use Rattle.demands.proofs.Held.{Held, RowFree, LevelFree, held-mark-lt, held-words, row-fills, level-learns, Made, stays, fills, learns, makes, held-after, held-walk}

@@ -14,14 +14,12 @@ use Rattle.linear.specs.Lists.{all, vanish}
 use Rattle.linear.specs.Fill.{sumsOf}
 use Rattle.linear.proofs.Tests.{either}
 use Rattle.linear.proofs.Filling.{no-dependency}
-use Rattle.repair.specs.Plan.{ones, bitChecks, locations1, plan1, locations2, powers2, plan2, locations3, powers3, plan3, known, planOf}
-use Rattle.repair.specs.Plan.{levelOf, checksTo, rowAt}
-use Rattle.repair.specs.Refusal.{allBelow}
-use Rattle.repair.specs.Steps.{across}
-use Rattle.repair.specs.Codeword.{rowsHold, totalsHold, isCodeword, carried}
+use Rattle.plans.specs.Plan.{ones, bitChecks, locations1, plan1, locations2, powers2, plan2, locations3, powers3, plan3, known, planOf, levelOf, checksTo, rowAt, across, carried}
+use Rattle.plans.specs.Refusal.{allBelow}
+use Rattle.codewords.specs.Codeword.{rowsHold, totalsHold, isCodeword}
 use Rattle.repair.proofs.Samples.{rowOf, sizes}
-use Rattle.repair.proofs.Shape.{of-known, shape}
-use Rattle.repair.proofs.Levels.{checks-first}
+use Rattle.plans.proofs.Shape.{of-known, shape}
+use Rattle.steps.proofs.Levels.{checks-first}
 use Rattle.demands.specs.Words.{Codeword, counts, rowDistance, distance}
 use Rattle.demands.specs.Parameters.{symbolsCarried, CarriedMet, RowWord, RowDistance, RowDistanceMet, DistanceMet}
 use Rattle.demands.proofs.Marked.{support, support-length, support-marked, support-agrees}

@@ -20,16 +20,17 @@ use Rattle.linear.specs.Marks.{bitsOf}
 use Rattle.linear.proofs.Choices.{Alike, Inside, agrees-length, agrees-alike}
 use Rattle.linear.proofs.Vectors.{sums-append}
 use Rattle.linear.proofs.Filling.{Means, fill-means}
-use Rattle.repair.specs.Plan.{Plan, Level, noLevel, planOf, levelOf, checksTo, rowAt, marksAt}
-use Rattle.repair.specs.Refusal.{room, sumsAt}
-use Rattle.repair.specs.Steps.{fresh, rowFill, putRow, lossy, across, blocked, learned, levelFill, raise}
-use Rattle.repair.specs.Codeword.{rowsHold, totalsHold}
-use Rattle.repair.specs.declared.Bench.{Bench}
-use Rattle.repair.proofs.Rows.{of-rows, row-end, learnedAt}
-use Rattle.repair.proofs.Levels.{checks-first, checks-suc, checks-le, sums-length}
-use Rattle.repair.proofs.Shape.{shape}
-use Rattle.repair.proofs.Fit.{lent-fit, rows-all, fresh-mark, fresh-row, fresh-sums}
-use Rattle.repair.proofs.Sound.{Ones, Sound, sound-fresh, totalFill, filled-row, put-mark, put-mark-other, put-row, put-row-other, learned-ones, learned-length, raise-sums, sound-put, sound-raise}
+use Rattle.plans.specs.Plan.{Plan, Level, noLevel, planOf, levelOf, checksTo, rowAt, marksAt, across}
+use Rattle.plans.specs.Refusal.{room, sumsAt}
+use Rattle.steps.specs.Steps.{fresh, rowFill, putRow, lossy, blocked, learned, levelFill, raise}
+use Rattle.codewords.specs.Codeword.{rowsHold, totalsHold}
+use Rattle.plans.specs.declared.Bench.{Bench}
+use Rattle.plans.proofs.Rows.{of-rows, row-end}
+use Rattle.steps.proofs.Sums.{learnedAt}
+use Rattle.steps.proofs.Levels.{checks-first, checks-suc, checks-le, sums-length}
+use Rattle.plans.proofs.Shape.{shape}
+use Rattle.steps.proofs.Fit.{lent-fit, rows-all, fresh-mark, fresh-row, fresh-sums}
+use Rattle.steps.proofs.Sound.{Ones, Sound, sound-fresh, totalFill, filled-row, put-mark, put-mark-other, put-row, put-row-other, learned-ones, learned-length, raise-sums, sound-put, sound-raise}
 use Rattle.demands.specs.Words.{Codeword, Agree, Fit}
 use Rattle.demands.proofs.Alike.{alike-refl, alike-trans, alike-inside, inside-refl, clear-inside}
 use Rattle.demands.proofs.Codewords.{sums-count}

@@ -4,17 +4,18 @@ use mathlib.Core.Logic.{_≢_}
 use Prim.Native.Nat.{ℕ, zero, suc}
 use lib.Dec.{not-T, eqb, eqb→eq}
 use Rattle.field.specs.Lists.{if_then_else_}
-use Rattle.repair.specs.Plan.{known}
-use Rattle.repair.specs.Refusal.{firstFailed, inMemory, benchRefusal, lentRefusal}
-use Rattle.repair.specs.Steps.{empty, startedBy, started, stepped, unlessRefused, rowStep, levelStep}
-use Rattle.repair.specs.Rounds.{mendReport, mendStripe, mendMarks}
-use Rattle.repair.specs.Codeword.{encodeRefusal, encodeStripe, extractRefusal, extractData}
+use Rattle.plans.specs.Plan.{known}
+use Rattle.plans.specs.Refusal.{firstFailed, inMemory, benchRefusal, lentRefusal}
+use Rattle.steps.specs.Steps.{empty, startedBy, started, stepped, unlessRefused, rowStep, levelStep}
+use Rattle.repair.specs.Mending.{mendReport, mendStripe, mendMarks}
+use Rattle.codewords.specs.Codeword.{encodeRefusal, extractRefusal, extractData}
+use Rattle.repair.specs.Encoding.{encodeStripe}
 use Rattle.repair.specs.File.{writeRefusal, writeFile, readRefusal, readStripe, readMarks}
-use Rattle.repair.specs.declared.Bench.{Bench}
-use Rattle.repair.specs.declared.Stepped.{Stepped}
-use Rattle.repair.specs.declared.Step.the-variants.{Refused}
-use Rattle.repair.specs.declared.Outcome.the-variants.{Refused as Undone}
-use Rattle.repair.proofs.Fit.{if-false}
+use Rattle.plans.specs.declared.Bench.{Bench}
+use Rattle.plans.specs.declared.Stepped.{Stepped}
+use Rattle.plans.specs.declared.Step.the-variants.{Refused}
+use Rattle.plans.specs.declared.Outcome.the-variants.{Refused as Undone}
+use Rattle.steps.proofs.Fit.{if-false}
 use Rattle.demands.specs.Refused.{MendRefused, EncodeRefused, ExtractRefused, ReadRefused, WriteRefused, RowRefused, LevelRefused, StartRefused, EmptyRefused}
 
 -- where the number is not 0 the second of two choices stands

@@ -17,17 +17,18 @@ use Rattle.linear.specs.Fill.{sumsOf, Fill, tied, none, one}
 use Rattle.linear.proofs.Tests.{either}
 use Rattle.linear.proofs.Choices.{alike-agrees}
 use Rattle.linear.proofs.Filling.{Means, dependent-in, in-dependent, fill-means, fill-tied, fill-one}
-use Rattle.repair.specs.Plan.{Plan, planOf, checksTo, rowAt, marksAt}
-use Rattle.repair.specs.Answers.{stepNumber}
-use Rattle.repair.specs.Refusal.{allBelow, sumsAt}
-use Rattle.repair.specs.Steps.{fresh, stepped, rowFill, putRow, rowStepBy, rowStep, Learned, blocked, failing, learned, levelFill, raise, levelStepBy, levelStep}
-use Rattle.repair.specs.Rounds.{Standing, Turn, on, end, clash, counted, afterRow, afterLevel, takeTurn, goOn, turns, mended}
-use Rattle.repair.specs.declared.Bench.{Bench}
-use Rattle.repair.specs.declared.Stepped.{Stepped}
-use Rattle.repair.specs.declared.Step.the-variants.{Whole, Filled, Tied, Top}
-use Rattle.repair.proofs.Rows.{row-length, row-again}
-use Rattle.repair.proofs.Fit.{if-true, if-false}
-use Rattle.repair.proofs.Sound.{Sound, marks-length, row-outside, row-step, level-step, row-place, filled-row, put-mark, put-mark-other, put-row, put-row-other}
+use Rattle.plans.specs.Plan.{Plan, planOf, checksTo, rowAt, marksAt}
+use Rattle.plans.specs.Answers.{stepNumber}
+use Rattle.plans.specs.Refusal.{allBelow, sumsAt}
+use Rattle.steps.specs.Steps.{fresh, stepped, rowFill, putRow, rowStepBy, rowStep, Learned, blocked, failing, learned, levelFill, raise, levelStepBy, levelStep}
+use Rattle.steps.specs.Rounds.{Standing, Turn, on, end, clash, counted, afterRow, afterLevel, takeTurn, goOn, turns}
+use Rattle.repair.specs.Mending.{mended}
+use Rattle.plans.specs.declared.Bench.{Bench}
+use Rattle.plans.specs.declared.Stepped.{Stepped}
+use Rattle.plans.specs.declared.Step.the-variants.{Whole, Filled, Tied, Top}
+use Rattle.plans.proofs.Rows.{row-length, row-again, marks-length}
+use Rattle.steps.proofs.Fit.{if-true, if-false}
+use Rattle.steps.proofs.Sound.{Sound, row-outside, row-step, level-step, row-place, filled-row, put-mark, put-mark-other, put-row, put-row-other}
 use Rattle.demands.specs.Words.{Codeword, Agree, Fit, Move, onRow, onLevel, walk, Quiet, rounds}
 use Rattle.demands.proofs.Marked.{marked}
 use Rattle.demands.proofs.Alike.{alike-refl, unmarked-all, unmarked-independent, clear-unmarked}

@@ -14,17 +14,18 @@ use Rattle.linear.specs.Lists.{any, all, only, same, zeros, vanish, first, rest
 use Rattle.linear.specs.Marks.{bitsOf}
 use Rattle.linear.specs.Fill.{sumsOf, options, before, choices, loose, dependent, fillings, fillBy, fill}
 use Rattle.linear.proofs.Choices.{Alike}
-use Rattle.repair.specs.Plan.{ones, bitChecks, wordOf, locations1, plan1, known, planOf, noLevel, levelOf, checksTo, rowAt, marksAt, marksOf}
-use Rattle.repair.specs.Refusal.{firstFailed, unasked, inMemory, stripeFits, wordsFit, marksFit, allBelow, unmarkedBelow, symbolsFit, sumsAt, sumsFit, levelFits, lentRefusal, benchRefusal}
-use Rattle.repair.specs.Steps.{fresh, stepped, unlessRefused, rowFill, putRow, rowStepBy, rowStep, lossy, across, join, joined, levelFill, keepSums, raise, levelStepBy, levelStep}
-use Rattle.repair.specs.Rounds.{mendReport, mendMarks}
-use Rattle.repair.specs.Codeword.{rowsHold, totalsHold, isCodeword, checkPlacesOf, carried, encodeRefusal, encodeStripe, extractRefusal}
-use Rattle.repair.specs.declared.Bench.{Bench}
-use Rattle.repair.specs.declared.Answer.{Answer}
-use Rattle.repair.specs.declared.Answer.the-variants.{Restored, Stuck, Clash}
-use Rattle.repair.specs.declared.Place.the-variants.{Row}
+use Rattle.plans.specs.Plan.{ones, bitChecks, wordOf, locations1, plan1, known, planOf, noLevel, levelOf, checksTo, rowAt, marksAt, marksOf, across, checkPlacesOf, carried}
+use Rattle.plans.specs.Refusal.{firstFailed, unasked, inMemory, stripeFits, wordsFit, marksFit, allBelow, unmarkedBelow, symbolsFit, sumsAt, sumsFit, levelFits, lentRefusal, benchRefusal}
+use Rattle.steps.specs.Steps.{fresh, stepped, unlessRefused, rowFill, putRow, rowStepBy, rowStep, lossy, join, joined, levelFill, keepSums, raise, levelStepBy, levelStep}
+use Rattle.repair.specs.Mending.{mendReport, mendMarks}
+use Rattle.codewords.specs.Codeword.{rowsHold, totalsHold, isCodeword, encodeRefusal, extractRefusal}
+use Rattle.repair.specs.Encoding.{encodeStripe}
+use Rattle.plans.specs.declared.Bench.{Bench}
+use Rattle.plans.specs.declared.Answer.{Answer}
+use Rattle.plans.specs.declared.Answer.the-variants.{Restored, Stuck, Clash}
+use Rattle.plans.specs.declared.Place.the-variants.{Row}
 use Rattle.repair.proofs.Sheet.{Case, restored, stuck, clashed, blank, unchanged, blankRestored, row1, exampleStripe, exampleMarks, exampleAfter, cases, done, sheet}
-use Rattle.repair.proofs.Sound.{row-outside}
+use Rattle.steps.proofs.Sound.{row-outside}
 use Rattle.demands.specs.Words.{Codeword, Agree, Fit, Move, onRow, onLevel, walk, Quiet, rounds, rowsWith, counts, MeetsCounts, total, distance}
 use Rattle.demands.specs.Third.{Premise}
 use Rattle.demands.specs.Silence.{SameUnmarked, SameButMarks}

@@ -11,13 +11,14 @@ use lib.Dec.{T, eqb}
 use lib.ListN.{length, getD}
 use Rattle.field.specs.Lists.{if_then_else_}
 use Rattle.linear.specs.Lists.{only}
-use Rattle.repair.specs.Plan.{planOf}
-use Rattle.repair.specs.Steps.{lossy, blocked, learned}
-use Rattle.repair.specs.Rounds.{Turn, on, end, clash, mended, rowsLeft, endReport, bare, turnReport, turnStripe, turnMarks, mendReport, mendStripe, mendMarks}
-use Rattle.repair.specs.declared.Bench.{Bench}
-use Rattle.repair.specs.declared.Report.{Report}
-use Rattle.repair.specs.declared.Answer.the-variants.{Restored, Stuck, Clash}
-use Rattle.repair.proofs.Fit.{if-true}
+use Rattle.plans.specs.Plan.{planOf}
+use Rattle.steps.specs.Steps.{lossy, blocked, learned}
+use Rattle.steps.specs.Rounds.{Turn, on, end, clash}
+use Rattle.repair.specs.Mending.{mended, rowsLeft, endReport, bare, turnReport, turnStripe, turnMarks, mendReport, mendStripe, mendMarks}
+use Rattle.plans.specs.declared.Bench.{Bench}
+use Rattle.plans.specs.declared.Report.{Report}
+use Rattle.plans.specs.declared.Answer.the-variants.{Restored, Stuck, Clash}
+use Rattle.steps.proofs.Fit.{if-true}
 use Rattle.demands.specs.Words.{Codeword, Agree, Fit}
 use Rattle.demands.specs.Second.{IsRestored, RestoredMeans, ClashMeans, StuckMeans}
 use Rattle.demands.proofs.Held.{Held, rowTied, levelTied, wordSums, held-level, level-finds}

@@ -16,26 +16,27 @@ use Rattle.linear.specs.Marks.{bitsOf}
 use Rattle.linear.specs.Fill.{Fill, tied, none, one}
 use Rattle.linear.proofs.Choices.{Alike}
 use Rattle.linear.proofs.Filling.{fill-alike}
-use Rattle.repair.specs.Plan.{Plan, Level, known, planOf, levelOf, checksTo, rowAt, marksAt, marksOf}
-use Rattle.repair.specs.Answers.{answerNumber, stepNumber}
-use Rattle.repair.specs.Refusal.{unasked, inMemory, marksFit, sumsAt, sumsFit, levelFits, lentRefusal, benchRefusal}
-use Rattle.repair.specs.Steps.{fresh, empty, startedBy, started, stepped, unlessRefused, rowFill, putRow, rowStepBy, rowStep, lossy, across, Learned, blocked, failing, learned, joined, levelFill, raise, levelStepBy, levelStep}
-use Rattle.repair.specs.Rounds.{Standing, Turn, on, end, clash, counted, afterRow, afterLevel, takeTurn, goOn, turns, mended, rowsLeft, endReport, turnReport, turnStripe, turnMarks, bare, mendReport, mendStripe, mendMarks}
+use Rattle.plans.specs.Plan.{Plan, Level, known, planOf, levelOf, checksTo, rowAt, marksAt, marksOf, across}
+use Rattle.plans.specs.Answers.{answerNumber, stepNumber}
+use Rattle.plans.specs.Refusal.{unasked, inMemory, marksFit, sumsAt, sumsFit, levelFits, lentRefusal, benchRefusal}
+use Rattle.steps.specs.Steps.{fresh, empty, startedBy, started, stepped, unlessRefused, rowFill, putRow, rowStepBy, rowStep, lossy, Learned, blocked, failing, learned, joined, levelFill, raise, levelStepBy, levelStep}
+use Rattle.steps.specs.Rounds.{Standing, Turn, on, end, clash, counted, afterRow, afterLevel, takeTurn, goOn, turns}
+use Rattle.repair.specs.Mending.{mended, rowsLeft, endReport, turnReport, turnStripe, turnMarks, bare, mendReport, mendStripe, mendMarks}
 use Rattle.repair.specs.Text.{item, grid, summary, reportText, mendText}
-use Rattle.repair.specs.Learned.{benchOf}
-use Rattle.repair.specs.Walk.{standingOf}
-use Rattle.repair.specs.declared.Bench.{Bench}
-use Rattle.repair.specs.declared.Stepped.{Stepped}
-use Rattle.repair.specs.declared.Step.{Step}
-use Rattle.repair.specs.declared.Step.the-variants.{Whole, Filled, Tied, Raised, Blocked, Top, Clash, Refused}
-use Rattle.repair.specs.declared.Place.{Place}
-use Rattle.repair.specs.declared.Place.the-variants.{Row}
-use Rattle.repair.specs.declared.Report.{Report}
-use Rattle.repair.specs.declared.Answer.{Answer}
-use Rattle.repair.specs.declared.Answer.the-variants.{Restored, Stuck, Clash as Clashing, Refused as Unmended}
-use Rattle.repair.proofs.Rows.{of-rows, row-other}
-use Rattle.repair.proofs.Fit.{BenchFit, lent-fit, bench-fit, fresh-mark, fresh-row}
-use Rattle.repair.proofs.Sound.{marks-length, totalFill, filled-row}
+use Rattle.steps.specs.Learned.{benchOf}
+use Rattle.steps.specs.Walk.{standingOf}
+use Rattle.plans.specs.declared.Bench.{Bench}
+use Rattle.plans.specs.declared.Stepped.{Stepped}
+use Rattle.plans.specs.declared.Step.{Step}
+use Rattle.plans.specs.declared.Step.the-variants.{Whole, Filled, Tied, Raised, Blocked, Top, Clash, Refused}
+use Rattle.plans.specs.declared.Place.{Place}
+use Rattle.plans.specs.declared.Place.the-variants.{Row}
+use Rattle.plans.specs.declared.Report.{Report}
+use Rattle.plans.specs.declared.Answer.{Answer}
+use Rattle.plans.specs.declared.Answer.the-variants.{Restored, Stuck, Clash as Clashing, Refused as Unmended}
+use Rattle.plans.proofs.Rows.{of-rows, row-other, marks-length}
+use Rattle.steps.proofs.Fit.{BenchFit, lent-fit, bench-fit, fresh-mark, fresh-row}
+use Rattle.steps.proofs.Sound.{totalFill, filled-row}
 use Rattle.demands.specs.Words.{Fit, onRow, onLevel}
 use Rattle.demands.specs.Silence.{SameUnmarked, SameButMarks, SameStart, SilentStart, SameStep, SilentRowStep, SilentLevelStep, SilentWalk, SameMending, SilentMending, SilentText}
 use Rattle.demands.proofs.Alike.{alike-refl, alike-unmarked, rows-agree, clear-unmarked}

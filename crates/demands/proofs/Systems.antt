@@ -17,8 +17,8 @@ use Rattle.field.proofs.Fields.{gf2-field, gf16-field}
 use Rattle.field.proofs.Words.{Each}
 use Rattle.linear.specs.Lists.{only, first, rest}
 use Rattle.linear.specs.Marks.{bitsOf}
-use Rattle.repair.specs.Plan.{Plan, ones, bitChecks, wordOf, locations1, plan1, locations2, powers2, plan2, locations3, powers3, plan3}
-use Rattle.repair.specs.Plan.{noPlan, planOf, levelOf, checksTo, marksAt}
+use Rattle.plans.specs.Plan.{Plan, ones, bitChecks, wordOf, locations1, plan1, locations2, powers2, plan2, locations3, powers3, plan3}
+use Rattle.plans.specs.Plan.{noPlan, planOf, levelOf, checksTo, marksAt}
 use Rattle.repair.proofs.Samples.{rowOf}
 use Rattle.demands.proofs.Lists.{in-below, each-in}
 use Rattle.demands.proofs.Matrix.{picked, combine, product, identity}

@@ -4,10 +4,11 @@ use mathlib.Core.List.{List}
 use Prim.Native.Nat.{ℕ}
 use native.Mathlib.Nat.{le-antisymm}
 use lib.ListN.{length, getD}
-use Rattle.repair.specs.Plan.{planOf, marksAt}
-use Rattle.repair.specs.Steps.{fresh}
-use Rattle.repair.specs.Rounds.{Standing, Turn, on, end, clash, mended}
-use Rattle.repair.specs.declared.Bench.{Bench}
+use Rattle.plans.specs.Plan.{planOf, marksAt}
+use Rattle.steps.specs.Steps.{fresh}
+use Rattle.steps.specs.Rounds.{Standing, Turn, on, end, clash}
+use Rattle.repair.specs.Mending.{mended}
+use Rattle.plans.specs.declared.Bench.{Bench}
 use Rattle.demands.specs.Words.{Move, walk, Quiet, rounds}
 use Rattle.demands.specs.Third.{Premise, OrderNeverMatters, MendingEndsThere, RoundsSuffice}
 use Rattle.demands.proofs.Alike.{inside-same}

@@ -10,13 +10,14 @@ use lib.ListN.{length, take, drop, getD, length-append, length-map, take-append-
 use lib.Seq.{drop-drop, drop-set-lt, take-take, getD-set-same, getD-set-other}
 use Rattle.field.specs.Lists.{upFrom}
 use Rattle.linear.specs.Fill.{sumsOf}
-use Rattle.repair.specs.Plan.{Plan, planOf, levelOf, checksTo, rowAt}
-use Rattle.repair.specs.Refusal.{room, sumsAt}
-use Rattle.repair.specs.Steps.{putRow, across, keepSums, raise}
-use Rattle.repair.specs.declared.Bench.{Bench}
-use Rattle.repair.proofs.Rows.{of-rows, row-end, row-other, rows-ext, drop-sets-before, learnedAt, keep-part, keep-room}
-use Rattle.repair.proofs.Levels.{checks-suc, checks-le}
-use Rattle.repair.proofs.Shape.{shape}
+use Rattle.plans.specs.Plan.{Plan, planOf, levelOf, checksTo, rowAt, across}
+use Rattle.plans.specs.Refusal.{room, sumsAt}
+use Rattle.steps.specs.Steps.{putRow, keepSums, raise}
+use Rattle.plans.specs.declared.Bench.{Bench}
+use Rattle.plans.proofs.Rows.{of-rows, row-end, row-other, rows-ext, drop-sets-before}
+use Rattle.steps.proofs.Sums.{learnedAt, keep-part, keep-room}
+use Rattle.steps.proofs.Levels.{checks-suc, checks-le}
+use Rattle.plans.proofs.Shape.{shape}
 use Rattle.demands.specs.Words.{Move, after, walk}
 use Rattle.demands.proofs.Codewords.{word-row}
 use Rattle.demands.proofs.Held.{Held, own-plan, wordSums, held-known, held-level, held-words, held-unmarked, Made, stays, fills, learns, makes, held-after}

@@ -8,9 +8,8 @@ use Rattle.field.specs.Field.{size}
 use Rattle.field.proofs.Words.{weight}
 use Rattle.linear.specs.Lists.{vanish}
 use Rattle.linear.specs.Fill.{sumsOf}
-use Rattle.repair.specs.Plan.{known, planOf, levelOf}
-use Rattle.repair.specs.Refusal.{allBelow}
-use Rattle.repair.specs.Codeword.{carried}
+use Rattle.plans.specs.Plan.{known, planOf, levelOf, carried}
+use Rattle.plans.specs.Refusal.{allBelow}
 use Rattle.demands.specs.Words.{Codeword, rowDistance, distance}
 
 -- k: the symbols that a plan carries

@@ -4,16 +4,17 @@ use mathlib.Core.Path.{_≡_}
 use mathlib.Core.Logic.{_≢_}
 use mathlib.Core.List.{List}
 use lib.Dec.{ltb}
-use Rattle.repair.specs.Plan.{planOf}
-use Rattle.repair.specs.Refusal.{unasked, lentRefusal, benchRefusal}
-use Rattle.repair.specs.Steps.{empty, started, stepped, rowStep, levelStep}
-use Rattle.repair.specs.Rounds.{bare, mendReport, mendStripe, mendMarks}
-use Rattle.repair.specs.Codeword.{encodeRefusal, encodeStripe, extractRefusal, extractData}
+use Rattle.plans.specs.Plan.{planOf}
+use Rattle.plans.specs.Refusal.{unasked, lentRefusal, benchRefusal}
+use Rattle.steps.specs.Steps.{empty, started, stepped, rowStep, levelStep}
+use Rattle.repair.specs.Mending.{bare, mendReport, mendStripe, mendMarks}
+use Rattle.codewords.specs.Codeword.{encodeRefusal, extractRefusal, extractData}
+use Rattle.repair.specs.Encoding.{encodeStripe}
 use Rattle.repair.specs.File.{writeRefusal, writeFile, readRefusal, readStripe, readMarks}
-use Rattle.repair.specs.declared.Bench.{Bench}
-use Rattle.repair.specs.declared.Step.the-variants.{Refused}
-use Rattle.repair.specs.declared.Outcome.the-variants.{Refused as Undone}
-use Rattle.repair.specs.declared.Answer.the-variants.{Refused as Unmended}
+use Rattle.plans.specs.declared.Bench.{Bench}
+use Rattle.plans.specs.declared.Step.the-variants.{Refused}
+use Rattle.plans.specs.declared.Outcome.the-variants.{Refused as Undone}
+use Rattle.plans.specs.declared.Answer.the-variants.{Refused as Unmended}
 
 -- mending: the refusal alone is reported, and stripe and marks stay
 pub record MendingStays (p : ℕ) (stripe marks : List ℕ) : Type 0 where

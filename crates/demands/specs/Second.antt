@@ -3,11 +3,12 @@ use Prim.Native.Nat.{ℕ, suc, _≤_, _<_}
 use mathlib.Core.Path.{_≡_}
 use mathlib.Core.List.{List}
 use lib.ListN.{replicate}
-use Rattle.repair.specs.Plan.{planOf, known}
-use Rattle.repair.specs.Rounds.{mendReport, mendStripe, mendMarks}
-use Rattle.repair.specs.Codeword.{carried, encodeRefusal, encodeStripe, extractRefusal, extractData, extracted, encoded, checkPlacesOf, taken}
-use Rattle.repair.specs.declared.Place.{Place}
-use Rattle.repair.specs.declared.Answer.the-variants.{Restored, Stuck, Clash}
+use Rattle.plans.specs.Plan.{planOf, known, carried, checkPlacesOf}
+use Rattle.repair.specs.Mending.{mendReport, mendStripe, mendMarks}
+use Rattle.codewords.specs.Codeword.{encodeRefusal, extractRefusal, extractData, extracted, taken}
+use Rattle.repair.specs.Encoding.{encodeStripe, encoded}
+use Rattle.plans.specs.declared.Place.{Place}
+use Rattle.plans.specs.declared.Answer.the-variants.{Restored, Stuck, Clash}
 use Rattle.demands.specs.Words.{Codeword, Agree, Fit, MeetsCounts, total, distance}
 
 -- Restored: a codeword is left behind, it agrees with every unmarked symbol, no other does, and no mark is left

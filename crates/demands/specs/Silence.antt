@@ -4,14 +4,14 @@ use mathlib.Core.Path.{_≡_}
 use mathlib.Core.Bool.{true}
 use mathlib.Core.List.{List}
 use lib.ListN.{length, getD}
-use Rattle.repair.specs.Plan.{planOf, marksOf}
-use Rattle.repair.specs.Steps.{started, rowStep, levelStep}
-use Rattle.repair.specs.Rounds.{mendReport, mendStripe, mendMarks}
+use Rattle.plans.specs.Plan.{planOf, marksOf}
+use Rattle.steps.specs.Steps.{started, rowStep, levelStep}
+use Rattle.repair.specs.Mending.{mendReport, mendStripe, mendMarks}
 use Rattle.repair.specs.File.{writeRefusal, writeFile}
 use Rattle.repair.specs.Text.{mendText}
-use Rattle.repair.specs.declared.Bench.{Bench}
-use Rattle.repair.specs.declared.Stepped.{Stepped}
-use Rattle.repair.specs.declared.Started.{Started}
+use Rattle.plans.specs.declared.Bench.{Bench}
+use Rattle.plans.specs.declared.Stepped.{Stepped}
+use Rattle.plans.specs.declared.Started.{Started}
 use Rattle.demands.specs.Words.{Agree, Move, walk}
 
 -- ---- what differs only under marks

@@ -3,9 +3,10 @@ use Prim.Native.Nat.{ℕ}
 use mathlib.Core.Path.{_≡_}
 use mathlib.Core.List.{List}
 use lib.ListN.{length}
-use Rattle.repair.specs.Plan.{planOf}
-use Rattle.repair.specs.Steps.{fresh}
-use Rattle.repair.specs.Rounds.{Standing, end, mended}
+use Rattle.plans.specs.Plan.{planOf}
+use Rattle.steps.specs.Steps.{fresh}
+use Rattle.steps.specs.Rounds.{Standing, end}
+use Rattle.repair.specs.Mending.{mended}
 use Rattle.demands.specs.Words.{Codeword, Agree, Fit, Move, walk, Quiet, rounds}
 
 -- the premise: the unmarked symbols agree with some codeword

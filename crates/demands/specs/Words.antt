@@ -9,11 +9,11 @@ use lib.ListN.{length, take, getD}
 use Rattle.field.specs.Lists.{upFrom}
 use Rattle.field.specs.Field.{size}
 use Rattle.linear.specs.Lists.{only}
-use Rattle.repair.specs.Plan.{Plan, planOf, marksOf}
-use Rattle.repair.specs.Refusal.{allBelow, lentRefusal}
-use Rattle.repair.specs.Steps.{rowStep, levelStep}
-use Rattle.repair.specs.Codeword.{isCodeword}
-use Rattle.repair.specs.declared.Bench.{Bench}
+use Rattle.plans.specs.Plan.{Plan, planOf, marksOf}
+use Rattle.plans.specs.Refusal.{allBelow, lentRefusal}
+use Rattle.steps.specs.Steps.{rowStep, levelStep}
+use Rattle.codewords.specs.Codeword.{isCodeword}
+use Rattle.plans.specs.declared.Bench.{Bench}
 
 -- X is a codeword of plan p
 pub record Codeword (p : ℕ) (X : List ℕ) : Type 0 where

@@ -16,14 +16,14 @@ use Rattle.field.proofs.Test.{both-left, both-right, both}
 use Rattle.field.proofs.Words.{Fit, each-at}
 use Rattle.linear.specs.Lists.{all, same}
 use Rattle.linear.proofs.Tests.{same→eq, same-refl}
-use Rattle.repair.specs.Plan.{Plan, planOf, known, marksOf}
-use Rattle.repair.specs.Refusal.{firstFailed, unasked, inMemory, inFile, stripeFits, wordsFit, marksFit, symbolsFit, lentRefusal}
-use Rattle.repair.specs.File.{bytes2, bytes4, marksOffset, symbolsOffset, fileLength, headerOf, blanked, fileOf, writeRefusal, writeFile, planIn, wordAt, marksIn, symbolsIn, fileRefusal, readRefusal, readStripe, readMarks}
-use Rattle.repair.proofs.Parts.{rest-of}
-use Rattle.repair.proofs.Rows.{sets-whole}
+use Rattle.plans.specs.Plan.{Plan, planOf, known, marksOf, marksOffset, symbolsOffset, fileLength}
+use Rattle.plans.specs.Refusal.{firstFailed, unasked, inMemory, inFile, stripeFits, wordsFit, marksFit, symbolsFit, lentRefusal}
+use Rattle.repair.specs.File.{bytes2, bytes4, headerOf, blanked, fileOf, writeRefusal, writeFile, planIn, wordAt, marksIn, symbolsIn, fileRefusal, readRefusal, readStripe, readMarks}
+use Rattle.plans.proofs.Parts.{rest-of}
+use Rattle.plans.proofs.Rows.{sets-whole}
 use Rattle.files.proofs.Writing.{front-set}
-use Rattle.repair.proofs.Shape.{shape}
-use Rattle.repair.proofs.Fit.{pass, go-on, eq→eqb, passed, marks-fit, fit-marks, symbols-fit, fit-symbols, LentFit, lent-fit, fit-lent}
+use Rattle.plans.proofs.Shape.{shape}
+use Rattle.steps.proofs.Fit.{pass, go-on, eq→eqb, passed, marks-fit, fit-marks, symbols-fit, fit-symbols, LentFit, lent-fit, fit-lent}
 use Rattle.files.proofs.Stripes.{length-blanked, blanked-twice, fit-blanked, length-marks-of}
 
 -- ---- words of four bytes

@@ -16,23 +16,24 @@ use Rattle.field.proofs.Test.{both}
 use Rattle.linear.specs.Lists.{all, only}
 use Rattle.linear.specs.Marks.{bitsOf}
 use Rattle.linear.specs.Fill.{Fill, tied, none, one}
-use Rattle.repair.specs.Plan.{Plan, planOf, known, rowAt, marksAt}
-use Rattle.repair.specs.Answers.{answerNumber, placeValues, answerValues, reportValues, stepNumber}
-use Rattle.repair.specs.Refusal.{unasked, allBelow, unmarkedBelow, symbolsFit, lentRefusal, benchRefusal}
-use Rattle.repair.specs.Steps.{fresh, stepped, unlessRefused, rowFill, putRow, rowStepBy, rowStep, lossy, Learned, blocked, failing, learned, levelFill, raise, levelStepBy, levelStep}
-use Rattle.repair.specs.Rounds.{Standing, Turn, on, end, clash, counted, afterRow, afterLevel, takeTurn, goOn, turns, mended, rowsLeft, endReport, bare, turnReport, turnStripe, turnMarks, mendReport, mendStripe, mendMarks}
+use Rattle.plans.specs.Plan.{Plan, planOf, known, rowAt, marksAt}
+use Rattle.plans.specs.Answers.{answerNumber, placeValues, answerValues, reportValues, stepNumber}
+use Rattle.plans.specs.Refusal.{unasked, allBelow, unmarkedBelow, symbolsFit, lentRefusal, benchRefusal}
+use Rattle.steps.specs.Steps.{fresh, stepped, unlessRefused, rowFill, putRow, rowStepBy, rowStep, lossy, Learned, blocked, failing, learned, levelFill, raise, levelStepBy, levelStep}
+use Rattle.steps.specs.Rounds.{Standing, Turn, on, end, clash, counted, afterRow, afterLevel, takeTurn, goOn, turns}
+use Rattle.repair.specs.Mending.{mended, rowsLeft, endReport, bare, turnReport, turnStripe, turnMarks, mendReport, mendStripe, mendMarks}
 use Rattle.repair.specs.File.{planIn, symbolsIn, marksIn, fileRefusal}
 use Rattle.repair.specs.Text.{item, lineEnd, reportText, mendText, printed}
-use Rattle.repair.specs.declared.Bench.{Bench}
-use Rattle.repair.specs.declared.Step.{Step}
-use Rattle.repair.specs.declared.Step.the-variants.{Whole, Filled, Tied, Raised, Blocked, Top, Clash, Refused}
-use Rattle.repair.specs.declared.Place.the-variants.{Row}
-use Rattle.repair.specs.declared.Answer.the-variants.{Restored, Stuck}
-use Rattle.repair.specs.declared.Report.{Report}
-use Rattle.repair.proofs.Rows.{row-end, row-append}
-use Rattle.repair.proofs.Shape.{Shape, shape}
-use Rattle.repair.proofs.Fit.{RowFits, LentFit, fit-symbols, lent-fit}
-use Rattle.repair.proofs.Sound.{Sound, sound-fresh, sound-row, sound-level}
+use Rattle.plans.specs.declared.Bench.{Bench}
+use Rattle.plans.specs.declared.Step.{Step}
+use Rattle.plans.specs.declared.Step.the-variants.{Whole, Filled, Tied, Raised, Blocked, Top, Clash, Refused}
+use Rattle.plans.specs.declared.Place.the-variants.{Row}
+use Rattle.plans.specs.declared.Answer.the-variants.{Restored, Stuck}
+use Rattle.plans.specs.declared.Report.{Report}
+use Rattle.plans.proofs.Rows.{row-end, row-append}
+use Rattle.plans.proofs.Shape.{Shape, shape}
+use Rattle.steps.proofs.Fit.{RowFits, LentFit, fit-symbols, lent-fit}
+use Rattle.steps.proofs.Sound.{Sound, sound-fresh, sound-row, sound-level}
 
 -- ---- steps keep the plan
 

@@ -14,14 +14,13 @@ use Rattle.field.proofs.Test.{both-right}
 use Rattle.linear.specs.Marks.{bitsOf}
 use Rattle.linear.proofs.Marked.{length-bits, bits-at}
 use Rattle.linear.proofs.Tests.{In, up-in}
-use Rattle.repair.specs.Plan.{Plan, known, rowAt, marksAt, marksOf}
-use Rattle.repair.specs.Refusal.{unmarkedBelow, symbolsFit}
+use Rattle.plans.specs.Plan.{Plan, known, rowAt, marksAt, marksOf}
+use Rattle.plans.specs.Refusal.{unmarkedBelow, symbolsFit}
 use Rattle.repair.specs.File.{blanked}
-use Rattle.repair.proofs.Flat.{flat-length}
-use Rattle.repair.proofs.Parts.{part, part-of}
-use Rattle.repair.proofs.Sound.{marks-length}
-use Rattle.repair.proofs.Rows.{row-end, row-length}
-use Rattle.repair.proofs.Fit.{symbols-fit, fit-symbols}
+use Rattle.plans.proofs.Flat.{flat-length}
+use Rattle.plans.proofs.Parts.{part, part-of}
+use Rattle.plans.proofs.Rows.{marks-length, row-end, row-length}
+use Rattle.steps.proofs.Fit.{symbols-fit, fit-symbols}
 
 pub known-below : (p : ℕ) → T (known p) → p < 4
 unfolding known

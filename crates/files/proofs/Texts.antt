@@ -14,15 +14,15 @@ use Rattle.field.proofs.Test.{both-left, both-right, both}
 use Rattle.linear.specs.Lists.{all}
 use Rattle.linear.specs.Marks.{bitsOf}
 use Rattle.linear.proofs.Marked.{length-bits, bits-at}
-use Rattle.repair.specs.Plan.{plan1, plan2, plan3, planOf, known, rowAt, marksAt}
-use Rattle.repair.specs.Refusal.{allBelow, unmarkedBelow, symbolsFit}
-use Rattle.repair.specs.Answers.{placeValues}
-use Rattle.repair.specs.declared.Place.{Place}
-use Rattle.repair.specs.declared.Place.the-variants.{Row, Across}
+use Rattle.plans.specs.Plan.{plan1, plan2, plan3, planOf, known, rowAt, marksAt}
+use Rattle.plans.specs.Refusal.{allBelow, unmarkedBelow, symbolsFit}
+use Rattle.plans.specs.Answers.{placeValues}
+use Rattle.plans.specs.declared.Place.{Place}
+use Rattle.plans.specs.declared.Place.the-variants.{Row, Across}
 use Rattle.repair.specs.Text.{digitsIn, decimal, hex, shown}
-use Rattle.repair.proofs.Shape.{of-known}
-use Rattle.repair.proofs.Fit.{all-rows, symbols-fit}
-use Rattle.repair.proofs.Scan.{fitsIn, row-up}
+use Rattle.plans.proofs.Shape.{of-known}
+use Rattle.steps.proofs.Fit.{all-rows, symbols-fit}
+use Rattle.plans.proofs.Scan.{fitsIn, row-up}
 
 -- ---- numbers below 100
 

@@ -9,10 +9,10 @@ use lib.ListN.{length, getD, set, take, drop, replicate, length-append, length-r
 use lib.Seq.{sets, sets-eq, length-sets, length-take-le, take-all, take-suc}
 use Rattle.field.specs.Lists.{upFrom}
 use Rattle.field.proofs.Lists.{length-up, getD-map-below}
-use Rattle.repair.specs.Tables.{padded}
+use Rattle.plans.specs.Tables.{padded}
 use Rattle.files.specs.Written.{Put}
-use Rattle.repair.proofs.Rows.{take-sets, sets-append, sets-whole}
-use Rattle.repair.proofs.Flat.{flat-append}
+use Rattle.plans.proofs.Rows.{take-sets, sets-append, sets-whole}
+use Rattle.plans.proofs.Flat.{flat-append}
 
 -- ---- what was put
 

@@ -6,8 +6,8 @@ use mathlib.Core.List.{List, [], _∷_}
 use lib.ListN.{length}
 use lib.Seq.{sets}
 use Rattle.linear.specs.Lists.{same}
-use Rattle.repair.specs.Plan.{Plan, marksOf}
-use Rattle.repair.specs.Refusal.{marksFit, symbolsFit}
+use Rattle.plans.specs.Plan.{Plan, marksOf}
+use Rattle.plans.specs.Refusal.{marksFit, symbolsFit}
 use Rattle.repair.specs.File.{blanked}
 
 -- the last tests of a file, those of its marks and symbols

@@ -12,9 +12,9 @@ ghost use lib.Seq.{sets};
 ghost use Rattle.field.specs.Lists.{if_then_else_, upFrom};
 ghost use Rattle.linear.specs.Lists.{«same» as equal};
 ghost use Rattle.linear.specs.Marks.{bitsOf};
-ghost use Rattle.repair.specs.Plan.{planOf, known, marksOf};
-ghost use Rattle.repair.specs.Refusal.{firstFailed, unasked};
-ghost use Rattle.repair.specs.File.{bytes4, headerOf, fileLength, blanked, fileOf, writeRefusal, planIn, wordAt, marksIn, symbolsIn, fileRefusal};
+ghost use Rattle.plans.specs.Plan.{planOf, known, marksOf, fileLength};
+ghost use Rattle.plans.specs.Refusal.{firstFailed, unasked};
+ghost use Rattle.repair.specs.File.{bytes4, headerOf, blanked, fileOf, writeRefusal, planIn, wordAt, marksIn, symbolsIn, fileRefusal};
 ghost use Rattle.files.specs.Written.{Put, contentTests};
 
 // ---- words of four bytes, low byte first

@@ -9,9 +9,9 @@ use repair::plan;
 use repair::refusal;
 ghost use mathlib.Core.Path.{_≡_};
 ghost use lib.ListN.{length};
-ghost use Rattle.repair.specs.Codeword.{outcomeOf};
+ghost use Rattle.codewords.specs.Codeword.{outcomeOf};
 ghost use Rattle.repair.specs.File.{writeRefusal, writeFile, readRefusal, readStripe, readMarks};
-ghost use Rattle.repair.specs.Tables.{padded};
+ghost use Rattle.plans.specs.Tables.{padded};
 ghost use Rattle.repair.specs.Text.{printed};
 
 // Writes a stripe and its marks as a file, 0 under marks. Where it is refused the file is unchanged.

@@ -6,46 +6,10 @@ use mathlib.Core.List.{[], _∷_}
 use native.Mathlib.Omega.{arith}
 use types.Run.{OneOf}
 use denote.Enum.Declared.{tagOf}
-use Rattle.linear.specs.declared.Outcome.{Outcome}
-use Rattle.linear.specs.declared.Outcome.the-variants.{Tied, None, One}
-use Rattle.linear.proofs.Outcome.{the-type}
-use Rattle.repair.specs.declared.level.Learning.{Learning}
-use Rattle.repair.specs.declared.level.Learning.the-variants.{Blocked, Failing, Learned}
-use Rattle.repair.proofs.level.Learning.{the-type as learning}
-use Rattle.repair.specs.Walk.{clashes}
-use Rattle.repair.specs.declared.Answer.{Answer}
-use Rattle.repair.specs.declared.Answer.the-variants.{Restored, Stuck, Clash, Refused}
-use Rattle.repair.proofs.Answer.{the-type as answer}
-
-pub arm-tied : (a : Outcome) → tagOf the-type a ≡ 0 → a ≡ Tied
-arm-tied Tied e = refl
-arm-tied None e = absurd (omega arith)
-arm-tied One e = absurd (omega arith)
-
-pub arm-none : (a : Outcome) → tagOf the-type a ≡ 1 → a ≡ None
-arm-none Tied e = absurd (omega arith)
-arm-none None e = refl
-arm-none One e = absurd (omega arith)
-
-pub arm-one : (a : Outcome) → tagOf the-type a ≡ 2 → a ≡ One
-arm-one Tied e = absurd (omega arith)
-arm-one None e = absurd (omega arith)
-arm-one One e = refl
-
-pub arm-blocked : (a : Learning) → tagOf learning a ≡ 0 → a ≡ Blocked
-arm-blocked Blocked e = refl
-arm-blocked Failing e = absurd (omega arith)
-arm-blocked Learned e = absurd (omega arith)
-
-pub arm-failing : (a : Learning) → tagOf learning a ≡ 1 → a ≡ Failing
-arm-failing Blocked e = absurd (omega arith)
-arm-failing Failing e = refl
-arm-failing Learned e = absurd (omega arith)
-
-pub arm-learned : (a : Learning) → tagOf learning a ≡ 2 → a ≡ Learned
-arm-learned Blocked e = absurd (omega arith)
-arm-learned Failing e = absurd (omega arith)
-arm-learned Learned e = refl
+use Rattle.repair.specs.Ended.{clashes}
+use Rattle.plans.specs.declared.Answer.{Answer}
+use Rattle.plans.specs.declared.Answer.the-variants.{Restored, Stuck, Clash, Refused}
+use Rattle.plans.proofs.Answer.{the-type as answer}
 
 pub arm-clash : (a : Answer) → tagOf answer a ≡ 2 → true ≡ clashes a
 unfolding clashes

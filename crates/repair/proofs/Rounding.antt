@@ -12,25 +12,27 @@ use lib.ListN.{length, getD, set, replicate, length-set}
 use lib.Seq.{getD-set-other}
 use Rattle.field.specs.Lists.{if_then_else_, upFrom}
 use Rattle.linear.specs.Lists.{only}
-use Rattle.repair.specs.Plan.{Plan, planOf}
-use Rattle.repair.specs.Refusal.{unasked, lentRefusal, benchRefusal}
-use Rattle.repair.specs.Steps.{fresh, lossy, Learned, blocked, failing, learned, levelFill, raise}
-use Rattle.repair.specs.Rounds.{Standing, Turn, on, end, clash, turns, mended, rowsLeft, endReport, bare}
-use Rattle.repair.specs.Tables.{padded}
-use Rattle.repair.specs.Learned.{benchOf, learningOf, sumsAfter}
-use Rattle.repair.specs.Walk.{Arrays, standingOf, more, Walked, Ended}
-use Rattle.repair.specs.declared.Bench.{Bench}
-use Rattle.repair.specs.declared.Report.{Report}
-use Rattle.repair.specs.declared.Place.the-variants.{Row, Across}
-use Rattle.repair.specs.declared.Answer.the-variants.{Restored, Stuck, Clash}
-use Rattle.repair.specs.declared.level.Learning.{Learning}
-use Rattle.repair.specs.declared.level.Learning.the-variants.{Blocked, Failing, Learned as AllLearned}
-use Rattle.repair.proofs.Shape.{shape}
+use Rattle.plans.specs.Plan.{Plan, planOf}
+use Rattle.plans.specs.Refusal.{unasked, lentRefusal, benchRefusal}
+use Rattle.steps.specs.Steps.{fresh, lossy, Learned, blocked, failing, learned, levelFill, raise}
+use Rattle.steps.specs.Rounds.{Standing, Turn, on, end, clash, turns}
+use Rattle.repair.specs.Mending.{mended, rowsLeft, endReport, bare}
+use Rattle.plans.specs.Tables.{padded}
+use Rattle.steps.specs.Learned.{benchOf, learningOf, sumsAfter}
+use Rattle.steps.specs.Walk.{Arrays, standingOf, more, Walked}
+use Rattle.repair.specs.Ended.{Ended}
+use Rattle.plans.specs.declared.Bench.{Bench}
+use Rattle.plans.specs.declared.Report.{Report}
+use Rattle.plans.specs.declared.Place.the-variants.{Row, Across}
+use Rattle.plans.specs.declared.Answer.the-variants.{Restored, Stuck, Clash}
+use Rattle.steps.specs.declared.level.Learning.{Learning}
+use Rattle.steps.specs.declared.level.Learning.the-variants.{Blocked, Failing, Learned as AllLearned}
+use Rattle.plans.proofs.Shape.{shape}
 use Rattle.repair.proofs.Leaving.{lossyAt}
-use Rattle.repair.proofs.Fit.{BenchFit, fit-bench}
-use Rattle.repair.proofs.Sound.{Sound, sound-fresh, sound-raise}
-use Rattle.repair.proofs.Turns.{turn-top, turn-blocked, turn-failing, turn-learned}
-use Rattle.repair.proofs.Walking.{sound-of}
+use Rattle.steps.proofs.Fit.{BenchFit, fit-bench}
+use Rattle.steps.proofs.Sound.{Sound, sound-fresh, sound-raise}
+use Rattle.steps.proofs.Turns.{turn-top, turn-blocked, turn-failing, turn-learned}
+use Rattle.steps.proofs.Walking.{sound-of}
 
 -- ---- the report
 

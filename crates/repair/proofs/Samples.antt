@@ -11,10 +11,8 @@ use Rattle.field.specs.Power.{power}
 use Rattle.linear.specs.Lists.{all, only, vanish}
 use Rattle.linear.specs.Marks.{bitsOf}
 use Rattle.linear.specs.Fill.{sumsOf}
-use Rattle.repair.specs.Plan.{ones, bitChecks, wordOf, locations1, plan1, locations2, powers2, plan2, locations3, powers3, plan3, noLevel, levelOf, rowAt, marksAt, marksOf}
-use Rattle.repair.specs.Steps.{across}
-use Rattle.repair.specs.Codeword.{rowsHold, totalsHold, isCodeword, checkPlacesOf, carried}
-use Rattle.repair.specs.File.{marksOffset, symbolsOffset, fileLength}
+use Rattle.plans.specs.Plan.{ones, bitChecks, wordOf, locations1, plan1, locations2, powers2, plan2, locations3, powers3, plan3, noLevel, levelOf, rowAt, marksAt, marksOf, across, checkPlacesOf, carried, marksOffset, symbolsOffset, fileLength}
+use Rattle.codewords.specs.Codeword.{rowsHold, totalsHold, isCodeword}
 
 -- a row of n symbols below q, read off a number, column 0 last
 unfoldable pub rowOf : (q n : ℕ) → ℕ → List ℕ

@@ -9,18 +9,20 @@ use Rattle.field.specs.Power.{power}
 use Rattle.linear.specs.Lists.{any, all, only, same, zeros, vanish, first, rest}
 use Rattle.linear.specs.Marks.{bitsOf}
 use Rattle.linear.specs.Fill.{sumsOf, options, before, choices, loose, dependent, fillings, fillBy, fill}
-use Rattle.repair.specs.Plan.{ones, bitChecks, wordOf, locations1, plan1, known, planOf, noLevel, levelOf, checksTo, rowAt, marksAt, marksOf}
-use Rattle.repair.specs.Answers.{answerNumber, stepNumber}
-use Rattle.repair.specs.Refusal.{firstFailed, unasked, inMemory, inFile, stripeFits, wordsFit, marksFit, allBelow, unmarkedBelow, symbolsFit, sumsAt, sumsFit, levelFits, lentRefusal, benchRefusal}
-use Rattle.repair.specs.Steps.{fresh, stepped, unlessRefused, rowFill, putRow, rowStepBy, rowStep, lossy, across, join, joined, levelFill, keepSums, raise, levelStepBy, levelStep}
-use Rattle.repair.specs.Rounds.{counted, afterRow, afterLevel, takeTurn, goOn, turns, mended, rowsLeft, endReport, bare, turnReport, turnStripe, turnMarks, mendReport, mendStripe, mendMarks}
-use Rattle.repair.specs.Codeword.{checkPlacesOf, placed, encoded}
-use Rattle.repair.specs.File.{bytes2, bytes4, marksOffset, symbolsOffset, fileLength, headerOf, blanked, planIn, wordAt, marksIn, symbolsIn, fileRefusal}
+use Rattle.plans.specs.Plan.{ones, bitChecks, wordOf, locations1, plan1, known, planOf, noLevel, levelOf, checksTo, rowAt, marksAt, marksOf, across, checkPlacesOf, marksOffset, symbolsOffset, fileLength}
+use Rattle.plans.specs.Answers.{answerNumber, stepNumber}
+use Rattle.plans.specs.Refusal.{firstFailed, unasked, inMemory, inFile, stripeFits, wordsFit, marksFit, allBelow, unmarkedBelow, symbolsFit, sumsAt, sumsFit, levelFits, lentRefusal, benchRefusal}
+use Rattle.steps.specs.Steps.{fresh, stepped, unlessRefused, rowFill, putRow, rowStepBy, rowStep, lossy, join, joined, levelFill, keepSums, raise, levelStepBy, levelStep}
+use Rattle.steps.specs.Rounds.{counted, afterRow, afterLevel, takeTurn, goOn, turns}
+use Rattle.repair.specs.Mending.{mended, rowsLeft, endReport, bare, turnReport, turnStripe, turnMarks, mendReport, mendStripe, mendMarks}
+use Rattle.codewords.specs.Codeword.{placed}
+use Rattle.repair.specs.Encoding.{encoded}
+use Rattle.repair.specs.File.{bytes2, bytes4, headerOf, blanked, planIn, wordAt, marksIn, symbolsIn, fileRefusal}
 use Rattle.repair.specs.Text.{bytes, digitsIn, decimal, hex, item, lineEnd, shown, grid, placeText, summary, reportText, mendText, printed}
-use Rattle.repair.specs.declared.Place.{Place}
-use Rattle.repair.specs.declared.Place.the-variants.{Row, Across}
-use Rattle.repair.specs.declared.Report.{Report}
-use Rattle.repair.specs.declared.Answer.the-variants.{Restored, Stuck, Clash}
+use Rattle.plans.specs.declared.Place.{Place}
+use Rattle.plans.specs.declared.Place.the-variants.{Row, Across}
+use Rattle.plans.specs.declared.Report.{Report}
+use Rattle.plans.specs.declared.Answer.the-variants.{Restored, Stuck, Clash}
 
 -- a stripe and its marks as lent; the report; and the two as they are afterwards
 pub record Case : Type 0 where

@@ -6,8 +6,8 @@ use lib.Dec.{eqb, leb}
 use lib.ListN.{length, take, drop, getD}
 use Rattle.field.specs.Lists.{if_then_else_, upFrom}
 use Rattle.linear.specs.Lists.{same}
-use Rattle.repair.specs.Plan.{Plan, planOf, known, marksOf}
-use Rattle.repair.specs.Refusal.{inMemory, inFile, unasked, stripeFits, wordsFit, marksFit, symbolsFit}
+use Rattle.plans.specs.Plan.{Plan, planOf, known, marksOf, marksOffset, symbolsOffset, fileLength}
+use Rattle.plans.specs.Refusal.{inMemory, inFile, unasked, stripeFits, wordsFit, marksFit, symbolsFit}
 
 -- ---- the format
 
@@ -17,15 +17,6 @@ bytes2 n = n % 256 ∷ n / 256 % 256 ∷ []
 
 unfoldable pub bytes4 : ℕ → List ℕ
 bytes4 n = n % 256 ∷ n / 256 % 256 ∷ n / 2 ^ 16 % 256 ∷ n / 2 ^ 24 % 256 ∷ []
-
-unfoldable pub marksOffset : ℕ
-marksOffset = 8
-
-unfoldable pub symbolsOffset : Plan → ℕ
-symbolsOffset P = marksOffset + 4 * P .rows
-
-unfoldable pub fileLength : Plan → ℕ
-fileLength P = symbolsOffset P + P .rows * P .columns
 
 unfoldable pub headerOf : ℕ → List ℕ
 headerOf p = let P = planOf p in p ∷ P .rows ∷ P .columns ∷ 0 ∷ bytes2 marksOffset ++ bytes2 (symbolsOffset P)

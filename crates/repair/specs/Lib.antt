@@ -1,13 +1,7 @@
--- What the crate `repair` means, in the order in which to read it.
-pub mod Plan
-pub mod Answers
-pub mod Refusal
-pub mod Steps
-pub mod Rounds
-pub mod Codeword
+-- What the crate `repair` means beyond the crates below it, in the order in which to read it.
+pub mod Mending
+pub mod Encoding
 pub mod File
 pub mod Text
 -- what the contracts of inner functions cite
-pub mod Tables
-pub mod Learned
-pub mod Walk
+pub mod Ended

@@ -7,16 +7,16 @@ use mathlib.Core.List.{List, [], _∷_, _++_, map, flatMap}
 use lib.Dec.{eqb, ltb}
 use lib.ListN.{length, take}
 use Rattle.field.specs.Lists.{if_then_else_, upFrom}
-use Rattle.repair.specs.Plan.{Plan, planOf, rowAt, marksAt}
-use Rattle.repair.specs.Answers.{answerNumber}
-use Rattle.repair.specs.Refusal.{unasked}
-use Rattle.repair.specs.Rounds.{mendReport, mendStripe, mendMarks}
+use Rattle.plans.specs.Plan.{Plan, planOf, rowAt, marksAt}
+use Rattle.plans.specs.Answers.{answerNumber}
+use Rattle.plans.specs.Refusal.{unasked}
+use Rattle.repair.specs.Mending.{mendReport, mendStripe, mendMarks}
 use Rattle.repair.specs.File.{planIn, marksIn, symbolsIn, fileRefusal}
-use Rattle.repair.specs.declared.Place.{Place}
-use Rattle.repair.specs.declared.Place.the-variants.{Row, Across}
-use Rattle.repair.specs.declared.Report.{Report}
-use Rattle.repair.specs.declared.Answer.{Answer}
-use Rattle.repair.specs.declared.Answer.the-variants.{Restored, Stuck, Clash, Refused}
+use Rattle.plans.specs.declared.Place.{Place}
+use Rattle.plans.specs.declared.Place.the-variants.{Row, Across}
+use Rattle.plans.specs.declared.Report.{Report}
+use Rattle.plans.specs.declared.Answer.{Answer}
+use Rattle.plans.specs.declared.Answer.the-variants.{Restored, Stuck, Clash, Refused}
 
 -- ---- bytes
 

@@ -1,12 +1,12 @@
 // Mending in one call: rounds on a bench of its own, until they stop.
-use crate::Answer;
-use crate::Place;
-use crate::Report;
-use crate::copies;
-use crate::level;
-use crate::level::Learning;
-use crate::plan;
-use crate::steps;
+use plans::Answer;
+use plans::Place;
+use plans::Report;
+use plans::copies;
+use plans::plan;
+use steps::level;
+use steps::level::Learning;
+use steps::row;
 ghost use mathlib.Core.Path.{_≡_};
 ghost use mathlib.Core.Bool.{not};
 ghost use mathlib.Core.List.{[], map};
@@ -15,11 +15,12 @@ ghost use lib.Dec.{eqb};
 ghost use lib.ListN.{length, getD, replicate};
 ghost use Rattle.field.specs.Lists.{upFrom};
 ghost use Rattle.linear.specs.Lists.{only};
-ghost use Rattle.repair.specs.Plan.{planOf};
-ghost use Rattle.repair.specs.Refusal.{lentRefusal};
-ghost use Rattle.repair.specs.Rounds.{mended, bare, endReport};
-ghost use Rattle.repair.specs.Learned.{benchOf};
-ghost use Rattle.repair.specs.Walk.{standingOf, Ended, clashes};
+ghost use Rattle.plans.specs.Plan.{planOf};
+ghost use Rattle.plans.specs.Refusal.{lentRefusal};
+ghost use Rattle.repair.specs.Mending.{mended, bare, endReport};
+ghost use Rattle.steps.specs.Learned.{benchOf};
+ghost use Rattle.steps.specs.Walk.{standingOf};
+ghost use Rattle.repair.specs.Ended.{Ended, clashes};
 
 // How many of the rows have marks.
 fn rows_left(rows: usize, marks: &[u32]) -> usize
@@ -93,7 +94,7 @@ pub fn rounds(plan: usize, stripe: &[u8], words: &[u32]) -> Mended
     let mut restored = [0usize; 3];
     let mut level = 1;
     loop {
-        let walk = steps::walk_rows(
+        let walk = row::walk_rows(
             plan,
             level,
             &table,

@@ -5,12 +5,12 @@ use Prim.Native.Nat.{ℕ, _+_, _*_}
 use native.Mathlib.Omega.{arith}
 use lib.ListN.{length, take, drop, getD, length-append}
 use Rattle.field.specs.Lists.{upFrom}
-use Rattle.repair.specs.Answers.{stepNumber, outcomeNumber}
+use Rattle.plans.specs.Answers.{stepNumber, outcomeNumber}
 use Rattle.repair.specs.File.{wordAt}
-use Rattle.repair.specs.Steps.{started}
-use Rattle.repair.specs.declared.Bench.{Bench}
-use Rattle.repair.specs.declared.Stepped.{Stepped}
-use Rattle.repair.specs.declared.Started.{Started}
+use Rattle.steps.specs.Steps.{started}
+use Rattle.plans.specs.declared.Bench.{Bench}
+use Rattle.plans.specs.declared.Stepped.{Stepped}
+use Rattle.plans.specs.declared.Started.{Started}
 use Rattle.shelf.specs.Layout.{byte, benchSize, benchBytes, benchIn}
 use Rattle.shelf.specs.Calls.{unfit, startNumber, startBuffer, stepAnswer, stepBuffer}
 use Rattle.shelf.specs.Written.{Written}

@@ -4,12 +4,12 @@ use mathlib.Core.List.{List, [], _∷_, _++_, append-nil}
 use Prim.Native.Nat.{ℕ, _-_}
 use native.Mathlib.Nat.{sub-self}
 use lib.ListN.{length, getD, replicate}
-use Rattle.repair.specs.Tables.{padded}
-use Rattle.repair.specs.declared.Report.{Report}
-use Rattle.repair.specs.declared.Answer.{Answer}
-use Rattle.repair.specs.declared.Answer.the-variants.{Restored, Stuck, Clash, Refused}
-use Rattle.repair.specs.declared.Place.{Place}
-use Rattle.repair.specs.declared.Place.the-variants.{Row, Across}
+use Rattle.plans.specs.Tables.{padded}
+use Rattle.plans.specs.declared.Report.{Report}
+use Rattle.plans.specs.declared.Answer.{Answer}
+use Rattle.plans.specs.declared.Answer.the-variants.{Restored, Stuck, Clash, Refused}
+use Rattle.plans.specs.declared.Place.{Place}
+use Rattle.plans.specs.declared.Place.the-variants.{Row, Across}
 use Rattle.shelf.specs.Layout.{byte, placeBytes, clashBytes, reportBytes}
 
 -- a Clash's place is three bytes

@@ -5,9 +5,9 @@ use mathlib.Core.List.{List}
 use Prim.Native.Nat.{ℕ}
 use lib.ListN.{length}
 use Rattle.field.specs.Lists.{if_then_else_}
-use Rattle.repair.specs.Answers.{answerNumber}
-use Rattle.repair.specs.Rounds.{mendReport, mendStripe, mendMarks}
-use Rattle.repair.specs.declared.Report.{Report}
+use Rattle.plans.specs.Answers.{answerNumber}
+use Rattle.repair.specs.Mending.{mendReport, mendStripe, mendMarks}
+use Rattle.plans.specs.declared.Report.{Report}
 use Rattle.shelf.specs.Layout.{reportSize, reportBytes, refuses}
 use Rattle.shelf.specs.Calls.{unfit, reportAfter, mendNumber, mendStripeBuffer, mendMarksBuffer, mendReportBuffer}
 use Rattle.shelf.proofs.Sizing.{sized-fit, sized-unfit}

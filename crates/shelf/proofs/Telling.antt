@@ -3,12 +3,12 @@ use mathlib.Core.Path.{_≡_, refl, sym, ap, _∙_}
 use mathlib.Core.List.{List}
 use Prim.Native.Nat.{ℕ, zero, suc}
 use lib.ListN.{length}
-use Rattle.repair.specs.Answers.{outcomeNumber}
-use Rattle.repair.specs.Codeword.{outcomeOf}
+use Rattle.plans.specs.Answers.{outcomeNumber}
+use Rattle.codewords.specs.Codeword.{outcomeOf}
 use Rattle.repair.specs.File.{bytes2}
-use Rattle.repair.specs.Tables.{padded}
+use Rattle.plans.specs.Tables.{padded}
 use Rattle.repair.specs.Text.{printed}
-use Rattle.repair.specs.declared.Outcome.{Outcome}
+use Rattle.plans.specs.declared.Outcome.{Outcome}
 use Rattle.shelf.specs.Calls.{textRoom, roomy, textNumber, textBuffer, textSizeBuffer}
 use Rattle.shelf.proofs.Sizing.{roomy-fit, roomy-no-text, roomy-no-size}
 

@@ -4,16 +4,16 @@ use mathlib.Core.List.{List}
 use lib.Dec.{eqb}
 use lib.ListN.{length}
 use Rattle.field.specs.Lists.{if_then_else_}
-use Rattle.repair.specs.Plan.{known}
-use Rattle.repair.specs.Answers.{answerNumber, stepNumber, outcomeNumber}
-use Rattle.repair.specs.Steps.{started}
+use Rattle.plans.specs.Plan.{known}
+use Rattle.plans.specs.Answers.{answerNumber, stepNumber, outcomeNumber}
+use Rattle.steps.specs.Steps.{started}
 use Rattle.repair.specs.File.{bytes2}
-use Rattle.repair.specs.Tables.{padded}
+use Rattle.plans.specs.Tables.{padded}
 use Rattle.repair.specs.Text.{printed}
-use Rattle.repair.specs.Rounds.{mendReport, mendStripe, mendMarks}
-use Rattle.repair.specs.declared.Bench.{Bench}
-use Rattle.repair.specs.declared.Stepped.{Stepped}
-use Rattle.repair.specs.declared.Report.{Report}
+use Rattle.repair.specs.Mending.{mendReport, mendStripe, mendMarks}
+use Rattle.plans.specs.declared.Bench.{Bench}
+use Rattle.plans.specs.declared.Stepped.{Stepped}
+use Rattle.plans.specs.declared.Report.{Report}
 use Rattle.shelf.specs.Layout.{reportSize, reportBytes, refuses, benchSize, benchBytes, benchIn}
 
 -- what a buffer of a wrong size is refused by: an unknown plan is named first

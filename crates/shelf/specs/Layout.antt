@@ -5,12 +5,12 @@ use mathlib.Core.List.{List, [], _∷_, _++_, map, flatMap}
 use lib.ListN.{take, drop, getD}
 use Rattle.field.specs.Lists.{upFrom}
 use Rattle.repair.specs.File.{bytes4, wordAt}
-use Rattle.repair.specs.declared.Bench.{Bench}
-use Rattle.repair.specs.declared.Report.{Report}
-use Rattle.repair.specs.declared.Answer.{Answer}
-use Rattle.repair.specs.declared.Answer.the-variants.{Restored, Stuck, Clash, Refused}
-use Rattle.repair.specs.declared.Place.{Place}
-use Rattle.repair.specs.declared.Place.the-variants.{Row, Across}
+use Rattle.plans.specs.declared.Bench.{Bench}
+use Rattle.plans.specs.declared.Report.{Report}
+use Rattle.plans.specs.declared.Answer.{Answer}
+use Rattle.plans.specs.declared.Answer.the-variants.{Restored, Stuck, Clash, Refused}
+use Rattle.plans.specs.declared.Place.{Place}
+use Rattle.plans.specs.declared.Place.the-variants.{Row, Across}
 
 -- the low byte of a number
 abbrev pub byte : ℕ → ℕ

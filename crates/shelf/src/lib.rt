@@ -3,10 +3,11 @@ mod layout;
 mod numbers;
 
 ghost use mathlib.Core.Path.{_≡_};
-ghost use Rattle.repair.specs.Answers.{verdictNumber};
-ghost use Rattle.repair.specs.Codeword.{tested, encodeRefusal, encodeStripe, extractRefusal, extractData};
+ghost use Rattle.plans.specs.Answers.{verdictNumber};
+ghost use Rattle.codewords.specs.Codeword.{tested, encodeRefusal, extractRefusal, extractData};
+ghost use Rattle.repair.specs.Encoding.{encodeStripe};
 ghost use Rattle.repair.specs.File.{readRefusal, readStripe, readMarks, writeRefusal, writeFile};
-ghost use Rattle.repair.specs.Steps.{rowStep, levelStep};
+ghost use Rattle.steps.specs.Steps.{rowStep, levelStep};
 ghost use Rattle.shelf.specs.Calls.{startNumber, startBuffer, stepAnswer, stepBuffer};
 ghost use Rattle.shelf.specs.Calls.{mendNumber, mendStripeBuffer, mendMarksBuffer, mendReportBuffer};
 ghost use Rattle.shelf.specs.Calls.{textNumber, textBuffer, textSizeBuffer};

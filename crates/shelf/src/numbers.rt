@@ -4,7 +4,7 @@ use repair::Outcome;
 use repair::Step;
 use repair::Verdict;
 ghost use mathlib.Core.Path.{_≡_};
-ghost use Rattle.repair.specs.Answers.{answerNumber, stepNumber, outcomeNumber, verdictNumber};
+ghost use Rattle.plans.specs.Answers.{answerNumber, stepNumber, outcomeNumber, verdictNumber};
 ghost use Rattle.shelf.specs.Calls.{unfit};
 ghost use Rattle.shelf.specs.Layout.{refuses};
 

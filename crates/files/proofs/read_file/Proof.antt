@@ -5,10 +5,10 @@ use native.Mathlib.Nat.{le-of-eq}
 use borrow.Author.Needs.{needs}
 use denote.Ref.{now}
 use Rattle.repair.specs.File.{fileRefusal, readRefusal, readStripe, readMarks}
-use Rattle.repair.specs.Refusal.{unasked, stripeFits, wordsFit}
-use Rattle.repair.specs.Plan.{planOf}
+use Rattle.plans.specs.Refusal.{unasked, stripeFits, wordsFit}
+use Rattle.plans.specs.Plan.{planOf}
 use Rattle.files.proofs.Files.{fit-file, read-fits, read-stripe-long, read-marks-long, stripe-loaded, marks-loaded}
-use Rattle.repair.proofs.Carrying.{outcome-refused, outcome-done, left-old}
+use Rattle.codewords.proofs.Carrying.{outcome-refused, outcome-done, left-old}
 use Rattle.files.proofs.read_file.Statement.{statement}
 use Rattle.files.proofs.read_file.Tie as tie
 

@@ -4,9 +4,9 @@ use mathlib.Core.Path.{_≡_, sym, ap, _∙_}
 use native.Mathlib.Omega.{arith}
 use borrow.Author.Needs.{needs}
 use lib.ListN.{length, length-map}
-use Rattle.repair.proofs.Shape.{shape}
-use Rattle.repair.proofs.Fit.{lent-fit}
-use Rattle.repair.proofs.Stepping.{mends-refused, mends-clash, mends-end}
+use Rattle.plans.proofs.Shape.{shape}
+use Rattle.steps.proofs.Fit.{lent-fit}
+use Rattle.repair.proofs.Ending.{mends-refused, mends-clash, mends-end}
 use Rattle.repair.proofs.mend.Statement.{statement}
 use Rattle.repair.proofs.mend.Tie as tie
 

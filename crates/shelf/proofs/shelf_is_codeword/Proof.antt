@@ -1,6 +1,6 @@
 -- `shelf_is_codeword` meets its contract. Assumes nothing.
 use mathlib.Core.Path.{ap, _∙_}
-use Rattle.repair.specs.Answers.{verdictNumber}
+use Rattle.plans.specs.Answers.{verdictNumber}
 use borrow.Author.Needs.{needs}
 use Rattle.shelf.proofs.shelf_is_codeword.Statement.{statement}
 use Rattle.shelf.proofs.shelf_is_codeword.Tie as tie

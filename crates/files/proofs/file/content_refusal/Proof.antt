@@ -2,7 +2,7 @@
 use mathlib.Core.Path.{sym, _∙_}
 use borrow.Author.Tests.{not-true, not-false}
 use borrow.Author.Needs.{needs}
-use Rattle.repair.proofs.Refusals.{passes, fails, none-fails}
+use Rattle.plans.proofs.Refusals.{passes, fails, none-fails}
 use Rattle.files.proofs.file.content_refusal.Statement.{statement}
 use Rattle.files.proofs.file.content_refusal.Tie as tie
 

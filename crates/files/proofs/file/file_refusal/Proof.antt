@@ -8,11 +8,11 @@ use lib.Seq.{length-take-le}
 use lib.ListN.{length, take}
 use lib.Dec.{T, leb}
 use Rattle.linear.specs.Lists.{same}
-use Rattle.repair.specs.File.{bytes2, headerOf, fileLength, planIn, marksIn, symbolsIn, fileRefusal}
+use Rattle.repair.specs.File.{bytes2, headerOf, planIn, marksIn, symbolsIn, fileRefusal}
+use Rattle.plans.specs.Plan.{fileLength, planOf, known}
 use Rattle.files.specs.Written.{contentTests}
-use Rattle.repair.specs.Refusal.{firstFailed, inFile}
-use Rattle.repair.specs.Plan.{planOf, known}
-use Rattle.repair.proofs.Refusals.{passes, fails}
+use Rattle.plans.specs.Refusal.{firstFailed, inFile}
+use Rattle.plans.proofs.Refusals.{passes, fails}
 use Rattle.files.proofs.file.file_refusal.Statement.{statement}
 use Rattle.files.proofs.file.file_refusal.Tie as tie
 

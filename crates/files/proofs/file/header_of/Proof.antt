@@ -1,8 +1,9 @@
 -- `repair::file::header_of` meets its contract: the bytes are those of the definition, and fit bytes by the plans' sizes. Assumes nothing.
 use native.Mathlib.Omega.{arith}
 use borrow.Author.Needs.{needs}
-use Rattle.repair.specs.File.{bytes2, marksOffset, symbolsOffset, headerOf}
-use Rattle.repair.proofs.Shape.{shape}
+use Rattle.repair.specs.File.{bytes2, headerOf}
+use Rattle.plans.specs.Plan.{marksOffset, symbolsOffset}
+use Rattle.plans.proofs.Shape.{shape}
 use Rattle.files.proofs.Stripes.{known-below}
 use Rattle.files.proofs.file.header_of.Statement.{statement}
 use Rattle.files.proofs.file.header_of.Tie as tie

@@ -7,10 +7,10 @@ use denote.Ref.{now}
 use lib.ListN.{length, take, replicate}
 use Rattle.linear.specs.Lists.{same}
 use Rattle.repair.specs.File.{blanked}
-use Rattle.repair.specs.Plan.{planOf, marksOf}
+use Rattle.plans.specs.Plan.{planOf, marksOf}
 use Rattle.files.proofs.Writing.{front-set}
 use Rattle.files.proofs.Stripes.{length-blanked, length-marks-of}
-use Rattle.repair.proofs.Shape.{shape}
+use Rattle.plans.proofs.Shape.{shape}
 use Rattle.files.proofs.file.is_blank.Statement.{statement}
 use Rattle.files.proofs.file.is_blank.Tie as tie
 

@@ -6,8 +6,8 @@ use borrow.Author.Needs.{needs}
 use denote.Ref.{now}
 use lib.Seq.{sets}
 use lib.ListN.{length}
-use Rattle.repair.specs.Refusal.{unasked}
-use Rattle.repair.specs.Plan.{planOf}
+use Rattle.plans.specs.Refusal.{unasked}
+use Rattle.plans.specs.Plan.{planOf}
 use Rattle.files.proofs.Files.{file-fit, Whole, fit-whole, whole-start, whole-rows, whole-symbols, whole-cut}
 use Rattle.files.proofs.file.load.Statement.{statement}
 use Rattle.files.proofs.file.load.Tie as tie

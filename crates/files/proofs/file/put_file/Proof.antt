@@ -4,12 +4,12 @@ use native.Mathlib.Omega.{arith}
 use borrow.Author.Needs.{needs}
 use denote.Ref.{now}
 use lib.ListN.{length}
-use Rattle.repair.specs.Plan.{planOf}
-use Rattle.repair.specs.File.{bytes2, marksOffset, symbolsOffset, fileLength, headerOf, fileOf}
+use Rattle.plans.specs.Plan.{planOf, marksOffset, symbolsOffset, fileLength}
+use Rattle.repair.specs.File.{bytes2, headerOf, fileOf}
 use Rattle.files.proofs.Files.{write-fit, length-bytes, length-written}
-use Rattle.repair.proofs.Rows.{sets-whole}
+use Rattle.plans.proofs.Rows.{sets-whole}
 use Rattle.files.proofs.Writing.{put-then, put-is}
-use Rattle.repair.proofs.Fit.{LentFit}
+use Rattle.steps.proofs.Fit.{LentFit}
 use Rattle.files.proofs.file.put_file.Statement.{statement}
 use Rattle.files.proofs.file.put_file.Tie as tie
 

@@ -8,8 +8,8 @@ use lib.ListN.{length}
 use Rattle.field.proofs.Lists.{length-up}
 use Rattle.field.specs.Lists.{upFrom}
 use Rattle.repair.specs.File.{blanked}
-use Rattle.repair.specs.Plan.{planOf, rowAt, marksAt}
-use Rattle.repair.proofs.Shape.{shape}
+use Rattle.plans.specs.Plan.{planOf, rowAt, marksAt}
+use Rattle.plans.proofs.Shape.{shape}
 use Rattle.files.proofs.Stripes.{Cut, cut-inside, cut-length, cut-marks, length-kept, blanked-rows}
 use Rattle.files.proofs.Writing.{Joining, joining-starts, joining-length, counting-turns, counting-ends, put-is}
 use Rattle.files.proofs.file.put_symbols.Statement.{statement}

@@ -6,8 +6,8 @@ use denote.Ref.{now}
 use lib.ListN.{replicate, length, take}
 use Rattle.repair.specs.File.{marksIn}
 use Rattle.files.specs.Written.{contentTests}
-use Rattle.repair.specs.Refusal.{firstFailed}
-use Rattle.repair.specs.Plan.{planOf}
+use Rattle.plans.specs.Refusal.{firstFailed}
+use Rattle.plans.specs.Plan.{planOf}
 use Rattle.files.proofs.Files.{Whole, whole-start, whole-rows, whole-marks, whole-front, whole-symbols, whole-cut}
 use Rattle.files.proofs.file.whole_refusal.Statement.{statement}
 use Rattle.files.proofs.file.whole_refusal.Tie as tie

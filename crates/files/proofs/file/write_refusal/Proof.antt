@@ -4,7 +4,7 @@ use borrow.Author.Tests.{not-true, not-false}
 use borrow.Author.Needs.{needs}
 use Rattle.field.specs.Lists.{if_then_else_}
 use Rattle.repair.specs.File.{writeRefusal}
-use Rattle.repair.specs.Refusal.{firstFailed, inMemory}
+use Rattle.plans.specs.Refusal.{firstFailed, inMemory}
 use Rattle.files.proofs.Files.{room-refused, room-fits}
 use Rattle.files.proofs.file.write_refusal.Statement.{statement}
 use Rattle.files.proofs.file.write_refusal.Tie as tie

@@ -1,7 +1,7 @@
 -- `repair::lines::answer_number` meets its contract: by the answer. Assumes nothing.
 use mathlib.Core.Path.{sym, ap}
 use borrow.Author.Needs.{needs}
-use Rattle.repair.specs.Answers.{answerNumber}
+use Rattle.plans.specs.Answers.{answerNumber}
 use Rattle.files.proofs.lines.answer_number.Statement.{statement}
 use Rattle.files.proofs.lines.answer_number.Tie as tie
 

@@ -10,12 +10,12 @@ use lib.Dec.{T}
 use Rattle.field.proofs.Lists.{length-up}
 use Rattle.field.specs.Lists.{upFrom}
 use Rattle.repair.specs.Text.{shown, lineEnd, grid}
-use Rattle.repair.specs.Refusal.{unmarkedBelow}
-use Rattle.repair.specs.Plan.{planOf, rowAt, marksAt}
+use Rattle.plans.specs.Refusal.{unmarkedBelow}
+use Rattle.plans.specs.Plan.{planOf, rowAt, marksAt}
 use Rattle.files.proofs.Writing.{Joining, joining-starts, joining-length, counting-turns, counting-ends}
 use Rattle.files.proofs.Texts.{fit-hex}
 use Rattle.files.proofs.Stripes.{Cut, cut-inside, cut-length, cut-marks}
-use Rattle.repair.proofs.Shape.{shape}
+use Rattle.plans.proofs.Shape.{shape}
 use Rattle.files.proofs.lines.put_grid.Statement.{statement}
 use Rattle.files.proofs.lines.put_grid.Tie as tie
 

@@ -7,12 +7,12 @@ use denote.Ref.{now}
 use lib.ListN.{length, take, replicate}
 use Rattle.repair.specs.Text.{mendText}
 use Rattle.repair.specs.File.{planIn, symbolsIn, marksIn}
-use Rattle.repair.specs.Refusal.{unasked, lentRefusal}
-use Rattle.repair.specs.Plan.{planOf}
+use Rattle.plans.specs.Refusal.{unasked, lentRefusal}
+use Rattle.plans.specs.Plan.{planOf}
 use Rattle.files.proofs.Writing.{front-set, put-is}
 use Rattle.files.proofs.Files.{FileFit, file-fit, read-fit, length-symbols-in, length-marks-in}
-use Rattle.repair.proofs.Shape.{Shape, shape}
-use Rattle.repair.proofs.Fit.{fit-lent}
+use Rattle.plans.proofs.Shape.{Shape, shape}
+use Rattle.steps.proofs.Fit.{fit-lent}
 use Rattle.files.proofs.lines.put_loaded.Statement.{statement}
 use Rattle.files.proofs.lines.put_loaded.Tie as tie
 

@@ -6,10 +6,10 @@ use native.Mathlib.Omega.{arith}
 use borrow.Author.Needs.{needs}
 use denote.Ref.{now}
 use lib.Dec.{T}
-use Rattle.repair.specs.declared.Answer.{Answer}
+use Rattle.plans.specs.declared.Answer.{Answer}
 use Rattle.repair.specs.Text.{lineEnd, reportText}
-use Rattle.repair.specs.Refusal.{allBelow}
-use Rattle.repair.specs.Answers.{answerValues, reportValues}
+use Rattle.plans.specs.Refusal.{allBelow}
+use Rattle.plans.specs.Answers.{answerValues, reportValues}
 use Rattle.files.proofs.Writing.{put-is}
 use Rattle.files.proofs.lines.put_report.Statement.{statement}
 use Rattle.files.proofs.lines.put_report.Tie as tie

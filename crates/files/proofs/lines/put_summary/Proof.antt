@@ -7,7 +7,7 @@ use lib.ListN.{take}
 use Rattle.repair.specs.Text.{bytes, item, lineEnd, summary}
 use Rattle.files.proofs.Writing.{put-then, put-is}
 use Rattle.files.proofs.Texts.{beside-below}
-use Rattle.repair.proofs.Plans.{levels-most}
+use Rattle.plans.proofs.Plans.{levels-most}
 use Rattle.files.proofs.lines.put_summary.Statement.{statement}
 use Rattle.files.proofs.lines.put_summary.Tie as tie
 

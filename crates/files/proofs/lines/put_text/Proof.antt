@@ -5,7 +5,7 @@ use native.Mathlib.Omega.{arith}
 use borrow.Author.Needs.{needs}
 use denote.Ref.{now}
 use Rattle.repair.specs.Text.{item, lineEnd}
-use Rattle.repair.specs.Refusal.{unasked}
+use Rattle.plans.specs.Refusal.{unasked}
 use Rattle.files.proofs.Writing.{put-is}
 use Rattle.files.proofs.Printing.{text-refused, text-loaded}
 use Rattle.files.proofs.Files.{refusal-below}

@@ -1,6 +1,6 @@
 -- `repair::mending::bare_report` meets its contract. Assumes nothing.
 use mathlib.Core.Path.{refl}
-use Rattle.repair.specs.Rounds.{bare}
+use Rattle.repair.specs.Mending.{bare}
 use Rattle.repair.proofs.mending.bare_report.Statement.{statement}
 use Rattle.repair.proofs.mending.bare_report.Tie as tie
 

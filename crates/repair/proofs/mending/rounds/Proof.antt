@@ -3,11 +3,11 @@ use Prim.Native.Nat.{ℕ, suc, _-_}
 use mathlib.Core.Path.{_≡_, refl, sym, ap, _∙_}
 use mathlib.Core.Logic.{⊎-elim}
 use lib.ListN.{length}
-use Rattle.repair.specs.Plan.{planOf}
-use Rattle.repair.proofs.Shape.{shape}
-use Rattle.repair.proofs.Fit.{lent-fit, fit-bench}
-use Rattle.repair.specs.Refusal.{unasked}
-use Rattle.repair.proofs.Arms.{arm-blocked, arm-failing, arm-learned}
+use Rattle.plans.specs.Plan.{planOf}
+use Rattle.plans.proofs.Shape.{shape}
+use Rattle.steps.proofs.Fit.{lent-fit, fit-bench}
+use Rattle.plans.specs.Refusal.{unasked}
+use Rattle.steps.proofs.Arms.{arm-blocked, arm-failing, arm-learned}
 use Rattle.repair.proofs.Rounding.{Rounding, rounding-starts, rounded-clash, rounded-top, rounded-blocked, rounded-failing, rounding-turns}
 use native.Mathlib.Omega.{arith}
 use borrow.Author.Needs.{needs}
@@ -16,15 +16,15 @@ use Rattle.repair.proofs.mending.rounds.Tie as tie
 use Rattle.repair.proofs.mending.rounds.Reads as reads
 use Rattle.repair.proofs.mending.rounds.Lts as lts
 use Rattle.field.proofs.products.Reads as products-reads
-use Rattle.repair.proofs.copies.symbols_of.Reads as symbols-of-reads
-use Rattle.repair.proofs.copies.words_of.Reads as words-of-reads
-use Rattle.repair.proofs.level.learn.Reads as learn-reads
+use Rattle.plans.proofs.copies.symbols_of.Reads as symbols-of-reads
+use Rattle.plans.proofs.copies.words_of.Reads as words-of-reads
+use Rattle.steps.proofs.level.learn.Reads as learn-reads
 use Rattle.repair.proofs.mending.bare_report.Reads as bare-report-reads
 use Rattle.repair.proofs.mending.end_report.Reads as end-report-reads
-use Rattle.repair.proofs.plan.levels.Reads as levels-reads
-use Rattle.repair.proofs.plan.row_checks.Reads as row-checks-reads
-use Rattle.repair.proofs.plan.rows.Reads as rows-reads
-use Rattle.repair.proofs.steps.walk_rows.Reads as walk-rows-reads
+use Rattle.plans.proofs.plan.levels.Reads as levels-reads
+use Rattle.plans.proofs.plan.row_checks.Reads as row-checks-reads
+use Rattle.plans.proofs.plan.rows.Reads as rows-reads
+use Rattle.steps.proofs.row.walk_rows.Reads as walk-rows-reads
 
 abbrev Inv-loop : tie.InvT-loop
 Inv-loop plan stripe words table checks rows levels symbols₀ marks₀ sums₀ restored₀ level₀ symbols marks sums restored level =

@@ -3,7 +3,7 @@ use mathlib.Core.Path.{_≡_, refl, _∙_}
 use Prim.Native.Nat.{_-_}
 use native.Mathlib.Nat.{le-of-eq}
 use lib.ListN.{length}
-use Rattle.repair.proofs.Padded.{Padding, padding-starts, padding-turns, padding-ends}
+use Rattle.plans.proofs.Padded.{Padding, padding-starts, padding-turns, padding-ends}
 use Rattle.shelf.proofs.Bytes.{padded-full}
 use native.Mathlib.Omega.{arith}
 use borrow.Author.Needs.{needs}

@@ -1,6 +1,6 @@
 -- `shelf::numbers::of_answer` meets its contract. Assumes nothing.
 use mathlib.Core.Path.{sym, ap}
-use Rattle.repair.specs.Answers.{answerNumber}
+use Rattle.plans.specs.Answers.{answerNumber}
 use borrow.Author.Needs.{needs}
 use Rattle.shelf.proofs.numbers.of_answer.Statement.{statement}
 use Rattle.shelf.proofs.numbers.of_answer.Tie as tie

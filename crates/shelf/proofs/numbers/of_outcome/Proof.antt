@@ -1,6 +1,6 @@
 -- `shelf::numbers::of_outcome` meets its contract. Assumes nothing.
 use mathlib.Core.Path.{sym, ap}
-use Rattle.repair.specs.Answers.{outcomeNumber}
+use Rattle.plans.specs.Answers.{outcomeNumber}
 use borrow.Author.Needs.{needs}
 use Rattle.shelf.proofs.numbers.of_outcome.Statement.{statement}
 use Rattle.shelf.proofs.numbers.of_outcome.Tie as tie

@@ -1,6 +1,6 @@
 -- `shelf::numbers::of_step` meets its contract. Assumes nothing.
 use mathlib.Core.Path.{sym, ap}
-use Rattle.repair.specs.Answers.{stepNumber}
+use Rattle.plans.specs.Answers.{stepNumber}
 use borrow.Author.Needs.{needs}
 use Rattle.shelf.proofs.numbers.of_step.Statement.{statement}
 use Rattle.shelf.proofs.numbers.of_step.Tie as tie

@@ -1,6 +1,6 @@
 -- `shelf::numbers::of_verdict` meets its contract. Assumes nothing.
 use mathlib.Core.Path.{sym, ap}
-use Rattle.repair.specs.Answers.{verdictNumber}
+use Rattle.plans.specs.Answers.{verdictNumber}
 use borrow.Author.Needs.{needs}
 use Rattle.shelf.proofs.numbers.of_verdict.Statement.{statement}
 use Rattle.shelf.proofs.numbers.of_verdict.Tie as tie

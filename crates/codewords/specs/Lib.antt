@@ -1,0 +1,2 @@
+-- What the crate `codewords` means.
+pub mod Codeword

@@ -1,0 +1,69 @@
+-- Parts of flat lists: what is lent from a start to an end, and rows one behind the other. Assumes nothing.
+use mathlib.Core.Path.{_≡_, refl, sym, ap, ap₂, _∙_}
+use mathlib.Core.List.{List, [], _∷_, _++_, map, append-assoc}
+use Prim.Native.Nat.{ℕ, zero, suc, _+_, _*_, _-_, _≤_}
+use native.Mathlib.Nat.{zero-add, suc-add, add-comm, add-sub-cancel-left, suc-mul, zero-mul}
+use native.Mathlib.Omega.{arith}
+use lib.ListN.{length, take, drop, length-drop}
+use lib.Seq.{sets, sets-eq, length-take-le, take-all, take-nil, take-take, drop-drop}
+use Rattle.field.specs.Lists.{upFrom}
+use Rattle.field.proofs.Lists.{map-up-same}
+use Rattle.linear.specs.Marks.{rowsOf}
+use Rattle.plans.proofs.Flat.{rowIn}
+
+-- ---- from a start to an end
+
+abbrev pub part : (start size : ℕ) → List ℕ → List ℕ
+part start size l = take (start + size - start) (drop start l)
+
+pub part-of : (start size : ℕ) (l : List ℕ) → part start size l ≡ take size (drop start l)
+part-of start size l = ap (λ n. take n (drop start l)) (add-sub-cancel-left start size)
+
+pub part-length : (start size : ℕ) (l : List ℕ) → start + size ≤ length l → length (part start size l) ≡ size
+part-length start size l h =
+    ap length (part-of start size l) ∙ length-take-le size (drop start l) (simp length-drop (omega arith))
+
+-- what stands from a start on
+pub rest-of : (start : ℕ) (l : List ℕ) → take (length l - start) (drop start l) ≡ drop start l
+rest-of start l = take-all (length l - start) (drop start l) (simp length-drop (omega arith))
+
+-- n numbers put back, with others in their place
+pub part-back : (start n : ℕ) (l v : List ℕ) → start + n ≤ length l → length v ≡ n
+    → take start l ++ (v ++ drop n (drop start l)) ≡ sets l start v
+part-back start n l v h e =
+    ap (λ k. take start l ++ (v ++ drop k (drop start l))) (sym e)
+    ∙ ap (λ k. take start l ++ (v ++ k)) (drop-drop (length v) start l)
+    ∙ sym (append-assoc (take start l) v (drop (start + length v) l))
+    ∙ sym (sets-eq v l start (omega arith))
+
+-- ---- rows
+
+pub map-up-shift : {A : Type 0} (f : ℕ → A) (k n : ℕ) → map f (upFrom (suc k) n) ≡ map (λ i. f (suc i)) (upFrom k n)
+unfolding upFrom
+map-up-shift f k zero = refl
+map-up-shift f k (suc n) = ap (λ l. f (suc k) ∷ l) (map-up-shift f (suc k) n)
+
+-- rows taken off one by one are the rows by their numbers
+pub rows-of : (m n : ℕ) (l : List ℕ) → rowsOf m n l ≡ map (rowIn n l) (upFrom 0 m)
+unfolding upFrom rowsOf
+rows-of zero n l = refl
+rows-of (suc m) n l =
+    ap₂ _∷_ (ap (λ k. take n (drop k l)) (sym (zero-mul n)))
+    (rows-of m n (drop n l) ∙ map-up-same _ _ 0 m (λ i h. ap (take n) (behind (0 + i))) ∙ sym (map-up-shift (rowIn n l) 0 m))
+  where
+    behind : (j : ℕ) → drop (j * n) (drop n l) ≡ drop (suc j * n) l
+    behind j = drop-drop (j * n) n l ∙ ap (λ k. drop k l) (add-comm n (j * n) ∙ sym (suc-mul j n))
+
+drop-take : (n k : ℕ) (l : List ℕ) → drop n (take (n + k) l) ≡ take k (drop n l)
+drop-take zero k l = ap (λ i. take i l) (zero-add k)
+drop-take (suc n) k [] = ap (drop (suc n)) (take-nil (suc n + k)) ∙ sym (take-nil k)
+drop-take (suc n) k (x ∷ l) = ap (λ i. drop (suc n) (take i (x ∷ l))) (suc-add n k) ∙ drop-take n k l
+
+-- the first m rows stand in the first m * n numbers
+pub rows-front : (m n : ℕ) (l : List ℕ) → rowsOf m n (take (m * n) l) ≡ rowsOf m n l
+unfolding rowsOf
+rows-front zero n l = refl
+rows-front (suc m) n l =
+    let e : suc m * n ≡ n + m * n = suc-mul m n ∙ add-comm (m * n) n in
+    ap₂ _∷_ (take-take n (suc m * n) l (omega arith))
+    (ap (rowsOf m n) (ap (λ k. drop n (take k l)) e ∙ drop-take n (m * n) l) ∙ rows-front m n (drop n l))

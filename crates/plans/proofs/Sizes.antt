@@ -1,0 +1,50 @@
+-- The plans' rows, checks and weights fit the code's arrays, for every plan number. Assumes nothing.
+use mathlib.Core.Path.{_≡_, refl}
+use mathlib.Core.List.{flatMap}
+use Prim.Native.Nat.{ℕ, pred, _*_, _≤_}
+use native.Mathlib.Nat.{mul-le-mul}
+use lib.Dec.{T, eqb, leb, eqb→eq, leb→le}
+use lib.ListN.{length}
+use Rattle.field.specs.Lists.{upFrom}
+use Rattle.field.specs.Field.{_⊕_, size, double, times, mul, gf16, gf32}
+use Rattle.field.specs.Power.{power}
+use Rattle.linear.specs.Lists.{all}
+use Rattle.plans.specs.Plan.{Level, ones, bitChecks, locations1, plan1, locations2, powers2, plan2, locations3, powers3, plan3, noPlan, planOf, noLevel, levelOf, checksTo}
+use Rattle.plans.specs.Tables.{padded, flat, checkTable, weightTable}
+use Rattle.plans.proofs.Plans.{of-plans, rows-most, columns-most}
+use Rattle.plans.proofs.Flat.{all-getD}
+use Rattle.plans.proofs.Tables.{sums-most}
+
+-- ---- checks
+
+pub checks-room : (p t : ℕ) → length (checksTo (planOf p) t) * planOf p .columns ≤ 512
+checks-room p t = mul-le-mul (sums-most p t) (columns-most p)
+
+pub checks-length : (p : ℕ) → length (checkTable (planOf p)) ≡ 512
+unfolding upFrom flatMap _⊕_ size double times mul gf16 gf32 power
+    ones bitChecks locations1 plan1 locations2 powers2 plan2 locations3 powers3 plan3 noPlan checksTo padded flat checkTable
+checks-length = of-plans (λ P. length (checkTable P) ≡ 512) refl refl refl refl
+
+-- ---- weights
+
+few-totals : (p : ℕ) → T (all (λ (L : Level). leb (length (L .weights)) 2) (planOf p .levels))
+unfolding upFrom all ones plan1 plan2 plan3 noPlan
+few-totals = of-plans (λ P. T (all (λ (L : Level). leb (length (L .weights)) 2) (P .levels))) tt tt tt tt
+
+full-tables : (p : ℕ) → T (all (λ (L : Level). eqb (length (flat 16 (L .weights))) 16) (planOf p .levels))
+unfolding upFrom flatMap _⊕_ size double times mul gf16 power all ones plan1 plan2 plan3 noPlan padded flat
+full-tables = of-plans (λ P. T (all (λ (L : Level). eqb (length (flat 16 (L .weights))) 16) (P .levels))) tt tt tt tt
+
+module _ (p t : ℕ) where
+  pub totals-most : length (levelOf (planOf p) t .weights) ≤ 2
+  unfolding noLevel levelOf
+  totals-most = leb→le _ 2 (all-getD (λ (L : Level). leb (length (L .weights)) 2) noLevel tt (planOf p .levels) (few-totals p) (pred t))
+
+  pub weights-room : length (levelOf (planOf p) t .weights) * planOf p .rows ≤ 16
+  weights-room = mul-le-mul totals-most (rows-most p)
+
+  pub weights-length : length (weightTable (planOf p) t) ≡ 16
+  unfolding flatMap noLevel levelOf padded flat weightTable
+  weights-length =
+      eqb→eq _ 16
+      (all-getD (λ (L : Level). eqb (length (flat 16 (L .weights))) 16) noLevel tt (planOf p .levels) (full-tables p) (pred t))

@@ -1,0 +1,51 @@
+-- `copies::symbols_of` meets its contract: after i turns the first i are copied. Assumes nothing.
+use mathlib.Core.Path.{_≡_, refl}
+use Prim.Native.Nat.{_-_}
+use lib.ListN.{length}
+use Rattle.plans.proofs.Padded.{Padding, padding-starts, padding-turns, padding-ends}
+use native.Mathlib.Omega.{arith}
+use borrow.Author.Needs.{needs}
+use Rattle.plans.proofs.copies.symbols_of.Statement.{statement}
+use Rattle.plans.proofs.copies.symbols_of.Tie as tie
+
+abbrev Inv-loop : tie.InvT-loop
+Inv-loop stripe symbols₀ i₀ i-end symbols i = (i-end ≡ length stripe) × Padding 256 stripe i symbols
+
+abbrev μ-loop : tie.MeasureT-loop
+μ-loop stripe symbols₀ i₀ i-end symbols i = length stripe - i
+
+loop-holds : tie.Need-loop-holds Inv-loop μ-loop
+loop-holds c = (refl, padding-starts 256 _ (c .pre))
+
+shared-slice-read-symbols : tie.Need-shared-slice-read-symbols Inv-loop μ-loop
+shared-slice-read-symbols c = search needs
+
+array-write-symbols : tie.Need-array-write-symbols Inv-loop μ-loop
+array-write-symbols c = omega (arith, c .before .before .before .pre)
+
+add-i : tie.Need-add-i Inv-loop μ-loop
+add-i c = search needs
+
+loop-less : tie.Need-loop-less Inv-loop μ-loop
+loop-less c = search needs
+
+loop-again : tie.Need-loop-again Inv-loop μ-loop
+loop-again c =
+    (refl, padding-turns 256 _ (c .before .before .before .pre) (c .before .before .loop .inv .1) (c .before .loop-test .taken))
+
+returns : tie.Need-returns Inv-loop μ-loop
+returns c = padding-ends 256 _ (c .before .before .pre) (c .before .loop .inv .1) (c .loop-test .left)
+
+pub symbols-of-spec : {M : Type 1} → statement M
+symbols-of-spec =
+    tie.close
+    (tie.spec
+    Inv-loop
+    μ-loop
+    loop-holds
+    shared-slice-read-symbols
+    array-write-symbols
+    add-i
+    loop-less
+    loop-again
+    returns)

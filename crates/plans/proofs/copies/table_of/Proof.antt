@@ -1,0 +1,51 @@
+-- `copies::table_of` meets its contract: after i turns the first i are copied. Assumes nothing.
+use mathlib.Core.Path.{_≡_, refl}
+use Prim.Native.Nat.{_-_}
+use lib.ListN.{length}
+use Rattle.plans.proofs.Padded.{Padding, padding-starts, padding-turns, padding-ends}
+use native.Mathlib.Omega.{arith}
+use borrow.Author.Needs.{needs}
+use Rattle.plans.proofs.copies.table_of.Statement.{statement}
+use Rattle.plans.proofs.copies.table_of.Tie as tie
+
+abbrev Inv-loop : tie.InvT-loop
+Inv-loop coefficients table₀ i₀ i-end table i = (i-end ≡ length coefficients) × Padding 512 coefficients i table
+
+abbrev μ-loop : tie.MeasureT-loop
+μ-loop coefficients table₀ i₀ i-end table i = length coefficients - i
+
+loop-holds : tie.Need-loop-holds Inv-loop μ-loop
+loop-holds c = (refl, padding-starts 512 _ (c .pre))
+
+shared-slice-read-table : tie.Need-shared-slice-read-table Inv-loop μ-loop
+shared-slice-read-table c = search needs
+
+array-write-table : tie.Need-array-write-table Inv-loop μ-loop
+array-write-table c = omega (arith, c .before .before .before .pre)
+
+add-i : tie.Need-add-i Inv-loop μ-loop
+add-i c = search needs
+
+loop-less : tie.Need-loop-less Inv-loop μ-loop
+loop-less c = search needs
+
+loop-again : tie.Need-loop-again Inv-loop μ-loop
+loop-again c =
+    (refl, padding-turns 512 _ (c .before .before .before .pre) (c .before .before .loop .inv .1) (c .before .loop-test .taken))
+
+returns : tie.Need-returns Inv-loop μ-loop
+returns c = padding-ends 512 _ (c .before .before .pre) (c .before .loop .inv .1) (c .loop-test .left)
+
+pub table-of-spec : {M : Type 1} → statement M
+table-of-spec =
+    tie.close
+    (tie.spec
+    Inv-loop
+    μ-loop
+    loop-holds
+    shared-slice-read-table
+    array-write-table
+    add-i
+    loop-less
+    loop-again
+    returns)

@@ -1,0 +1,162 @@
+-- The three plans. Row checks and weights are computed from the locations.
+use Prim.Native.Nat.{ℕ, zero, suc, pred, _+_, _*_, _/_, _%_, _^_}
+use mathlib.Core.Bool.{Bool, not, _&&_}
+use mathlib.Core.List.{List, [], _∷_, _++_, map, flatMap}
+use lib.Dec.{ltb}
+use lib.ListN.{length, take, drop, getD, replicate}
+use Rattle.field.specs.Lists.{upFrom}
+use Rattle.field.specs.Field.{Field, dot, gf2, gf16, gf32}
+use Rattle.field.specs.Power.{power}
+use Rattle.linear.specs.Lists.{only}
+use Rattle.linear.specs.Marks.{bitsOf}
+
+-- a level's row checks, N coefficients each, and its weights, R each. Level 1 has no weights: its sums are zero in each row
+pub record Level : Type 0 where
+  pub checks : List (List ℕ)
+  pub weights : List (List ℕ)
+
+-- symbols are of `field`; check places are a mark word for each row
+pub record Plan : Type 0 where
+  pub field : Field
+  pub rows : ℕ
+  pub columns : ℕ
+  pub levels : List Level
+  pub checkPlaces : List ℕ
+
+-- ---- row checks and weights
+
+-- every coefficient is 1: parity, and the plain total
+unfoldable pub ones : ℕ → List ℕ
+ones n = replicate n 1
+
+-- a check for each of the n bits of a column's number, low first
+unfoldable pub bitChecks : ℕ → List ℕ → List (List ℕ)
+bitChecks n numbers = map (λ k. map (λ x. x / 2 ^ k % 2) numbers) (upFrom 0 n)
+
+-- the mark word of these columns
+unfoldable pub wordOf : List ℕ → ℕ
+wordOf [] = 0
+wordOf (c ∷ cs) = 2 ^ c + wordOf cs
+
+-- ---- plan 1: column c has location c + 1
+
+unfoldable pub locations1 : List ℕ
+locations1 = upFrom 1 7
+
+unfoldable pub plan1 : Plan
+plan1 = record {
+  field = gf2;
+  rows = 3;
+  columns = 7;
+  levels =
+      record { checks = ones 7 ∷ []; weights = [] }
+      ∷ record { checks = bitChecks 3 locations1; weights = ones 3 ∷ [] }
+      ∷ [];
+  checkPlaces = replicate 2 (wordOf (6 ∷ [])) ++ (wordOf (2 ∷ 4 ∷ 5 ∷ 6 ∷ []) ∷ []);
+}
+
+-- ---- plan 2: column c from 0 to 30 has location a ^ c, column 31 has location 0
+
+unfoldable pub locations2 : List ℕ
+locations2 = map (power gf32 2) (upFrom 0 31) ++ (0 ∷ [])
+
+unfoldable pub powers2 : ℕ → List (List ℕ)
+powers2 p = bitChecks 5 (map (λ x. power gf32 x p) locations2)
+
+unfoldable pub plan2 : Plan
+plan2 = record {
+  field = gf2;
+  rows = 8;
+  columns = 32;
+  levels =
+      record { checks = ones 32 ∷ powers2 1; weights = [] }
+      ∷ record { checks = powers2 3; weights = ones 8 ∷ [] }
+      ∷ record { checks = powers2 5; weights = ones 8 ∷ [] }
+      ∷ [];
+  checkPlaces = replicate 7 (wordOf (upFrom 0 5 ++ (31 ∷ []))) ++ (wordOf (upFrom 0 15 ++ (31 ∷ [])) ∷ []);
+}
+
+-- ---- plan 3: column c has location a ^ c
+
+unfoldable pub locations3 : List ℕ
+locations3 = map (power gf16 2) (upFrom 0 15)
+
+unfoldable pub powers3 : ℕ → List ℕ
+powers3 p = map (λ x. power gf16 x p) locations3
+
+unfoldable pub plan3 : Plan
+plan3 = record {
+  field = gf16;
+  rows = 8;
+  columns = 15;
+  levels =
+      record { checks = map powers3 (upFrom 0 2); weights = [] }
+      ∷ record { checks = map powers3 (upFrom 2 1); weights = ones 8 ∷ map (power gf16 2) (upFrom 0 8) ∷ [] }
+      ∷ record { checks = map powers3 (upFrom 3 4); weights = ones 8 ∷ [] }
+      ∷ [];
+  checkPlaces = replicate 6 (wordOf (upFrom 13 2)) ++ (wordOf (upFrom 12 3) ∷ wordOf (upFrom 8 7) ∷ []);
+}
+
+-- ---- a plan by its number
+
+unfoldable pub known : ℕ → Bool
+known p = ltb 0 p && ltb p 4
+
+-- an unknown number has the plan with nothing in it
+unfoldable pub noPlan : Plan
+noPlan = record { field = gf2; rows = 0; columns = 0; levels = []; checkPlaces = [] }
+
+unfoldable pub planOf : ℕ → Plan
+planOf zero = noPlan
+planOf (suc zero) = plan1
+planOf (suc (suc zero)) = plan2
+planOf (suc (suc (suc zero))) = plan3
+planOf (suc (suc (suc (suc p)))) = noPlan
+
+-- ---- what is read off a plan
+
+unfoldable pub noLevel : Level
+noLevel = record { checks = []; weights = [] }
+
+-- level t, counted from 1
+unfoldable pub levelOf : Plan → ℕ → Level
+levelOf P t = getD (P .levels) (pred t) noLevel
+
+-- the row checks of levels 1 to t
+unfoldable pub checksTo : Plan → ℕ → List (List ℕ)
+checksTo P t = flatMap (λ (L : Level). L .checks) (take t (P .levels))
+
+-- row r of a stripe
+unfoldable pub rowAt : Plan → List ℕ → ℕ → List ℕ
+rowAt P symbols r = take (P .columns) (drop (r * P .columns) symbols)
+
+-- the marks of row r
+unfoldable pub marksAt : Plan → List ℕ → ℕ → List Bool
+marksAt P marks r = bitsOf (P .columns) (getD marks r 0)
+
+-- the marks of all rows, one after the other
+unfoldable pub marksOf : Plan → List ℕ → List Bool
+marksOf P marks = flatMap (marksAt P marks) (upFrom 0 (P .rows))
+
+-- the rows' sums under one check
+unfoldable pub across : Plan → List ℕ → List ℕ → List ℕ
+across P symbols check = map (λ r. dot (P .field) check (rowAt P symbols r)) (upFrom 0 (P .rows))
+
+-- true at a check place, row by row
+unfoldable pub checkPlacesOf : Plan → List Bool
+checkPlacesOf P = marksOf P (P .checkPlaces)
+
+-- symbols carried
+unfoldable pub carried : Plan → ℕ
+carried P = length (only not (checkPlacesOf P))
+
+-- ---- a stripe file: a head, a mark word for each row, the symbols
+
+unfoldable pub marksOffset : ℕ
+marksOffset = 8
+
+unfoldable pub symbolsOffset : Plan → ℕ
+symbolsOffset P = marksOffset + 4 * P .rows
+
+unfoldable pub fileLength : Plan → ℕ
+fileLength P = symbolsOffset P + P .rows * P .columns

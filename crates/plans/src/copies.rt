@@ -1,0 +1,61 @@
+// Lent lists copied to arrays, zeros behind them, and arrays copied back.
+ghost use mathlib.Core.Path.{_≡_};
+ghost use Prim.Native.Nat.{_≤_};
+ghost use lib.ListN.{length, take};
+ghost use Rattle.plans.specs.Tables.{padded};
+
+// A table of coefficients.
+pub fn table_of(coefficients: &[u8]) -> [u8; 512]
+    requires { ⌜ length (now coefficients) ≤ 512 ⌝ }
+    ensures { λ r. ⌜ r ≡ padded 512 (now (coefficients .entry)) ⌝ }
+{
+    let mut table = [0u8; 512];
+    for i in 0..coefficients.len() {
+        table[i] = coefficients[i];
+    }
+    table
+}
+
+// A bench's symbols.
+pub fn symbols_of(stripe: &[u8]) -> [u8; 256]
+    requires { ⌜ length (now stripe) ≤ 256 ⌝ }
+    ensures { λ r. ⌜ r ≡ padded 256 (now (stripe .entry)) ⌝ }
+{
+    let mut symbols = [0u8; 256];
+    for i in 0..stripe.len() {
+        symbols[i] = stripe[i];
+    }
+    symbols
+}
+
+// A bench's mark words.
+pub fn words_of(marks: &[u32]) -> [u32; 8]
+    requires { ⌜ length (now marks) ≤ 8 ⌝ }
+    ensures { λ r. ⌜ r ≡ padded 8 (now (marks .entry)) ⌝ }
+{
+    let mut words = [0u32; 8];
+    for r in 0..marks.len() {
+        words[r] = marks[r];
+    }
+    words
+}
+
+// Writes a bench's symbols back to the stripe, as many as it has.
+pub fn put_symbols(stripe: &mut [u8], symbols: &[u8])
+    requires { ⌜ length (now stripe) ≤ length (now symbols) ⌝ }
+    ensures { λ _. ⌜ now (stripe .exit) ≡ take (length (now (stripe .entry))) (now (symbols .entry)) ⌝ }
+{
+    for i in 0..stripe.len() {
+        stripe[i] = symbols[i];
+    }
+}
+
+// Writes a bench's mark words back, as many as were lent.
+pub fn put_words(marks: &mut [u32], words: &[u32])
+    requires { ⌜ length (now marks) ≤ length (now words) ⌝ }
+    ensures { λ _. ⌜ now (marks .exit) ≡ take (length (now (marks .entry))) (now (words .entry)) ⌝ }
+{
+    for r in 0..marks.len() {
+        marks[r] = words[r];
+    }
+}

@@ -1,0 +1,61 @@
+// Sums of rows under checks, and which rows have marks. The field is given by its number `q`, and the table of products is lent.
+ghost use mathlib.Core.Path.{_≡_};
+ghost use mathlib.Core.Bool.{not};
+ghost use mathlib.Core.List.{map};
+ghost use Prim.Native.Nat.{_*_, _^_, _<_, _≤_};
+ghost use lib.Dec.{eqb};
+ghost use lib.ListN.{length, getD};
+ghost use Rattle.field.specs.Lists.{upFrom};
+ghost use Rattle.field.specs.Field.{dot};
+ghost use Rattle.field.specs.Ours.{fieldOf, products};
+ghost use Rattle.linear.specs.Marks.{bitsOf};
+ghost use Rattle.plans.specs.Tables.{padded, rowSums};
+
+// The sum of each symbol times its coefficient.
+pub fn row_sum(q: usize, table: &[u8; 256], check: &[u8], row: &[u8]) -> u8
+    requires { ⌜ now table ≡ products ⌝ }
+    requires { ⌜ length (now check) ≡ length (now row) ⌝ }
+    ensures { λ r. ⌜ r ≡ dot (fieldOf q) (now (check .entry)) (now (row .entry)) ⌝ }
+{
+    let mut sum = 0u8;
+    for c in 0..check.len() {
+        let x = check[c];
+        let y = row[c];
+        sum = sum ^ field::product(q, table, x, y);
+    }
+    sum
+}
+
+// The sums of the rows under one check, and zeros behind them. A row is as long as the check.
+pub fn across(q: usize, table: &[u8; 256], rows: usize, check: &[u8], symbols: &[u8]) -> [u8; 8]
+    requires { ⌜ now table ≡ products ⌝ }
+    requires { ⌜ (rows ≤ 8) × (rows * length (now check) ≤ length (now symbols)) ⌝ }
+    ensures { λ l. ⌜ l ≡ padded 8 (rowSums (fieldOf q) rows (now (symbols .entry)) (now (check .entry))) ⌝ }
+{
+    let n = check.len();
+    let mut sums = [0u8; 8];
+    for r in 0..rows {
+        let start = r * n;
+        let end = start + n;
+        sums[r] = row_sum(q, table, check, &symbols[start..end]);
+    }
+    sums
+}
+
+// The word whose bit r is set where row r has marks.
+pub fn lossy_word(rows: usize, marks: &[u32; 8]) -> u32
+    requires { ⌜ rows ≤ 8 ⌝ }
+    ensures { λ w. ⌜ bitsOf rows w ≡ map (λ r. not (eqb (getD (now (marks .entry)) r 0) 0)) (upFrom 0 rows) ⌝ }
+    ensures { λ w. ⌜ w < 2 ^ rows ⌝ }
+{
+    let mut word = 0u32;
+    let mut r = rows;
+    while 0 < r {
+        r -= 1;
+        word = word * 2;
+        if marks[r] != 0 {
+            word += 1;
+        }
+    }
+    word
+}

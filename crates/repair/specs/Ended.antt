@@ -1,0 +1,23 @@
+-- What the code of mending says where its rounds end.
+use Prim.Native.Nat.{ℕ}
+use mathlib.Core.Path.{_≡_}
+use mathlib.Core.Bool.{Bool, true, false}
+use mathlib.Core.List.{List}
+use Rattle.steps.specs.Rounds.{Turn, on, end, clash}
+use Rattle.repair.specs.Mending.{endReport, bare}
+use Rattle.plans.specs.declared.Report.{Report}
+use Rattle.plans.specs.declared.Answer.{Answer}
+use Rattle.plans.specs.declared.Answer.the-variants.{Restored, Stuck, Clash, Refused}
+
+-- what the code answers where the turns end, and the symbols and marks that it has then
+abbrev pub Ended : Turn → Report → (symbols marks : List ℕ) → Type 0
+Ended (on m) r symbols marks = ⊥
+Ended (end m) r symbols marks = (r ≡ endReport m) × (symbols ≡ m .bench .symbols) × (marks ≡ m .bench .marks)
+Ended (clash place) r symbols marks = r ≡ bare (Clash place)
+
+-- the answer is Clash
+unfoldable pub clashes : Answer → Bool
+clashes Restored = false
+clashes Stuck = false
+clashes (Clash place) = true
+clashes (Refused n) = false

@@ -1,0 +1,335 @@
+-- Steps on a fit bench: they are not refused, and they leave it fit and its arrays as long as they were. Assumes nothing.
+use mathlib.Core.Path.{_≡_, refl, sym, ap, _∙_, subst}
+use mathlib.Core.Logic.{_≢_, inl, inr}
+use mathlib.Core.Bool.{Bool, true, false, _||_}
+use mathlib.Core.List.{List, [], _∷_, _++_, map}
+use Prim.Native.Nat.{ℕ, zero, suc, _+_, _*_, _^_, _<_, _≤_}
+use native.Mathlib.Nat.{zero-lt-suc}
+use native.Mathlib.Omega.{arith}
+use borrow.Author.Tests.{ltb-true}
+use lib.Dec.{T, ltb, ltb→lt, lt→ltb, nltb→le}
+use lib.ListN.{length, getD, length-set}
+use lib.Pow.{pow-pos}
+use lib.Seq.{length-sets, getD-set-same, getD-set-other}
+use Rattle.field.specs.Lists.{if_then_else_, upFrom}
+use Rattle.field.specs.Field.{Field, size, dot}
+use Rattle.field.proofs.Test.{both-left, both-right, both}
+use Rattle.field.proofs.Ring.{size-pos}
+use Rattle.field.proofs.Laws.{IsField, dot-lt}
+use Rattle.linear.specs.Lists.{all, zeros, first, rest}
+use Rattle.linear.specs.Fill.{Fill, tied, none, one, fill}
+use Rattle.linear.proofs.Tests.{either, or-right, all-append}
+use Rattle.linear.proofs.Choices.{Agrees, Allowed, agrees-length, agrees-symbols}
+use Rattle.linear.proofs.Filling.{Means, fill-means}
+use Rattle.plans.specs.Plan.{Plan, Level, planOf, levelOf, checksTo, rowAt, marksAt, across}
+use Rattle.plans.specs.Refusal.{unasked, allBelow, unmarkedBelow, sumsAt, lentRefusal, benchRefusal}
+use Rattle.steps.specs.Steps.{fresh, stepped, unlessRefused, rowFill, putRow, rowStepBy, rowStep, lossy, Learned, blocked, failing, learned, join, joined, levelFill, raise, levelStepBy, levelStep}
+use Rattle.plans.specs.declared.Bench.{Bench}
+use Rattle.plans.specs.declared.Step.the-variants.{Top}
+use Rattle.steps.proofs.Fit.{RowFits, BenchFit, Sized, lent-fit, bench-fit, fit-bench, sized-fresh, fit-fresh}
+use Rattle.plans.proofs.Rows.{of-rows, row-end, row-same, row-other, marks-length}
+use Rattle.steps.proofs.Sums.{learnedAt, keep-length}
+use Rattle.steps.proofs.Levels.{checks-le, sums-learned}
+use Rattle.plans.proofs.Shape.{shape, plan-field}
+
+-- ---- rows and sums of symbols
+
+-- symbols are symbols under any marks
+pub unmarked-below : (q : ℕ) (ms : List Bool) (xs : List ℕ) → T (allBelow q xs) → T (unmarkedBelow q ms xs)
+unfolding allBelow all unmarkedBelow
+unmarked-below q [] xs t = tt
+unmarked-below q (m ∷ ms) [] t = tt
+unmarked-below q (m ∷ ms) (x ∷ xs) t =
+    both (m || ltb x q) (unmarkedBelow q ms xs) (or-right m (ltb x q) (both-left (ltb x q) (allBelow q xs) t))
+    (unmarked-below q ms xs (both-right (ltb x q) (allBelow q xs) t))
+
+module _ (q : ℕ) where
+  none-below : (ms : List Bool) → T (unmarkedBelow q ms [])
+  unfolding unmarkedBelow
+  none-below [] = tt
+  none-below (m ∷ ms) = tt
+
+  unmarked-rest : (m : Bool) (ms : List Bool) (v : List ℕ) → T (unmarkedBelow q (m ∷ ms) v) → T (unmarkedBelow q ms (rest v))
+  unfolding unmarkedBelow rest
+  unmarked-rest m ms [] t = none-below ms
+  unmarked-rest m ms (x ∷ v) t = both-right (m || ltb x q) (unmarkedBelow q ms v) t
+
+  unmarked-first : 0 < q → (ms : List Bool) (v : List ℕ) → T (unmarkedBelow q (false ∷ ms) v) → T (ltb (first v) q)
+  unfolding unmarkedBelow first
+  unmarked-first z ms [] t = lt→ltb 0 q z
+  unmarked-first z ms (x ∷ v) t = both-left (ltb x q) (unmarkedBelow q ms v) t
+
+-- what agrees with symbols where unmarked, and holds symbols where marked, holds symbols
+pub agrees-below : (F : Field) (ms : List Bool) (v w : List ℕ) → T (unmarkedBelow (size F) ms v) → Agrees F ms v w → T (allBelow (size F) w)
+unfolding allBelow all
+agrees-below F [] v w t a = subst (λ l. T (allBelow (size F) l)) (sym a) tt
+agrees-below F (m ∷ ms) v [] t a = absurd a
+agrees-below F (m ∷ ms) v (y ∷ ys) t a =
+    both (ltb y (size F)) (allBelow (size F) ys) (symbol m t (a .0)) (agrees-below F ms (rest v) ys (unmarked-rest (size F) m ms v t) (a .1))
+  where
+    symbol : (m : Bool) → T (unmarkedBelow (size F) (m ∷ ms) v) → Allowed F m (first v) y → T (ltb y (size F))
+    symbol true u h = lt→ltb y (size F) h
+    symbol false u h = subst (λ x. T (ltb x (size F))) (sym h) (unmarked-first (size F) (size-pos F) ms v u)
+
+-- the rows' sums under a check are symbols
+pub across-below : (P : Plan) → IsField (P .field) → (symbols c : List ℕ) → T (allBelow (size (P .field)) (across P symbols c))
+unfolding across allBelow all
+across-below P K symbols c = go (upFrom 0 (P .rows))
+  where
+    go : (rs : List ℕ) → T (allBelow (size (P .field)) (map (λ r. dot (P .field) c (rowAt P symbols r)) rs))
+    go [] = tt
+    go (r ∷ rs) =
+        let x = dot (P .field) c (rowAt P symbols r) in
+        both (ltb x (size (P .field))) (allBelow (size (P .field)) (map (λ r. dot (P .field) c (rowAt P symbols r)) rs))
+        (lt→ltb x (size (P .field)) (dot-lt (P .field) K c (rowAt P symbols r))) (go rs)
+
+-- ---- fillings joined
+
+-- the vectors are the fillings, one for each
+abbrev pub Ones : {A : Type 0} → (A → Fill) → List A → List (List ℕ) → Type 0
+Ones f [] [] = Unit {0}
+Ones f [] (v ∷ vs) = ⊥
+Ones f (x ∷ xs) [] = ⊥
+Ones f (x ∷ xs) (v ∷ vs) = (f x ≡ one v) × Ones f xs vs
+
+module _ {A : Type 0} (f : A → Fill) where
+  -- a level that is learned has a filling for each check
+  pub joined-ones : (xs : List A) (vs : List (List ℕ)) → joined (map f xs) ≡ learned vs → Ones f xs vs
+  unfolding joined join
+  joined-ones [] vs e = let q : [] ≡ vs = cc in subst (Ones f []) q tt
+  joined-ones (x ∷ xs) vs e = go (f x) refl (joined (map f xs)) refl e (joined-ones xs)
+    where
+      go : (a : Fill) → f x ≡ a → (l : Learned) → joined (map f xs) ≡ l → join a l ≡ learned vs
+          → ((ws : List (List ℕ)) → joined (map f xs) ≡ learned ws → Ones f xs ws) → Ones f (x ∷ xs) vs
+      go tied p l q e ih = let z : _≡_ {A = ℕ} 0 1 = cc in absurd (omega arith)
+      go none p blocked q e ih = let z : _≡_ {A = ℕ} 0 1 = cc in absurd (omega arith)
+      go none p failing q e ih = let z : _≡_ {A = ℕ} 0 1 = cc in absurd (omega arith)
+      go none p (learned ws) q e ih = let z : _≡_ {A = ℕ} 0 1 = cc in absurd (omega arith)
+      go (one v) p blocked q e ih = let z : _≡_ {A = ℕ} 0 1 = cc in absurd (omega arith)
+      go (one v) p failing q e ih = let z : _≡_ {A = ℕ} 0 1 = cc in absurd (omega arith)
+      go (one v) p (learned ws) q e ih = let z : v ∷ ws ≡ vs = cc in subst (Ones f (x ∷ xs)) z (p, ih ws q)
+
+  pub ones-length : (xs : List A) (vs : List (List ℕ)) → Ones f xs vs → length vs ≡ length xs
+  ones-length [] [] o = refl
+  ones-length [] (v ∷ vs) o = absurd o
+  ones-length (x ∷ xs) [] o = absurd o
+  ones-length (x ∷ xs) (v ∷ vs) o = ap suc (ones-length xs vs (o .1))
+
+  -- where each filling holds symbols, so do the sums that a row learns
+  ones-below : (q : ℕ) → 0 < q → ((x : A) (v : List ℕ) → f x ≡ one v → T (allBelow q v))
+      → (xs : List A) (vs : List (List ℕ)) → Ones f xs vs → (r : ℕ) → T (allBelow q (learnedAt vs r))
+  unfolding allBelow all
+  ones-below q z h [] [] o r = tt
+  ones-below q z h [] (v ∷ vs) o r = absurd o
+  ones-below q z h (x ∷ xs) [] o r = absurd o
+  ones-below q z h (x ∷ xs) (v ∷ vs) o r =
+      both (ltb (getD v r 0) q) (allBelow q (learnedAt vs r)) (at v (h x v (o .0)) r) (ones-below q z h xs vs (o .1) r)
+    where
+      at : (v : List ℕ) → T (allBelow q v) → (r : ℕ) → T (ltb (getD v r 0) q)
+      at [] t r = lt→ltb 0 q z
+      at (x ∷ v) t zero = both-left (ltb x q) (allBelow q v) t
+      at (x ∷ v) t (suc r) = at v (both-right (ltb x q) (allBelow q v) t) r
+
+-- ---- the steps
+
+-- fit, and its arrays as long as the code's
+pub record Sound (b : Bench) : Type 0 where
+  pub fit : BenchFit b
+  pub sized : Sized b
+
+pub sound-fresh : (p : ℕ) (stripe marks : List ℕ) → lentRefusal p stripe marks ≡ 0 → Sound (fresh p stripe marks)
+sound-fresh p stripe marks e =
+    let f = lent-fit p stripe marks e in record { fit = fit-fresh p stripe marks f; sized = sized-fresh p stripe marks f }
+
+-- check c's sums of all rows, filled so that all totals are zero
+abbrev pub totalFill : Bench → Level → List ℕ → Fill
+totalFill b L c =
+    let P = planOf (b .plan) in fill (P .field) (L .weights) (zeros (L .weights)) (lossy P (b .marks)) (across P (b .symbols) c)
+
+module _ (b : Bench) where
+  abbrev P : Plan
+  P = planOf (b .plan)
+
+  -- the level that is learned next
+  abbrev L : Level
+  L = levelOf P (suc (b .level))
+
+  -- a step on a row that is not there changes nothing
+  pub row-outside : (r : ℕ) → P .rows ≤ r → rowStep b r .bench ≡ b
+  unfolding rowStep unlessRefused stepped
+  row-outside r h = go (benchRefusal b (ltb r (P .rows))) refl
+    where
+      go : (n : ℕ) → benchRefusal b (ltb r (P .rows)) ≡ n → unlessRefused n b (rowStepBy b r (rowFill b r)) .bench ≡ b
+      go zero e = let l = ltb→lt r (P .rows) (bench-fit b (ltb r (P .rows)) e .1) in absurd (omega arith)
+      go (suc n) e = refl
+
+  pub sized-put : Sized b → (r : ℕ) (row : List ℕ) → Sized (putRow b r row)
+  unfolding putRow
+  sized-put s r row = record {
+    symbols = length-sets (b .symbols) (r * P .columns) row ∙ s .symbols;
+    marks = length-set (b .marks) r 0 ∙ s .marks;
+    sums = s .sums;
+  }
+
+  pub sized-raise : Sized b → (cs : List (List ℕ)) → Sized (raise b cs)
+  unfolding raise
+  sized-raise s cs = record {
+    symbols = s .symbols;
+    marks = s .marks;
+    sums = keep-length (length (checksTo P (b .level))) cs (b .sums) (upFrom 0 (P .rows)) ∙ s .sums;
+  }
+
+  module _ (f : BenchFit b) where
+    -- ---- on a fit bench no step is refused
+
+    pub row-step : (r : ℕ) → r < P .rows → rowStep b r ≡ rowStepBy b r (rowFill b r)
+    unfolding rowStep unlessRefused
+    row-step r h = ap (λ n. unlessRefused n b (rowStepBy b r (rowFill b r))) (fit-bench b (ltb r (P .rows)) f (lt→ltb r (P .rows) h))
+
+    pub level-step : levelStep b ≡ (if ltb (b .level) (length (P .levels)) then levelStepBy b (levelFill b) else stepped b Top)
+    unfolding unasked levelStep unlessRefused
+    level-step =
+        ap (λ n. unlessRefused n b (if ltb (b .level) (length (P .levels)) then levelStepBy b (levelFill b) else stepped b Top))
+        (fit-bench b unasked f tt)
+
+    -- ---- a filled row
+
+    module _ (r : ℕ) (inside : r < P .rows) where
+      -- a filling is a row of symbols
+      pub filled-row : (row : List ℕ) → rowFill b r ≡ one row → (length row ≡ P .columns) × T (allBelow (size (P .field)) row)
+      unfolding rowFill
+      filled-row row e =
+          let cs = checksTo P (b .level) in
+          let target = sumsAt P (b .level) (b .sums) r in
+          let ms = marksAt P (b .marks) r in
+          let v = rowAt P (b .symbols) r in
+          let m = subst (Means (P .field) cs target ms v) e (fill-means (P .field) cs target ms v) in (
+            agrees-length (P .field) ms v row (m .1 .agrees) ∙ marks-length P (b .marks) r,
+            agrees-below (P .field) ms v row (f .row-fits r inside) (m .1 .agrees),
+          )
+
+      module _ (s : Sized b) where
+        -- the row's symbols and its marks stand inside the arrays
+        pub row-place : r * P .columns + P .columns ≤ length (b .symbols)
+        row-place = omega (arith, row-end (P .columns) inside, s .symbols, shape (b .plan) (f .plan-known) .symbols-le)
+
+        pub mark-place : r < length (b .marks)
+        mark-place = omega (arith, s .marks, shape (b .plan) (f .plan-known) .rows-le)
+
+        -- what stands in the bench once a row is put
+        module _ (row : List ℕ) (long : length row ≡ P .columns) where
+          pub put-mark : getD (putRow b r row .marks) r 0 ≡ 0
+          unfolding putRow
+          put-mark = getD-set-same (b .marks) r 0 0 mark-place
+
+          pub put-mark-other : (k : ℕ) → k ≢ r → getD (putRow b r row .marks) k 0 ≡ getD (b .marks) k 0
+          unfolding putRow
+          put-mark-other k ne = getD-set-other (b .marks) r k 0 0 ne
+
+          pub put-row : rowAt P (putRow b r row .symbols) r ≡ row
+          unfolding putRow
+          put-row = row-same P r row (b .symbols) long row-place
+
+          pub put-row-other : (k : ℕ) → k ≢ r → rowAt P (putRow b r row .symbols) k ≡ rowAt P (b .symbols) k
+          unfolding putRow
+          put-row-other k ne = row-other P r row (b .symbols) long k ne
+
+          pub fit-put : T (allBelow (size (P .field)) row) → BenchFit (putRow b r row)
+          unfolding putRow marksAt
+          fit-put below = record {
+            plan-known = f .plan-known;
+            level-pos = f .level-pos;
+            level-le = f .level-le;
+            mark-lt =
+                of-rows (λ k. getD (putRow b r row .marks) k 0 < 2 ^ P .columns) r (rw put-mark (pow-pos (P .columns)))
+                (λ k l ne. rw (put-mark-other k ne) (f .mark-lt k l));
+            row-fits =
+                of-rows (λ k. RowFits P (putRow b r row .marks) (putRow b r row .symbols) k) r
+                (rw put-row (unmarked-below (size (P .field)) (marksAt P (putRow b r row .marks) r) row below))
+                (λ k l ne. rw (put-mark-other k ne, put-row-other k ne) (f .row-fits k l));
+            sums-fits = f .sums-fits;
+          }
+
+    -- ---- a learned level
+
+    pub learned-ones : (cs : List (List ℕ)) → levelFill b ≡ learned cs → Ones (totalFill b L) (L .checks) cs
+    unfolding levelFill
+    learned-ones cs e = joined-ones (totalFill b L) (L .checks) cs e
+
+    pub learned-length : (cs : List (List ℕ)) → levelFill b ≡ learned cs → length cs ≡ length (L .checks)
+    learned-length cs e = ones-length (totalFill b L) (L .checks) cs (learned-ones cs e)
+
+    -- the sums that a row learns are symbols
+    learned-below : (cs : List (List ℕ)) → levelFill b ≡ learned cs → (r : ℕ) → T (allBelow (size (P .field)) (learnedAt cs r))
+    unfolding allBelow
+    learned-below cs e =
+        ones-below (totalFill b L) (size (P .field)) (size-pos (P .field)) symbols (L .checks) cs (learned-ones cs e)
+      where
+        symbols : (c v : List ℕ) → totalFill b L c ≡ one v → T (allBelow (size (P .field)) v)
+        symbols c v e =
+            let ws = L .weights in
+            let ms = lossy P (b .marks) in
+            let u = across P (b .symbols) c in
+            let m = subst (Means (P .field) ws (zeros ws) ms u) e (fill-means (P .field) ws (zeros ws) ms u) in
+            agrees-symbols (P .field) ms u v (across-below P (plan-field (b .plan) (f .plan-known)) (b .symbols) c) (m .1 .agrees)
+
+    module _ (s : Sized b) (low : b .level < length (P .levels)) (cs : List (List ℕ)) (count : length cs ≡ length (L .checks)) where
+      -- row r's sums once the level is learned: the old ones, then the new
+      pub raise-sums : (r : ℕ) → r < P .rows → sumsAt P (suc (b .level)) (raise b cs .sums) r ≡ sumsAt P (b .level) (b .sums) r ++ learnedAt cs r
+      unfolding raise
+      raise-sums r inside =
+          let sh = shape (b .plan) (f .plan-known) in
+          sums-learned P (b .level) cs (b .sums) r low count (omega (arith, checks-le P low, sh .sums-le))
+          (omega (arith, sh .rows-le, s .sums)) inside
+
+      pub fit-raise : ((r : ℕ) → r < P .rows → T (allBelow (size (P .field)) (learnedAt cs r))) → BenchFit (raise b cs)
+      unfolding raise allBelow
+      fit-raise below = record {
+        plan-known = f .plan-known;
+        level-pos = zero-lt-suc (b .level);
+        level-le = low;
+        mark-lt = f .mark-lt;
+        row-fits = f .row-fits;
+        sums-fits = λ r h.
+            rw (raise-sums r h)
+            (all-append (λ x. ltb x (size (P .field))) (sumsAt P (b .level) (b .sums) r) (learnedAt cs r) (f .sums-fits r h) (below r h));
+      }
+
+  module _ (s : Sound b) where
+    -- ---- steps leave a sound bench sound
+
+    pub sound-put : (r : ℕ) (row : List ℕ) → r < P .rows → rowFill b r ≡ one row → Sound (putRow b r row)
+    sound-put r row h e =
+        let g = filled-row (s .fit) r h row e in
+        record { fit = fit-put (s .fit) r h (s .sized) row (g .0) (g .1); sized = sized-put (s .sized) r row }
+
+    pub sound-raise : (cs : List (List ℕ)) → b .level < length (P .levels) → levelFill b ≡ learned cs → Sound (raise b cs)
+    sound-raise cs low e = record {
+      fit = fit-raise (s .fit) (s .sized) low cs (learned-length (s .fit) cs e) (λ r h. learned-below (s .fit) cs e r);
+      sized = sized-raise (s .sized) cs;
+    }
+
+    pub sound-row : (r : ℕ) → Sound (rowStep b r .bench)
+    unfolding rowStepBy stepped
+    sound-row r =
+        elim (either (ltb r (P .rows))) [
+          | inl t ↦ let h = ltb→lt r (P .rows) t in subst (λ c. Sound (c .bench)) (sym (row-step (s .fit) r h)) (go h (rowFill b r) refl)
+          | inr t ↦ subst Sound (sym (row-outside r (nltb→le r (P .rows) t))) s
+        ]
+      where
+        go : r < P .rows → (a : Fill) → rowFill b r ≡ a → Sound (rowStepBy b r a .bench)
+        go h tied e = s
+        go h none e = s
+        go h (one row) e = sound-put r row h e
+
+    pub sound-level : Sound (levelStep b .bench)
+    unfolding if_then_else_ levelStepBy stepped
+    sound-level =
+        subst (λ c. Sound (c .bench)) (sym (level-step (s .fit))) (go (ltb (b .level) (length (P .levels))) refl (levelFill b) refl)
+      where
+        go : (c : Bool) → ltb (b .level) (length (P .levels)) ≡ c → (l : Learned) → levelFill b ≡ l
+            → Sound ((if c then levelStepBy b l else stepped b Top) .bench)
+        go false q l e = s
+        go true q blocked e = s
+        go true q failing e = s
+        go true q (learned cs) e = sound-raise cs (ltb-true (b .level) (length (P .levels)) q) e

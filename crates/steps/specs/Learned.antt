@@ -1,0 +1,36 @@
+-- What learning a level answers and leaves, as the definition has it.
+use Prim.Native.Nat.{ℕ, suc, _*_}
+use mathlib.Core.Bool.{Bool}
+use mathlib.Core.List.{List}
+use lib.ListN.{take, drop}
+use Rattle.linear.specs.Lists.{zeros}
+use Rattle.linear.specs.Fill.{Fill, fill}
+use Rattle.plans.specs.Plan.{Plan, levelOf, across}
+use Rattle.steps.specs.Steps.{Learned, blocked, failing, learned, raise}
+use Rattle.plans.specs.Tables.{checkTable}
+use Rattle.plans.specs.declared.Bench.{Bench}
+use Rattle.steps.specs.declared.level.Learning.{Learning}
+use Rattle.steps.specs.declared.level.Learning.the-variants.{Blocked, Failing, Learned as AllLearned}
+
+-- the rows' sums under check j of all checks
+unfoldable pub columnOf : Plan → (symbols : List ℕ) → (j : ℕ) → List ℕ
+columnOf P symbols j = across P symbols (take (P .columns) (drop (j * P .columns) (checkTable P)))
+
+-- they are filled by the weights of level t + 1
+unfoldable pub columnFill : Plan → (t : ℕ) → (symbols : List ℕ) → (lossy : List Bool) → (j : ℕ) → Fill
+columnFill P t symbols ms j = let L = levelOf P (suc t) in fill (P .field) (L .weights) (zeros (L .weights)) ms (columnOf P symbols j)
+
+-- the bench of these parts
+abbrev pub benchOf : (plan level : ℕ) → (symbols marks sums : List ℕ) → Bench
+benchOf plan level symbols marks sums = record { plan = plan; level = level; symbols = symbols; marks = marks; sums = sums }
+
+unfoldable pub learningOf : Learned → Learning
+learningOf blocked = Blocked
+learningOf failing = Failing
+learningOf (learned cs) = AllLearned
+
+-- the sums afterwards: learned, or as they were
+unfoldable pub sumsAfter : Bench → Learned → List ℕ
+sumsAfter b blocked = b .sums
+sumsAfter b failing = b .sums
+sumsAfter b (learned cs) = raise b cs .sums

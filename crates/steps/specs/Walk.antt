@@ -1,0 +1,40 @@
+-- What the code of a round's rows says, in terms of the turns.
+use Prim.Native.Nat.{ℕ, pred, _+_, _≤_, _<_}
+use mathlib.Core.Path.{_≡_}
+use mathlib.Core.List.{List}
+use lib.Dec.{ltb}
+use lib.ListN.{length, getD, set}
+use Rattle.field.specs.Lists.{if_then_else_}
+use Rattle.linear.specs.Marks.{bitsOf}
+use Rattle.linear.specs.Fill.{Fill, fill}
+use Rattle.plans.specs.Plan.{Plan, planOf, checksTo, rowAt}
+use Rattle.plans.specs.Refusal.{sumsAt, benchRefusal, unasked}
+use Rattle.steps.specs.Rounds.{Standing, clash, turns}
+use Rattle.plans.specs.declared.Bench.{Bench}
+use Rattle.plans.specs.declared.Place.the-variants.{Row}
+
+-- a bench's arrays are as long as the code's
+abbrev pub Arrays : Bench → Type 0
+Arrays b = (length (b .symbols) ≡ 256) × (length (b .marks) ≡ 8) × (length (b .sums) ≡ 128)
+
+abbrev pub standingOf : Bench → (turn : ℕ) → (restored : List ℕ) → Standing
+standingOf b turn restored = record { bench = b; turn = turn; restored = restored }
+
+-- the fill of row r, whose marks are `word`, by the checks of levels 1 to t and its learned sums
+abbrev pub fillAt : Plan → (t : ℕ) → (sums : List ℕ) → (word : ℕ) → (symbols : List ℕ) → (r : ℕ) → Fill
+fillAt P t sums word symbols r =
+    fill (P .field) (checksTo P t) (sumsAt P t sums r) (bitsOf (P .columns) word) (rowAt P symbols r)
+
+-- k rows more restored at level t
+unfoldable pub more : (t k : ℕ) → List ℕ → List ℕ
+more t k restored = set restored (pred t) (getD restored (pred t) 0 + k)
+
+-- the row turns of a round lead from bench b to bench c and to the level step's turn; or to a Clash in row `row`, which is below R
+pub record Walked (b c : Bench) (row filled : ℕ) : Type 0 where
+  pub fit : benchRefusal c unasked ≡ 0
+  pub sized : Arrays c
+  pub upto : row ≤ planOf (b .plan) .rows
+  pub few : filled ≤ planOf (b .plan) .rows
+  pub turned : (n : ℕ) (restored : List ℕ) → pred (b .level) < length restored
+      → turns (planOf (b .plan) .rows + n) (standingOf b 0 restored)
+      ≡ (if ltb row (planOf (b .plan) .rows) then clash (Row row (b .level)) else turns n (standingOf c (planOf (b .plan) .rows) (more (b .level) filled restored)))
