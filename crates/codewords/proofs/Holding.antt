@@ -1,11 +1,11 @@
 -- The tests of the codeword test, each as a walk over rows, checks or levels. Assumes nothing.
-use mathlib.Core.Path.{_≡_, refl, sym, ap, ap₂, _∙_}
+use mathlib.Core.Path.{_≡_, refl, sym, ap, ap₂, _∙_, subst}
 use mathlib.Core.Bool.{Bool, true, false, _&&_}
 use mathlib.Core.List.{List, [], _∷_, map, map-map, flatMap}
 use Prim.Native.Nat.{ℕ, suc, _+_, _*_, _-_, _≤_, _<_}
 use native.Mathlib.Omega.{arith}
 use borrow.Author.Tests.{eqb-true, eq-eqb, ne-eqb}
-use lib.Dec.{eqb}
+use lib.Dec.{T, eqb}
 use lib.ListN.{length, getD, take, drop}
 use Rattle.field.specs.Lists.{if_then_else_, upFrom}
 use Rattle.field.specs.Field.{Field, dot}
@@ -13,7 +13,7 @@ use Rattle.field.specs.Ours.{fieldOf}
 use Rattle.linear.specs.Lists.{all, vanish}
 use Rattle.linear.specs.Marks.{rowsOf}
 use Rattle.linear.specs.Fill.{sumsOf}
-use Rattle.plans.specs.Plan.{Plan, Level, planOf, noLevel, levelOf, checksTo, rowAt, across}
+use Rattle.plans.specs.Plan.{Plan, Level, known, planOf, noLevel, levelOf, checksTo, rowAt, across}
 use Rattle.plans.specs.Refusal.{inMemory, stripeFits}
 use Rattle.codewords.specs.Codeword.{rowsHold, totalsHold, isCodeword, testRefusal, tested}
 use Rattle.plans.specs.declared.Verdict.the-variants.{Yes, No, Refused}
@@ -224,6 +224,10 @@ module _ (P : Plan) (stripe : List ℕ) {a : Bool} (rows : a ≡ rowsHold P stri
   pub holds-by : a ≡ true → {b : Bool} → b ≡ all (totalsHold P stripe) (drop 1 (P .levels)) → b ≡ isCodeword P stripe
   unfolding isCodeword
   holds-by t levels = levels ∙ ap (λ b. b && all (totalsHold P stripe) (drop 1 (P .levels))) (sym t ∙ rows)
+
+pub test-known : (p : ℕ) (stripe : List ℕ) → testRefusal p stripe ≡ 0 → T (known p)
+unfolding inMemory testRefusal
+test-known p stripe e = subst T (sym (passed 10 _ _ (λ z. omega arith) e .0)) tt
 
 pub test-length : (p : ℕ) (stripe : List ℕ) → testRefusal p stripe ≡ 0 → length stripe ≡ planOf p .rows * planOf p .columns
 unfolding inMemory stripeFits testRefusal

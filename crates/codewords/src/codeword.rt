@@ -4,12 +4,13 @@ use plans::refusal;
 use plans::sums;
 ghost use mathlib.Core.Path.{_≡_};
 ghost use Prim.Native.Nat.{suc, _*_, _<_, _≤_};
+ghost use lib.Dec.{T};
 ghost use lib.ListN.{length, drop};
 ghost use Rattle.field.specs.Ours.{fieldOf, products};
 ghost use Rattle.linear.specs.Lists.{all, vanish};
 ghost use Rattle.linear.specs.Fill.{sumsOf};
 ghost use Rattle.linear.specs.Marks.{rowsOf};
-ghost use Rattle.plans.specs.Plan.{planOf, levelOf};
+ghost use Rattle.plans.specs.Plan.{planOf, known, levelOf};
 ghost use Rattle.codewords.specs.Codeword.{rowsHold, totalsHold, isCodeword, testRefusal};
 ghost use Rattle.plans.specs.Tables.{checkTable};
 
@@ -111,15 +112,32 @@ pub fn levels_hold(plan: usize, table: &[u8; 256], checks: &[u8], stripe: &[u8])
     true
 }
 
-// Whether a stripe of the plan's length is a codeword.
-pub fn holds(plan: usize, stripe: &[u8]) -> bool
+// Whether a stripe of the plan's length is a codeword, by the plan's table of row checks.
+fn holds_by(plan: usize, table: &[u8; 256], checks: &[u8], stripe: &[u8]) -> bool
+    requires { ⌜ (now table ≡ products) × (now checks ≡ checkTable (planOf plan)) ⌝ }
     requires { ⌜ planOf plan .rows * planOf plan .columns ≤ length (now stripe) ⌝ }
     ensures { λ r. ⌜ r ≡ isCodeword (planOf plan) (now (stripe .entry)) ⌝ }
 {
-    let table = field::products();
-    let checks = plan::row_checks(plan);
-    if !rows_hold(plan, &table, &checks, stripe) {
+    if !rows_hold(plan, table, checks, stripe) {
         return false;
     }
-    levels_hold(plan, &table, &checks, stripe)
+    levels_hold(plan, table, checks, stripe)
+}
+
+// Whether a stripe of the plan's length is a codeword. Each plan has a call of its own, whose loops are compiled for its sizes.
+pub fn holds(plan: usize, stripe: &[u8]) -> bool
+    requires { ⌜ T (known plan) × (planOf plan .rows * planOf plan .columns ≤ length (now stripe)) ⌝ }
+    ensures { λ r. ⌜ r ≡ isCodeword (planOf plan) (now (stripe .entry)) ⌝ }
+{
+    let table = field::products();
+    if plan == 1 {
+        let checks = plan::row_checks_1();
+        return holds_by(1, &table, &checks, stripe);
+    }
+    if plan == 2 {
+        let checks = plan::row_checks_2();
+        return holds_by(2, &table, &checks, stripe);
+    }
+    let checks = plan::row_checks_3();
+    holds_by(3, &table, &checks, stripe)
 }

@@ -1,4 +1,6 @@
 -- What the proofs use of the three plans' sizes, by computation, once. Assumes nothing.
+use mathlib.Core.Path.{_≡_, refl}
+use mathlib.Core.Logic.{_≢_}
 use mathlib.Core.List.{flatMap}
 use Prim.Native.Nat.{ℕ, zero, suc, _*_, _<_, _≤_}
 use native.Mathlib.Omega.{arith}
@@ -9,7 +11,7 @@ use Rattle.field.proofs.Test.{both-right}
 use Rattle.field.proofs.Laws.{IsField}
 use Rattle.field.proofs.Fields.{gf2-field, gf16-field}
 use Rattle.linear.specs.Lists.{all}
-use Rattle.plans.specs.Plan.{Plan, Level, ones, bitChecks, locations1, plan1, locations2, powers2, plan2, locations3, powers3, plan3, known, planOf, checksTo}
+use Rattle.plans.specs.Plan.{Plan, Level, ones, bitChecks, locations1, plan1, locations2, powers2, plan2, locations3, powers3, plan3, noPlan, known, planOf, checksTo}
 use Rattle.plans.specs.Refusal.{room}
 
 -- what holds of 1, 2 and 3 holds of every known number
@@ -22,6 +24,19 @@ of-known Q q1 q2 q3 (suc (suc (suc zero))) t = q3
 of-known Q q1 q2 q3 (suc (suc (suc (suc p)))) t =
     let n = suc (suc (suc (suc p))) in
     let h : n < 4 = ltb→lt n 4 (both-right (ltb 0 n) (ltb n 4) t) in absurd (omega arith)
+
+-- a known number that is neither 1 nor 2
+pub third : (p : ℕ) → T (known p) → p ≢ 1 → p ≢ 2 → p ≡ 3
+third = of-known (λ p. p ≢ 1 → p ≢ 2 → p ≡ 3) (λ n1 _. absurd (n1 refl)) (λ _ n2. absurd (n2 refl)) (λ _ _. refl)
+
+-- a plan that has levels is known
+pub levels-known : (p t : ℕ) → t < length (planOf p .levels) → T (known p)
+unfolding noPlan planOf known
+levels-known zero t l = absurd (omega arith)
+levels-known (suc zero) t l = tt
+levels-known (suc (suc zero)) t l = tt
+levels-known (suc (suc (suc zero))) t l = tt
+levels-known (suc (suc (suc (suc p)))) t l = absurd (omega arith)
 
 -- our plans fit our benches
 pub record Shape (P : Plan) : Type 0 where

@@ -2,11 +2,11 @@
 use mathlib.Core.Path.{_≡_, refl, sym, ap, _∙_}
 use mathlib.Core.Bool.{true}
 use mathlib.Core.List.{List}
-use Prim.Native.Nat.{ℕ, _*_, _<_}
+use Prim.Native.Nat.{ℕ, _+_, _*_, _≤_, _<_}
 use native.Mathlib.Omega.{arith}
 use borrow.Author.Tests.{eq-eqb, ne-eqb}
 use lib.Dec.{eqb, ltb, ltb→lt}
-use lib.ListN.{getD, set}
+use lib.ListN.{length, getD, set}
 use lib.Seq.{sets}
 use Rattle.field.specs.Lists.{if_then_else_}
 use Rattle.linear.specs.Marks.{answerOf, vectorOf}
@@ -19,27 +19,41 @@ use Rattle.steps.specs.Steps.{stepped, unlessRefused, rowFill, putRow, r
 use Rattle.steps.specs.Learned.{benchOf}
 use Rattle.plans.specs.declared.Bench.{Bench}
 use Rattle.plans.specs.declared.Step.the-variants.{Whole, Filled, Tied, Clash, Refused}
+use Rattle.plans.proofs.Rows.{row-length, row-again}
 use Rattle.steps.proofs.Fit.{bench-fit, fit-bench}
 use Rattle.steps.proofs.Learning.{is-refused, is-taken}
 
 module _ (b : Bench) (r : ℕ) (a : Outcome) (e : a ≡ answerOf (rowFill b r)) where
-  pub stepping-tied : a ≡ TiedFill → stepped b Tied ≡ rowStepBy b r (rowFill b r)
-  unfolding answerOf rowStepBy
-  stepping-tied k = go (rowFill b r) (sym e ∙ k)
-    where
-      go : (f : Fill) → answerOf f ≡ TiedFill → stepped b Tied ≡ rowStepBy b r f
-      go tied h = refl
-      go none h = let z : _≡_ {A = ℕ} 0 1 = cc in absurd (omega arith)
-      go (one w) h = let z : _≡_ {A = ℕ} 0 1 = cc in absurd (omega arith)
+  -- nothing is filled: the symbols are as they were
+  module _ (symbols : List ℕ) (place : r * planOf (b .plan) .columns + planOf (b .plan) .columns ≤ length (b .symbols))
+      (l : symbols ≡ sets (b .symbols) (r * planOf (b .plan) .columns) (vectorOf (rowFill b r) (rowAt (planOf (b .plan)) (b .symbols) r))) where
+    abbrev left : Bench
+    left = benchOf (b .plan) (b .level) symbols (b .marks) (b .sums)
 
-  pub stepping-none : a ≡ None → stepped b Clash ≡ rowStepBy b r (rowFill b r)
-  unfolding answerOf rowStepBy
-  stepping-none k = go (rowFill b r) (sym e ∙ k)
-    where
-      go : (f : Fill) → answerOf f ≡ None → stepped b Clash ≡ rowStepBy b r f
-      go tied h = let z : _≡_ {A = ℕ} 0 1 = cc in absurd (omega arith)
-      go none h = refl
-      go (one w) h = let z : _≡_ {A = ℕ} 0 1 = cc in absurd (omega arith)
+    unfilled : (f : Fill) → rowFill b r ≡ f → vectorOf f (rowAt (planOf (b .plan)) (b .symbols) r) ≡ rowAt (planOf (b .plan)) (b .symbols) r → left ≡ b
+    unfilled f q e =
+        let P = planOf (b .plan) in
+        ap (λ s. benchOf (b .plan) (b .level) s (b .marks) (b .sums))
+        (l ∙ ap (λ g. sets (b .symbols) (r * P .columns) (vectorOf g (rowAt P (b .symbols) r))) q ∙ ap (sets (b .symbols) (r * P .columns)) e
+        ∙ row-again P r (rowAt P (b .symbols) r) (b .symbols) (row-length P (b .symbols) r place) place refl)
+
+    pub stepping-tied : a ≡ TiedFill → stepped left Tied ≡ rowStepBy b r (rowFill b r)
+    unfolding answerOf vectorOf rowStepBy
+    stepping-tied k = go (rowFill b r) refl (sym e ∙ k)
+      where
+        go : (f : Fill) → rowFill b r ≡ f → answerOf f ≡ TiedFill → stepped left Tied ≡ rowStepBy b r f
+        go tied q h = ap (λ x. stepped x Tied) (unfilled tied q refl)
+        go none q h = let z : _≡_ {A = ℕ} 0 1 = cc in absurd (omega arith)
+        go (one w) q h = let z : _≡_ {A = ℕ} 0 1 = cc in absurd (omega arith)
+
+    pub stepping-none : a ≡ None → stepped left Clash ≡ rowStepBy b r (rowFill b r)
+    unfolding answerOf vectorOf rowStepBy
+    stepping-none k = go (rowFill b r) refl (sym e ∙ k)
+      where
+        go : (f : Fill) → rowFill b r ≡ f → answerOf f ≡ None → stepped left Clash ≡ rowStepBy b r f
+        go tied q h = let z : _≡_ {A = ℕ} 0 1 = cc in absurd (omega arith)
+        go none q h = ap (λ x. stepped x Clash) (unfilled none q refl)
+        go (one w) q h = let z : _≡_ {A = ℕ} 0 1 = cc in absurd (omega arith)
 
   module _ (symbols : List ℕ) (k : a ≡ One)
       (l : symbols ≡ sets (b .symbols) (r * planOf (b .plan) .columns) (vectorOf (rowFill b r) (rowAt (planOf (b .plan)) (b .symbols) r))) where

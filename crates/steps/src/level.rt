@@ -119,6 +119,36 @@ pub fn learn<'a>(
     Learning::Learned
 }
 
+// Learns as `learn` does, by the plan's own table. Each plan has a call of its own, whose loops are compiled for its sizes.
+fn learn_by_plan<'a>(
+    plan: usize,
+    level: usize,
+    symbols: &'a [u8; 256],
+    marks: &'a [u32; 8],
+    sums: &mut [u8; 128],
+) -> Learning
+    requires { ⌜ level < length (planOf plan .levels) ⌝ }
+    ensures { λ r. ⌜ r ≡ learningOf (levelFill (benchOf plan level (now (symbols .entry)) (now (marks .entry)) (now (sums .entry)))) ⌝ }
+    ensures { λ _.
+        ⌜
+        now (sums .exit)
+        ≡ sumsAfter (benchOf plan level (now (symbols .entry)) (now (marks .entry)) (now (sums .entry)))
+        (levelFill (benchOf plan level (now (symbols .entry)) (now (marks .entry)) (now (sums .entry))))
+        ⌝ }
+{
+    let table = field::products();
+    if plan == 1 {
+        let checks = plan::row_checks_1();
+        return learn(1, level, &table, &checks, symbols, marks, sums);
+    }
+    if plan == 2 {
+        let checks = plan::row_checks_2();
+        return learn(2, level, &table, &checks, symbols, marks, sums);
+    }
+    let checks = plan::row_checks_3();
+    learn(3, level, &table, &checks, symbols, marks, sums)
+}
+
 // The level step of a fit bench below the last level.
 pub fn raise(bench: Bench) -> Stepped
     requires { ⌜ bench .level < length (planOf (bench .plan) .levels) ⌝ }
@@ -126,18 +156,8 @@ pub fn raise(bench: Bench) -> Stepped
 {
     let plan = bench.plan;
     let level = bench.level;
-    let table = field::products();
-    let checks = plan::row_checks(plan);
     let mut sums = bench.sums;
-    let learning = learn(
-        plan,
-        level,
-        &table,
-        &checks,
-        &bench.symbols,
-        &bench.marks,
-        &mut sums,
-    );
+    let learning = learn_by_plan(plan, level, &bench.symbols, &bench.marks, &mut sums);
     match learning {
         Learning::Blocked => Stepped {
             bench: bench,

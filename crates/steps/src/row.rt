@@ -14,7 +14,7 @@ ghost use Rattle.linear.specs.Marks.{answerOf, vectorOf};
 ghost use Rattle.linear.specs.Fill.{sumsOf};
 ghost use Rattle.plans.specs.Plan.{planOf, known, checksTo, rowAt};
 ghost use Rattle.plans.specs.Refusal.{sumsFit, benchRefusal, unasked};
-ghost use Rattle.steps.specs.Steps.{rowFill, rowStepBy};
+ghost use Rattle.steps.specs.Steps.{stepped, rowFill, rowStepBy};
 ghost use Rattle.plans.specs.Tables.{checkTable};
 ghost use Rattle.steps.specs.Learned.{benchOf};
 ghost use Rattle.steps.specs.Walk.{Arrays, fillAt, Walked};
@@ -148,7 +148,60 @@ pub fn walk_rows(
     Walk { row: clash, filled }
 }
 
-// The row step on a row of a bench that nothing is refused of.
+// Fills a row as `fill_row` does, by the plan's own table. Each plan has a call of its own, whose loops are compiled for its sizes.
+fn fill_by_plan(
+    plan: usize,
+    level: usize,
+    symbols: &mut [u8],
+    word: u32,
+    sums: &[u8],
+    row: usize,
+) -> linear::Outcome
+    requires { ⌜ T (known plan) × (row < planOf plan .rows) × (word < 2 ^ planOf plan .columns) × T (sumsFit (planOf plan) level (now sums)) ⌝ }
+    requires { ⌜ (length (now symbols) ≡ 256) × (length (now sums) ≡ 128) ⌝ }
+    ensures { λ r. ⌜ r ≡ answerOf (fillAt (planOf plan) level (now (sums .entry)) word (now (symbols .entry)) row) ⌝ }
+    ensures { λ _.
+        ⌜
+        now (symbols .exit)
+        ≡ sets (now (symbols .entry)) (row * planOf plan .columns)
+        (vectorOf (fillAt (planOf plan) level (now (sums .entry)) word (now (symbols .entry)) row) (rowAt (planOf plan) (now (symbols .entry)) row))
+        ⌝ }
+{
+    let table = field::products();
+    if plan == 1 {
+        let checks = plan::row_checks_1();
+        return fill_row(1, level, &table, &checks, symbols, word, sums, row);
+    }
+    if plan == 2 {
+        let checks = plan::row_checks_2();
+        return fill_row(2, level, &table, &checks, symbols, word, sums, row);
+    }
+    let checks = plan::row_checks_3();
+    fill_row(3, level, &table, &checks, symbols, word, sums, row)
+}
+
+// A step's answer and the bench of these parts.
+fn after_step(
+    plan: usize,
+    level: usize,
+    symbols: [u8; 256],
+    marks: [u32; 8],
+    sums: [u8; 128],
+    answer: Step,
+) -> Stepped
+    ensures { λ r. ⌜ r ≡ stepped (benchOf plan level symbols marks sums) answer ⌝ }
+{
+    let bench = Bench {
+        plan: plan,
+        level: level,
+        symbols: symbols,
+        marks: marks,
+        sums: sums,
+    };
+    Stepped { bench: bench, answer: answer }
+}
+
+// The row step on a row of a bench that nothing is refused of. Its symbols change only where the row is filled.
 pub fn step_row(bench: Bench, row: usize) -> Stepped
     requires { ⌜ (benchRefusal bench unasked ≡ 0) × (row < planOf (bench .plan) .rows) ⌝ }
     ensures { λ r. ⌜ r ≡ rowStepBy bench row (rowFill bench row) ⌝ }
@@ -159,45 +212,15 @@ pub fn step_row(bench: Bench, row: usize) -> Stepped
     let mut marks = bench.marks;
     let sums = bench.sums;
     let word = marks[row];
-    let table = field::products();
-    let checks = plan::row_checks(plan);
-    match fill_row(
-        plan,
-        level,
-        &table,
-        &checks[..],
-        &mut symbols[..],
-        word,
-        &sums[..],
-        row,
-    ) {
-        linear::Outcome::Tied => Stepped {
-            bench: bench,
-            answer: Step::Tied,
-        },
-        linear::Outcome::None => Stepped {
-            bench: bench,
-            answer: Step::Clash,
-        },
+    match fill_by_plan(plan, level, &mut symbols[..], word, &sums[..], row) {
+        linear::Outcome::Tied => after_step(plan, level, symbols, marks, sums, Step::Tied),
+        linear::Outcome::None => after_step(plan, level, symbols, marks, sums, Step::Clash),
         linear::Outcome::One => {
             marks[row] = 0;
-            let filled = Bench {
-                plan: plan,
-                level: level,
-                symbols: symbols,
-                marks: marks,
-                sums: sums,
-            };
             if word == 0 {
-                return Stepped {
-                    bench: filled,
-                    answer: Step::Whole,
-                };
+                return after_step(plan, level, symbols, marks, sums, Step::Whole);
             }
-            Stepped {
-                bench: filled,
-                answer: Step::Filled,
-            }
+            after_step(plan, level, symbols, marks, sums, Step::Filled)
         }
     }
 }

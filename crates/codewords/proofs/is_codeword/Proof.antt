@@ -3,7 +3,7 @@ use mathlib.Core.Path.{sym, _∙_}
 use native.Mathlib.Nat.{le-of-eq}
 use borrow.Author.Needs.{needs}
 use borrow.Author.Tests.{not-true, not-false}
-use Rattle.codewords.proofs.Holding.{test-length, tested-refused, tested-yes, tested-no}
+use Rattle.codewords.proofs.Holding.{test-known, test-length, tested-refused, tested-yes, tested-no}
 use Rattle.codewords.proofs.is_codeword.Statement.{statement}
 use Rattle.codewords.proofs.is_codeword.Tie as tie
 
@@ -14,7 +14,7 @@ returns : tie.Need-returns
 returns c = tested-refused _ _ (c .before .test-refusal .ensures) (c .if1 .taken)
 
 holds-requires : tie.Need-holds-requires
-holds-requires c κs = le-of-eq (sym (test-length _ _ (sym (c .before .test-refusal .ensures) ∙ c .if1 .left)))
+holds-requires c κs = let fit = sym (c .before .test-refusal .ensures) ∙ c .if1 .left in (test-known _ _ fit, le-of-eq (sym (test-length _ _ fit)))
 
 returns-2 : tie.Need-returns-2
 returns-2 c = tested-yes _ _ (c .before .before .before .test-refusal .ensures) (c .before .before .if1 .left) (c .before .holds .ensures) (c .if2 .taken)

@@ -1,35 +1,75 @@
 -- `codeword::holds` meets its contract. Assumes nothing.
+use mathlib.Core.Path.{sym, ap, _∙_, subst}
+use mathlib.Core.List.{List}
+use Prim.Native.Nat.{ℕ, _*_, _≤_}
 use borrow.Author.Needs.{needs}
-use borrow.Author.Tests.{not-true, not-false}
-use Rattle.codewords.proofs.Holding.{holds-not, holds-by}
+use lib.ListN.{length}
+use Rattle.plans.specs.Plan.{planOf}
+use Rattle.plans.proofs.Shape.{third}
+use Rattle.codewords.specs.Codeword.{isCodeword}
 use Rattle.codewords.proofs.codeword.holds.Statement.{statement}
 use Rattle.codewords.proofs.codeword.holds.Tie as tie
+
+-- the stripe has the plan's symbols
+abbrev Sized : ℕ → List ℕ → Type 0
+Sized p stripe = planOf p .rows * planOf p .columns ≤ length stripe
 
 products-requires : tie.Need-products-requires
 products-requires c κs = search needs
 
-row-checks-requires : tie.Need-row-checks-requires
-row-checks-requires c κs = search needs
+row-checks-1-requires : tie.Need-row-checks-1-requires
+row-checks-1-requires c κs = search needs
 
-slice-aggregate-rows-hold : tie.Need-slice-aggregate-rows-hold
-slice-aggregate-rows-hold c = search needs
+slice-aggregate-holds-by : tie.Need-slice-aggregate-holds-by
+slice-aggregate-holds-by c = search needs
 
-rows-hold-requires : tie.Need-rows-hold-requires
-rows-hold-requires c κs = ((c .before .before .before .products .ensures, c .before .before .row-checks .ensures), c .before .before .before .before .before .pre)
+holds-by-requires : tie.Need-holds-by-requires
+holds-by-requires c κs = let s = c .before .before .before .before .before .before in
+    ((c .before .before .before .before .products .ensures, c .before .before .row-checks-1 .ensures), subst (λ p. Sized p (s .args .stripe .now)) (c .before .before .before .if1 .taken) (s .pre .1))
 
 returns : tie.Need-returns
-returns c = holds-not _ _ (c .before .rows-hold .ensures) (not-true _ (c .if1 .taken))
+returns c = c .holds-by .ensures ∙ ap (λ p. isCodeword (planOf p) (c .before .before .before .before .before .before .before .args .stripe .now)) (sym (c .before .before .before .before .if1 .taken))
 
-slice-aggregate-levels-hold : tie.Need-slice-aggregate-levels-hold
-slice-aggregate-levels-hold c = search needs
+row-checks-2-requires : tie.Need-row-checks-2-requires
+row-checks-2-requires c κs = search needs
 
-levels-hold-requires : tie.Need-levels-hold-requires
-levels-hold-requires c κs = let lent = c .before .before .before .before .before .before in ((lent .before .products .ensures, lent .row-checks .ensures), lent .before .before .before .pre)
+slice-aggregate-holds-by-2 : tie.Need-slice-aggregate-holds-by-2
+slice-aggregate-holds-by-2 c = search needs
+
+holds-by-requires-2 : tie.Need-holds-by-requires-2
+holds-by-requires-2 c κs = let s = c .before .before .before .before .before .before .before in
+    ((c .before .before .before .before .before .products .ensures, c .before .before .row-checks-2 .ensures), subst (λ p. Sized p (s .args .stripe .now)) (c .before .before .before .if2 .taken) (s .pre .1))
 
 returns-2 : tie.Need-returns-2
-returns-2 c = holds-by _ _ (c .before .before .before .before .rows-hold .ensures) (not-false _ (c .before .before .before .if1 .left)) (c .levels-hold .ensures)
+returns-2 c = c .holds-by2 .ensures ∙ ap (λ p. isCodeword (planOf p) (c .before .before .before .before .before .before .before .before .args .stripe .now)) (sym (c .before .before .before .before .if2 .taken))
+
+row-checks-3-requires : tie.Need-row-checks-3-requires
+row-checks-3-requires c κs = search needs
+
+slice-aggregate-holds-by-3 : tie.Need-slice-aggregate-holds-by-3
+slice-aggregate-holds-by-3 c = search needs
+
+holds-by-requires-3 : tie.Need-holds-by-requires-3
+holds-by-requires-3 c κs = let s = c .before .before .before .before .before .before .before in
+    ((c .before .before .before .before .before .products .ensures, c .before .before .row-checks-3 .ensures), subst (λ p. Sized p (s .args .stripe .now)) (third _ (c .before .before .before .before .before .before .before .pre .0) (c .before .before .before .before .if1 .left) (c .before .before .before .if2 .left)) (s .pre .1))
+
+returns-3 : tie.Need-returns-3
+returns-3 c = c .holds-by3 .ensures ∙ ap (λ p. isCodeword (planOf p) (c .before .before .before .before .before .before .before .before .args .stripe .now)) (sym (third _ (c .before .before .before .before .before .before .before .before .pre .0) (c .before .before .before .before .before .if1 .left) (c .before .before .before .before .if2 .left)))
 
 pub holds-spec : {M : Type 1} → statement M
 holds-spec =
     tie.close
-    (tie.spec products-requires row-checks-requires slice-aggregate-rows-hold rows-hold-requires returns slice-aggregate-levels-hold levels-hold-requires returns-2)
+    (tie.spec
+    products-requires
+    row-checks-1-requires
+    slice-aggregate-holds-by
+    holds-by-requires
+    returns
+    row-checks-2-requires
+    slice-aggregate-holds-by-2
+    holds-by-requires-2
+    returns-2
+    row-checks-3-requires
+    slice-aggregate-holds-by-3
+    holds-by-requires-3
+    returns-3)

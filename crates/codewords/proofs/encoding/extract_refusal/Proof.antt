@@ -1,11 +1,11 @@
 -- `encoding::extract_refusal` meets its contract: the tests in their order. Assumes nothing.
-use mathlib.Core.Path.{_≡_, refl, sym, ap, _∙_}
+use mathlib.Core.Path.{_≡_, refl, sym, ap, _∙_, subst}
 use mathlib.Core.Bool.{true, _&&_, and-comm}
 use native.Mathlib.Nat.{le-of-eq}
 use borrow.Author.Needs.{needs}
 use borrow.Author.Tests.{not-true, not-false, eqb-true}
 use denote.Ref.{now}
-use lib.Dec.{eqb}
+use lib.Dec.{T, eqb}
 use lib.ListN.{length}
 use Rattle.field.specs.Field.{size}
 use Rattle.field.proofs.Ring.{size-pos}
@@ -65,7 +65,8 @@ returns-3 c =
 
 holds-requires : tie.Need-holds-requires
 unfolding stripeFits
-holds-requires c κs = le-of-eq (sym (eqb-true _ _ (true-and _ _ (fit (c .before .before .before)) .0)))
+holds-requires c κs =
+    (subst T (sym (is-known (c .before .before .before .before .before))) tt, le-of-eq (sym (eqb-true _ _ (true-and _ _ (fit (c .before .before .before)) .0))))
 
 returns-4 : tie.Need-returns-4
 unfolding unasked inMemory extractRefusal
