@@ -14,8 +14,10 @@ ghost use Prim.Native.Nat.{suc, _*_, _≤_};
 ghost use lib.Dec.{eqb};
 ghost use lib.ListN.{length, getD, replicate};
 ghost use Rattle.field.specs.Lists.{upFrom};
+ghost use Rattle.field.specs.Ours.{products};
 ghost use Rattle.linear.specs.Lists.{only};
 ghost use Rattle.plans.specs.Plan.{planOf};
+ghost use Rattle.plans.specs.Tables.{checkTable};
 ghost use Rattle.plans.specs.Refusal.{lentRefusal};
 ghost use Rattle.repair.specs.Mending.{mended, bare, endReport};
 ghost use Rattle.steps.specs.Learned.{benchOf};
@@ -79,13 +81,12 @@ pub struct Mended {
     pub marks: [u32; 8],
 }
 
-// Rounds on a fresh bench of what was lent, until they stop.
-pub fn rounds(plan: usize, stripe: &[u8], words: &[u32]) -> Mended
+// Rounds on a fresh bench of what was lent, until they stop, by the plan's table of row checks.
+fn rounds_by(plan: usize, table: &[u8; 256], checks: &[u8], stripe: &[u8], words: &[u32]) -> Mended
+    requires { ⌜ (now table ≡ products) × (now checks ≡ checkTable (planOf plan)) ⌝ }
     requires { ⌜ lentRefusal plan (now stripe) (now words) ≡ 0 ⌝ }
     ensures { λ m. ⌜ Ended (mended plan (now (stripe .entry)) (now (words .entry))) (m .report) (m .symbols) (m .marks) ⌝ }
 {
-    let table = field::products();
-    let checks = plan::row_checks(plan);
     let rows = plan::rows(plan);
     let levels = plan::levels(plan);
     let mut symbols = copies::symbols_of(stripe);
@@ -97,8 +98,8 @@ pub fn rounds(plan: usize, stripe: &[u8], words: &[u32]) -> Mended
         let walk = row::walk_rows(
             plan,
             level,
-            &table,
-            &checks,
+            table,
+            checks,
             &mut symbols[..],
             &mut marks[..],
             &sums[..],
@@ -119,7 +120,7 @@ pub fn rounds(plan: usize, stripe: &[u8], words: &[u32]) -> Mended
         if level == levels {
             break;
         }
-        match level::learn(plan, level, &table, &checks, &symbols, &marks, &mut sums) {
+        match level::learn(plan, level, table, checks, &symbols, &marks, &mut sums) {
             Learning::Blocked => {
                 break;
             }
@@ -142,6 +143,24 @@ pub fn rounds(plan: usize, stripe: &[u8], words: &[u32]) -> Mended
         symbols: symbols,
         marks: marks,
     }
+}
+
+// Rounds on a fresh bench of what was lent, until they stop. Each plan has a call of its own, whose loops are compiled for its sizes.
+pub fn rounds(plan: usize, stripe: &[u8], words: &[u32]) -> Mended
+    requires { ⌜ lentRefusal plan (now stripe) (now words) ≡ 0 ⌝ }
+    ensures { λ m. ⌜ Ended (mended plan (now (stripe .entry)) (now (words .entry))) (m .report) (m .symbols) (m .marks) ⌝ }
+{
+    let table = field::products();
+    if plan == 1 {
+        let checks = plan::row_checks_1();
+        return rounds_by(1, &table, &checks, stripe, words);
+    }
+    if plan == 2 {
+        let checks = plan::row_checks_2();
+        return rounds_by(2, &table, &checks, stripe, words);
+    }
+    let checks = plan::row_checks_3();
+    rounds_by(3, &table, &checks, stripe, words)
 }
 
 // Whether the answer is Clash.

@@ -198,7 +198,10 @@ fn after_step(
         marks: marks,
         sums: sums,
     };
-    Stepped { bench: bench, answer: answer }
+    Stepped {
+        bench: bench,
+        answer: answer,
+    }
 }
 
 // The row step on a row of a bench that nothing is refused of. Its symbols change only where the row is filled.

@@ -1,177 +1,86 @@
 -- `repair::mending::rounds` meets its contract. Assumes nothing.
-use Prim.Native.Nat.{ℕ, suc, _-_}
-use mathlib.Core.Path.{_≡_, refl, sym, ap, _∙_}
-use mathlib.Core.Logic.{⊎-elim}
-use lib.ListN.{length}
-use Rattle.plans.specs.Plan.{planOf}
-use Rattle.plans.proofs.Shape.{shape}
-use Rattle.steps.proofs.Fit.{lent-fit, fit-bench}
-use Rattle.plans.specs.Refusal.{unasked}
-use Rattle.steps.proofs.Arms.{arm-blocked, arm-failing, arm-learned}
-use Rattle.repair.proofs.Rounding.{Rounding, rounding-starts, rounded-clash, rounded-top, rounded-blocked, rounded-failing, rounding-turns}
-use native.Mathlib.Omega.{arith}
+use mathlib.Core.Path.{_≡_, sym, subst}
+use mathlib.Core.List.{List}
+use Prim.Native.Nat.{ℕ}
 use borrow.Author.Needs.{needs}
+use Rattle.plans.specs.Refusal.{lentRefusal}
+use Rattle.plans.proofs.Shape.{third}
+use Rattle.steps.proofs.Fit.{lent-fit}
+use Rattle.repair.specs.Mending.{mended}
+use Rattle.repair.specs.Ended.{Ended}
+use Rattle.repair.specs.declared.mending.Mended.{Mended}
 use Rattle.repair.proofs.mending.rounds.Statement.{statement}
 use Rattle.repair.proofs.mending.rounds.Tie as tie
-use Rattle.repair.proofs.mending.rounds.Reads as reads
-use Rattle.repair.proofs.mending.rounds.Lts as lts
-use Rattle.field.proofs.products.Reads as products-reads
-use Rattle.plans.proofs.copies.symbols_of.Reads as symbols-of-reads
-use Rattle.plans.proofs.copies.words_of.Reads as words-of-reads
-use Rattle.steps.proofs.level.learn.Reads as learn-reads
-use Rattle.repair.proofs.mending.bare_report.Reads as bare-report-reads
-use Rattle.repair.proofs.mending.end_report.Reads as end-report-reads
-use Rattle.plans.proofs.plan.levels.Reads as levels-reads
-use Rattle.plans.proofs.plan.row_checks.Reads as row-checks-reads
-use Rattle.plans.proofs.plan.rows.Reads as rows-reads
-use Rattle.steps.proofs.row.walk_rows.Reads as walk-rows-reads
 
-abbrev Inv-loop : tie.InvT-loop
-Inv-loop plan stripe words table checks rows levels symbols₀ marks₀ sums₀ restored₀ level₀ symbols marks sums restored level =
-    Rounding plan stripe words symbols marks sums restored level
+ended-at : {p n : ℕ} → p ≡ n → (stripe words : List ℕ) (m : Mended)
+    → Ended (mended n stripe words) (m .report) (m .symbols) (m .marks) → Ended (mended p stripe words) (m .report) (m .symbols) (m .marks)
+ended-at e stripe words m = subst (λ p. Ended (mended p stripe words) (m .report) (m .symbols) (m .marks)) (sym e)
 
-abbrev μ-loop : tie.MeasureT-loop
-μ-loop plan stripe words table checks rows levels symbols₀ marks₀ sums₀ restored₀ level₀ symbols marks sums restored level =
-    suc (length (planOf plan .levels)) - level
-
-products-requires : tie.Need-products-requires Inv-loop μ-loop
+products-requires : tie.Need-products-requires
 products-requires c κs = search needs
 
-row-checks-requires : tie.Need-row-checks-requires Inv-loop μ-loop
-row-checks-requires c κs = search needs
+row-checks-1-requires : tie.Need-row-checks-1-requires
+row-checks-1-requires c κs = search needs
 
-rows-requires : tie.Need-rows-requires Inv-loop μ-loop
-rows-requires c κs = search needs
+slice-aggregate-rounds-by : tie.Need-slice-aggregate-rounds-by
+slice-aggregate-rounds-by c = search needs
 
-levels-requires : tie.Need-levels-requires Inv-loop μ-loop
-levels-requires c κs = search needs
+rounds-by-requires : tie.Need-rounds-by-requires
+rounds-by-requires c κs = let s = c .before .before .before .before .before .before .before in (
+  (c .before .before .before .before .products .ensures, c .before .before .row-checks-1 .ensures),
+  subst (λ p. lentRefusal p (s .args .stripe .now) (s .args .words .now) ≡ 0) (c .before .before .before .if1 .taken) (s .pre),
+)
 
-symbols-of-requires : tie.Need-symbols-of-requires Inv-loop μ-loop
-symbols-of-requires c κs = let f = lent-fit _ _ _ (c .before .before .before .before .before .before .pre) in omega (arith, f .long, shape _ (f .plan-known) .symbols-le)
+returns : tie.Need-returns
+returns c = let s = c .before .before .before .before .before .before .before .before in
+    ended-at (c .before .before .before .before .if1 .taken) (s .args .stripe .now) (s .args .words .now) (c .rounds-by .result) (c .rounds-by .ensures)
 
-words-of-requires : tie.Need-words-of-requires Inv-loop μ-loop
-words-of-requires c κs = let f = lent-fit _ _ _ (c .before .before .before .before .before .before .before .pre) in omega (arith, f .words, shape _ (f .plan-known) .rows-le)
+row-checks-2-requires : tie.Need-row-checks-2-requires
+row-checks-2-requires c κs = search needs
 
-loop-holds : tie.Need-loop-holds Inv-loop μ-loop
-loop-holds c = rounding-starts _ _ _ (c .before .before .before .before .before .before .before .before .pre) _ _ (c .before .symbols-of .ensures) (c .words-of .ensures)
+slice-aggregate-rounds-by-2 : tie.Need-slice-aggregate-rounds-by-2
+slice-aggregate-rounds-by-2 c = search needs
 
-slice-aggregate-walk-rows : tie.Need-slice-aggregate-walk-rows Inv-loop μ-loop
-slice-aggregate-walk-rows c = search needs
+rounds-by-requires-2 : tie.Need-rounds-by-requires-2
+rounds-by-requires-2 c κs = let s = c .before .before .before .before .before .before .before .before in (
+  (c .before .before .before .before .before .products .ensures, c .before .before .row-checks-2 .ensures),
+  subst (λ p. lentRefusal p (s .args .stripe .now) (s .args .words .now) ≡ 0) (c .before .before .before .if2 .taken) (s .pre),
+)
 
-slice-aggregate-walk-rows-2 : tie.Need-slice-aggregate-walk-rows-2 Inv-loop μ-loop
-slice-aggregate-walk-rows-2 c = search needs
+returns-2 : tie.Need-returns-2
+returns-2 c = let s = c .before .before .before .before .before .before .before .before .before in
+    ended-at (c .before .before .before .before .if2 .taken) (s .args .stripe .now) (s .args .words .now) (c .rounds-by2 .result) (c .rounds-by2 .ensures)
 
-slice-aggregate-walk-rows-3 : tie.Need-slice-aggregate-walk-rows-3 Inv-loop μ-loop
-slice-aggregate-walk-rows-3 c = search needs
+row-checks-3-requires : tie.Need-row-checks-3-requires
+row-checks-3-requires c κs = search needs
 
-slice-aggregate-walk-rows-4 : tie.Need-slice-aggregate-walk-rows-4 Inv-loop μ-loop
-slice-aggregate-walk-rows-4 c = search needs
+slice-aggregate-rounds-by-3 : tie.Need-slice-aggregate-rounds-by-3
+slice-aggregate-rounds-by-3 c = search needs
 
-walk-rows-requires : tie.Need-walk-rows-requires Inv-loop μ-loop
-unfolding unasked
-walk-rows-requires c κs =
-    let s = c .before .before .before .before .before .loop .inv .sound in
-    (c .before .before .before .before .before .before .before .before .before .before .before .products .ensures, (c .before .before .before .before .before .before .before .before .before .before .row-checks .ensures, (fit-bench _ _ (s .fit) tt, (s .sized .symbols, s .sized .marks, s .sized .sums))))
+rounds-by-requires-3 : tie.Need-rounds-by-requires-3
+rounds-by-requires-3 c κs = let s = c .before .before .before .before .before .before .before .before in (
+  (c .before .before .before .before .before .products .ensures, c .before .before .row-checks-3 .ensures),
+  subst (λ p. lentRefusal p (s .args .stripe .now) (s .args .words .now) ≡ 0) (third _ (lent-fit _ _ _ (c .before .before .before .before .before .before .before .before .pre) .plan-known) (c .before .before .before .before .if1 .left) (c .before .before .before .if2 .left)) (s .pre),
+)
 
-bare-report-requires : tie.Need-bare-report-requires Inv-loop μ-loop
-bare-report-requires c κs = search needs
-
-returns : tie.Need-returns Inv-loop μ-loop
-returns c = rounded-clash _ _ _ _ _ _ _ _ (c .before .before .before .before .before .before .before .before .before .before .loop .inv) _ _ _ _ (c .before .before .before .before .walk-rows .ensures) (omega (arith, c .before .if1 .taken, c .before .before .before .before .before .before .before .before .before .before .before .before .before .before .rows .ensures)) _ (c .bare-report .ensures)
-
-sub-restored : tie.Need-sub-restored Inv-loop μ-loop
-sub-restored c = search needs
-
-mul-restored : tie.Need-mul-restored Inv-loop μ-loop
-mul-restored c = record { fits = omega (arith, c .before .before .before .before .before .before .before .before .before .loop .inv .high, c .before .before .before .before .before .before .before .before .before .loop .inv .low, shape _ (c .before .before .before .before .before .before .before .before .before .loop .inv .sound .fit .plan-known) .levels-le) }
-
-array-write-restored : tie.Need-array-write-restored Inv-loop μ-loop
-array-write-restored c = omega (arith, c .before .before .before .before .before .before .before .before .before .loop .inv .high, c .before .before .before .before .before .before .before .before .before .loop .inv .low, shape _ (c .before .before .before .before .before .before .before .before .before .loop .inv .sound .fit .plan-known) .levels-le)
-
-slice-aggregate-learn : tie.Need-slice-aggregate-learn Inv-loop μ-loop
-slice-aggregate-learn c = search needs
-
-learn-requires : tie.Need-learn-requires Inv-loop μ-loop
-learn-requires c κs = ((c .before .before .before .before .before .before .before .before .before .before .before .before .before .before .before .before .before .before .before .before .before .products .ensures, c .before .before .before .before .before .before .before .before .before .before .before .before .before .before .before .before .before .before .before .before .row-checks .ensures), omega (arith, c .before .before .before .before .before .if2 .left, c .before .before .before .before .before .before .before .before .before .before .before .before .before .before .before .before .before .before .levels .ensures, c .before .before .before .before .before .before .before .before .before .before .before .before .before .before .before .loop .inv .high))
-
-enum-told : tie.Need-enum-told Inv-loop μ-loop
-enum-told c = search needs
-
-enum-told-2 : tie.Need-enum-told-2 Inv-loop μ-loop
-enum-told-2 c = search needs
-
-add-t46 : tie.Need-add-t46 Inv-loop μ-loop
-add-t46 c = search needs
-
-bare-report-requires-2 : tie.Need-bare-report-requires-2 Inv-loop μ-loop
-bare-report-requires-2 c κs = search needs
-
-returns-2 : tie.Need-returns-2 Inv-loop μ-loop
-returns-2 c =
-    rounded-failing _ _ _ _ _ _ _ _ (c .before .before .before .before .before .before .before .before .before .before .before .before .before .before .before .before .before .before .before .loop .inv) _ _ _ _ (c .before .before .before .before .before .before .before .before .before .before .before .before .before .walk-rows .ensures) (omega (arith, c .before .before .before .before .before .before .before .before .before .before .if1 .left, c .before .before .before .before .before .before .before .before .before .before .before .before .before .before .before .before .before .before .before .before .before .before .before .rows .ensures)) (λ e. c .before .before .before .before .before .before .before .before .before .if2 .left (e ∙ sym (c .before .before .before .before .before .before .before .before .before .before .before .before .before .before .before .before .before .before .before .before .before .before .levels .ensures))) _ _ (c .before .before .before .learn .ensures .0) (c .before .before .before .learn .ensures .1)
-    (arm-failing _ (c .before .before .match .keys2)) _ (c .bare-report2 .ensures)
-
-enum-told-3 : tie.Need-enum-told-3 Inv-loop μ-loop
-enum-told-3 c = search needs
-
-add-level : tie.Need-add-level Inv-loop μ-loop
-add-level c = search needs
-
-loop-less : tie.Need-loop-less Inv-loop μ-loop
-loop-less c = search needs
-
-loop-again : tie.Need-loop-again Inv-loop μ-loop
-loop-again c =
-    rounding-turns _ _ _ _ _ _ _ _ (c .before .before .before .before .before .before .before .before .before .before .before .before .before .before .before .before .before .before .loop .inv) _ _ _ _ (c .before .before .before .before .before .before .before .before .before .before .before .before .walk-rows .ensures) (omega (arith, c .before .before .before .before .before .before .before .before .before .if1 .left, c .before .before .before .before .before .before .before .before .before .before .before .before .before .before .before .before .before .before .before .before .before .before .rows .ensures)) (λ e. c .before .before .before .before .before .before .before .before .if2 .left (e ∙ sym (c .before .before .before .before .before .before .before .before .before .before .before .before .before .before .before .before .before .before .before .before .before .levels .ensures))) _ _ (c .before .before .learn .ensures .0) (c .before .before .learn .ensures .1)
-    (arm-learned _ (c .before .match .keys3))
-
-slice-aggregate-end-report : tie.Need-slice-aggregate-end-report Inv-loop μ-loop
-slice-aggregate-end-report c = search needs
-
-end-report-requires : tie.Need-end-report-requires Inv-loop μ-loop
-end-report-requires c κs = omega (arith, c .before .before .before .before .before .walk-rows .ensures .sized .1, shape _ (c .before .before .before .before .before .before .before .before .before .before .before .loop .inv .sound .fit .plan-known) .rows-le)
-
-returns-3 : tie.Need-returns-3 Inv-loop μ-loop
-returns-3 c =
-    ⊎-elim
-    (λ w. rounded-top _ _ _ _ _ _ _ _ (c .before .before .before .before .before .before .before .before .before .before .before .before .loop .inv) _ _ _ _ (c .before .before .before .before .before .before .walk-rows .ensures) (omega (arith, c .before .before .before .if1 .left, c .before .before .before .before .before .before .before .before .before .before .before .before .before .before .before .before .rows .ensures)) (w .taken ∙ c .before .before .before .before .before .before .before .before .before .before .before .before .before .before .before .levels .ensures) _ (c .end-report .ensures))
-    (λ w. rounded-blocked _ _ _ _ _ _ _ _ (c .before .before .before .before .before .before .before .before .before .before .before .before .loop .inv) _ _ _ _ (c .before .before .before .before .before .before .walk-rows .ensures) (omega (arith, c .before .before .before .if1 .left, c .before .before .before .before .before .before .before .before .before .before .before .before .before .before .before .before .rows .ensures)) (λ e. w .0 .left (e ∙ sym (c .before .before .before .before .before .before .before .before .before .before .before .before .before .before .before .levels .ensures))) _ _ (w .6 .ensures .0) (w .6 .ensures .1) (arm-blocked _ (w .7 .keys1)) _ (c .end-report .ensures))
-    (c .before .before .if2 .came)
+returns-3 : tie.Need-returns-3
+returns-3 c = let s = c .before .before .before .before .before .before .before .before .before in
+    ended-at (third _ (lent-fit _ _ _ (c .before .before .before .before .before .before .before .before .before .pre) .plan-known) (c .before .before .before .before .before .if1 .left) (c .before .before .before .before .if2 .left)) (s .args .stripe .now) (s .args .words .now) (c .rounds-by3 .result) (c .rounds-by3 .ensures)
 
 pub rounds-spec : {M : Type 1} → statement M
 rounds-spec =
     tie.close
     (tie.spec
-    Inv-loop
-    μ-loop
     products-requires
-    row-checks-requires
-    rows-requires
-    levels-requires
-    symbols-of-requires
-    words-of-requires
-    loop-holds
-    slice-aggregate-walk-rows
-    slice-aggregate-walk-rows-2
-    slice-aggregate-walk-rows-3
-    slice-aggregate-walk-rows-4
-    walk-rows-requires
-    bare-report-requires
+    row-checks-1-requires
+    slice-aggregate-rounds-by
+    rounds-by-requires
     returns
-    sub-restored
-    mul-restored
-    array-write-restored
-    slice-aggregate-learn
-    learn-requires
-    enum-told
-    enum-told-2
-    add-t46
-    bare-report-requires-2
+    row-checks-2-requires
+    slice-aggregate-rounds-by-2
+    rounds-by-requires-2
     returns-2
-    enum-told-3
-    add-level
-    loop-less
-    loop-again
-    slice-aggregate-end-report
-    end-report-requires
+    row-checks-3-requires
+    slice-aggregate-rounds-by-3
+    rounds-by-requires-3
     returns-3)

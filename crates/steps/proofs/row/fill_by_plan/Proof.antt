@@ -37,9 +37,13 @@ slice-aggregate-fill-row : tie.Need-slice-aggregate-fill-row
 slice-aggregate-fill-row c = search needs
 
 fill-row-requires : tie.Need-fill-row-requires
-fill-row-requires c κs = let s = c .before .before .before .before .before .before .before .before in
-    (c .before .before .before .before .before .products .ensures, (c .before .before .before .row-checks-1 .ensures,
-    (subst (λ p. Fits p (s .args .level) (s .args .row) (s .args .word) (s .args .sums .now)) (c .before .before .before .before .if1 .taken) (s .pre .0), s .pre .1)))
+fill-row-requires c κs = let s = c .before .before .before .before .before .before .before .before in (
+  c .before .before .before .before .before .products .ensures,
+  (
+    c .before .before .before .row-checks-1 .ensures,
+    (subst (λ p. Fits p (s .args .level) (s .args .row) (s .args .word) (s .args .sums .now)) (c .before .before .before .before .if1 .taken) (s .pre .0), s .pre .1),
+  ),
+)
 
 same-length : tie.Need-same-length
 same-length c = search needs
@@ -56,9 +60,13 @@ slice-aggregate-fill-row-2 : tie.Need-slice-aggregate-fill-row-2
 slice-aggregate-fill-row-2 c = search needs
 
 fill-row-requires-2 : tie.Need-fill-row-requires-2
-fill-row-requires-2 c κs = let s = c .before .before .before .before .before .before .before .before .before in
-    (c .before .before .before .before .before .before .products .ensures, (c .before .before .before .row-checks-2 .ensures,
-    (subst (λ p. Fits p (s .args .level) (s .args .row) (s .args .word) (s .args .sums .now)) (c .before .before .before .before .if2 .taken) (s .pre .0), s .pre .1)))
+fill-row-requires-2 c κs = let s = c .before .before .before .before .before .before .before .before .before in (
+  c .before .before .before .before .before .before .products .ensures,
+  (
+    c .before .before .before .row-checks-2 .ensures,
+    (subst (λ p. Fits p (s .args .level) (s .args .row) (s .args .word) (s .args .sums .now)) (c .before .before .before .before .if2 .taken) (s .pre .0), s .pre .1),
+  ),
+)
 
 same-length-2 : tie.Need-same-length-2
 same-length-2 c = search needs
@@ -75,9 +83,13 @@ slice-aggregate-fill-row-3 : tie.Need-slice-aggregate-fill-row-3
 slice-aggregate-fill-row-3 c = search needs
 
 fill-row-requires-3 : tie.Need-fill-row-requires-3
-fill-row-requires-3 c κs = let s = c .before .before .before .before .before .before .before .before .before in
-    (c .before .before .before .before .before .before .products .ensures, (c .before .before .before .row-checks-3 .ensures,
-    (subst (λ p. Fits p (s .args .level) (s .args .row) (s .args .word) (s .args .sums .now)) (third _ (c .before .before .before .before .before .before .before .before .before .pre .0 .0) (c .before .before .before .before .before .if1 .left) (c .before .before .before .before .if2 .left)) (s .pre .0), s .pre .1)))
+fill-row-requires-3 c κs = let s = c .before .before .before .before .before .before .before .before .before in (
+  c .before .before .before .before .before .before .products .ensures,
+  (
+    c .before .before .before .row-checks-3 .ensures,
+    (subst (λ p. Fits p (s .args .level) (s .args .row) (s .args .word) (s .args .sums .now)) (third _ (c .before .before .before .before .before .before .before .before .before .pre .0 .0) (c .before .before .before .before .before .if1 .left) (c .before .before .before .before .if2 .left)) (s .pre .0), s .pre .1),
+  ),
+)
 
 same-length-3 : tie.Need-same-length-3
 same-length-3 c = search needs
