@@ -1,8 +1,8 @@
 // The stripe file, read and written.
 use crate::buffer;
 use crate::marks;
+use plans::refusal;
 use repair::plan;
-use repair::refusal;
 ghost use mathlib.Core.Path.{_≡_};
 ghost use mathlib.Core.List.{flatMap};
 ghost use Prim.Native.Nat.{_+_, _*_, _/_, _%_, _^_, _≤_, _<_};

@@ -4,9 +4,9 @@ mod file;
 mod lines;
 mod marks;
 
+use plans::refusal;
 use repair::Outcome;
 use repair::plan;
-use repair::refusal;
 ghost use mathlib.Core.Path.{_≡_};
 ghost use lib.ListN.{length};
 ghost use Rattle.codewords.specs.Codeword.{outcomeOf};

@@ -15,7 +15,7 @@ pub use plans::Stepped;
 pub use plans::Verdict;
 use plans::copies;
 pub use plans::plan;
-pub use plans::refusal;
+use plans::refusal;
 pub use steps::level_step;
 pub use steps::row_step;
 pub use steps::start;
