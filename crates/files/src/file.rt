@@ -7,15 +7,15 @@ ghost use mathlib.Core.Path.{_≡_};
 ghost use mathlib.Core.List.{flatMap};
 ghost use Prim.Native.Nat.{_+_, _*_, _/_, _%_, _^_, _≤_, _<_};
 ghost use lib.Dec.{T, eqb};
-ghost use lib.ListN.{length, getD};
+ghost use lib.ListN.{length, take, getD};
 ghost use lib.Seq.{sets};
 ghost use Rattle.field.specs.Lists.{if_then_else_, upFrom};
 ghost use Rattle.linear.specs.Lists.{«same» as equal};
 ghost use Rattle.linear.specs.Marks.{bitsOf};
 ghost use Rattle.repair.specs.Plan.{planOf, known, marksOf};
-ghost use Rattle.repair.specs.Refusal.{firstFailed, unasked};
+ghost use Rattle.repair.specs.Refusal.{inFile, unasked, marksFit, symbolsFit};
 ghost use Rattle.repair.specs.File.{bytes4, headerOf, fileLength, blanked, fileOf, writeRefusal, planIn, wordAt, marksIn, symbolsIn, fileRefusal};
-ghost use Rattle.files.specs.Written.{Put, contentTests};
+ghost use Rattle.files.specs.Written.{Put};
 
 // ---- words of four bytes, low byte first
 
@@ -202,12 +202,12 @@ fn is_blank(plan: usize, symbols: &[u8], marks: &[u32]) -> bool
     same(symbols, &blank[..size])
 }
 
-// What of marks and symbols that were read is refused; 0 where nothing is.
+// What of marks and symbols that were read is refused, the tests before theirs left out; 0 where nothing is.
 fn content_refusal(plan: usize, symbols: &[u8], marks: &[u32]) -> usize
     requires { ⌜ T (known plan) ⌝ }
     requires { ⌜ length (now marks) ≡ planOf plan .rows ⌝ }
     requires { ⌜ length (now symbols) ≡ planOf plan .rows * planOf plan .columns ⌝ }
-    ensures { λ r. ⌜ r ≡ firstFailed (contentTests (planOf plan) (now (marks .entry)) (now (symbols .entry))) ⌝ }
+    ensures { λ r. ⌜ r ≡ inFile unasked unasked unasked unasked unasked (marksFit (planOf plan) (now (marks .entry))) (symbolsFit (planOf plan) (now (marks .entry)) (now (symbols .entry))) (equal (now (symbols .entry)) (blanked (marksOf (planOf plan) (now (marks .entry))) (now (symbols .entry)))) ⌝ }
 {
     if !refusal::marks_fit(plan, marks) {
         return 12;
@@ -221,12 +221,13 @@ fn content_refusal(plan: usize, symbols: &[u8], marks: &[u32]) -> usize
     0
 }
 
-// The same of a file whose header and length are right.
+// What of a file is refused whose header and length are right, the lent buffers left out.
 fn whole_refusal(plan: usize, file: &[u8]) -> usize
     requires { ⌜ T (known plan) ⌝ }
     requires { ⌜ plan ≡ planIn (now file) ⌝ }
+    requires { ⌜ T (equal (take 8 (now file)) (headerOf plan)) ⌝ }
     requires { ⌜ length (now file) ≡ fileLength (planOf plan) ⌝ }
-    ensures { λ r. ⌜ r ≡ firstFailed (contentTests (planOf plan) (marksIn (now (file .entry))) (symbolsIn (now (file .entry)))) ⌝ }
+    ensures { λ r. ⌜ r ≡ fileRefusal (now (file .entry)) unasked ⌝ }
 {
     let rows = plan::rows(plan);
     let mut words = [0u32; 8];
