@@ -245,7 +245,7 @@ pub fn file_refusal(file: &[u8], lengths: bool) -> usize
     }
     let plan = plan_in(file);
     if !plan::is_known(plan) {
-        return 10;
+        return 10; // whatever its header says
     }
     let header = header_of(plan);
     if !same(&file[..8], &header) {
