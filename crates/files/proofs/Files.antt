@@ -21,6 +21,7 @@ use Rattle.repair.specs.Refusal.{firstFailed, unasked, inMemory, inFile, stripe
 use Rattle.repair.specs.File.{bytes2, bytes4, marksOffset, symbolsOffset, fileLength, headerOf, blanked, fileOf, writeRefusal, writeFile, planIn, wordAt, marksIn, symbolsIn, fileRefusal, readRefusal, readStripe, readMarks}
 use Rattle.repair.proofs.Parts.{rest-of}
 use Rattle.repair.proofs.Rows.{sets-whole}
+use Rattle.files.specs.Written.{contentRefusal}
 use Rattle.files.proofs.Writing.{front-set}
 use Rattle.repair.proofs.Shape.{shape}
 use Rattle.repair.proofs.Fit.{pass, go-on, eq→eqb, passed, marks-fit, fit-marks, symbols-fit, fit-symbols, LentFit, lent-fit, fit-lent}
@@ -138,9 +139,7 @@ module _ {p n : ℕ} {file : List ℕ} (w : Whole p n file) where
       ∙ sym (symbols-behind file (w .long ∙ ap (λ k. fileLength (planOf k)) (w .plan)))
 
   -- header and length are right, so the tests of marks and symbols are left
-  pub whole-tests : T (same (take 8 file) (headerOf p)) → let P = planOf p in let marks = marksIn file in let symbols = symbolsIn file in
-      inFile unasked unasked unasked unasked unasked (marksFit P marks) (symbolsFit P marks symbols) (same symbols (blanked (marksOf P marks) symbols))
-      ≡ fileRefusal file unasked
+  pub whole-tests : T (same (take 8 file) (headerOf p)) → contentRefusal (planOf p) (marksIn file) (symbolsIn file) ≡ fileRefusal file unasked
   unfolding unasked fileRefusal
   whole-tests t =
       let long : leb 8 (length file) ≡ true = le-leb 8 (length file) (omega (arith, whole-start)) in

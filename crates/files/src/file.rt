@@ -13,9 +13,9 @@ ghost use Rattle.field.specs.Lists.{if_then_else_, upFrom};
 ghost use Rattle.linear.specs.Lists.{«same» as equal};
 ghost use Rattle.linear.specs.Marks.{bitsOf};
 ghost use Rattle.repair.specs.Plan.{planOf, known, marksOf};
-ghost use Rattle.repair.specs.Refusal.{inFile, unasked, marksFit, symbolsFit};
+ghost use Rattle.repair.specs.Refusal.{unasked};
 ghost use Rattle.repair.specs.File.{bytes4, headerOf, fileLength, blanked, fileOf, writeRefusal, planIn, wordAt, marksIn, symbolsIn, fileRefusal};
-ghost use Rattle.files.specs.Written.{Put};
+ghost use Rattle.files.specs.Written.{Put, contentRefusal};
 
 // ---- words of four bytes, low byte first
 
@@ -202,12 +202,12 @@ fn is_blank(plan: usize, symbols: &[u8], marks: &[u32]) -> bool
     same(symbols, &blank[..size])
 }
 
-// What of marks and symbols that were read is refused, the tests before theirs left out; 0 where nothing is.
+// What of marks and symbols that were read is refused; 0 where nothing is.
 fn content_refusal(plan: usize, symbols: &[u8], marks: &[u32]) -> usize
     requires { ⌜ T (known plan) ⌝ }
     requires { ⌜ length (now marks) ≡ planOf plan .rows ⌝ }
     requires { ⌜ length (now symbols) ≡ planOf plan .rows * planOf plan .columns ⌝ }
-    ensures { λ r. ⌜ r ≡ inFile unasked unasked unasked unasked unasked (marksFit (planOf plan) (now (marks .entry))) (symbolsFit (planOf plan) (now (marks .entry)) (now (symbols .entry))) (equal (now (symbols .entry)) (blanked (marksOf (planOf plan) (now (marks .entry))) (now (symbols .entry)))) ⌝ }
+    ensures { λ r. ⌜ r ≡ contentRefusal (planOf plan) (now (marks .entry)) (now (symbols .entry)) ⌝ }
 {
     if !refusal::marks_fit(plan, marks) {
         return 12;

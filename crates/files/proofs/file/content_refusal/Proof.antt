@@ -15,7 +15,8 @@ use Rattle.files.proofs.file.content_refusal.Tie as tie
 words : (c : tie.Else1) → let a = c .before .before .before .before .args in marksFit (planOf (a .plan)) (now (a .marks)) ≡ true
 words c = sym (c .before .marks-fit .ensures) ∙ not-false _ (c .if1 .left)
 
-below : (c : tie.Else2) → let a = c .before .before .before .before .before .before .args in symbolsFit (planOf (a .plan)) (now (a .marks)) (now (a .symbols)) ≡ true
+below : (c : tie.Else2) → let a = c .before .before .before .before .before .before .args in
+    symbolsFit (planOf (a .plan)) (now (a .marks)) (now (a .symbols)) ≡ true
 below c = sym (c .before .symbols-fit .ensures) ∙ not-false _ (c .if2 .left)
 
 marks-fit-requires : tie.Need-marks-fit-requires

@@ -4,10 +4,9 @@ use native.Mathlib.Omega.{arith}
 use borrow.Author.Needs.{needs}
 use denote.Ref.{now}
 use lib.ListN.{replicate, length, take}
-use Rattle.linear.specs.Lists.{same}
-use Rattle.repair.specs.File.{blanked, marksIn}
-use Rattle.repair.specs.Refusal.{inFile, unasked, marksFit, symbolsFit}
-use Rattle.repair.specs.Plan.{planOf, marksOf}
+use Rattle.repair.specs.File.{marksIn}
+use Rattle.repair.specs.Plan.{planOf}
+use Rattle.files.specs.Written.{contentRefusal}
 use Rattle.files.proofs.Files.{Whole, whole-start, whole-rows, whole-marks, whole-front, whole-symbols, whole-cut, whole-tests}
 use Rattle.files.proofs.file.whole_refusal.Statement.{statement}
 use Rattle.files.proofs.file.whole_refusal.Tie as tie
@@ -59,12 +58,9 @@ content-refusal-requires c κs =
 returns : tie.Need-returns
 returns c =
     let s = c .before .before .before .before .before .before .before .before in
-    let P = planOf (s .args .plan) in
     let w = whole (c .before .before .before .before .before .before) in
     c .content-refusal .ensures
-    ∙ ap₂ (λ marks symbols. inFile unasked unasked unasked unasked unasked (marksFit P marks) (symbolsFit P marks symbols) (same symbols (blanked (marksOf P marks) symbols)))
-    (front (c .before .before .before .before)) (whole-cut w)
-    ∙ whole-tests w (s .pre .1 .1 .0)
+    ∙ ap₂ (contentRefusal (planOf (s .args .plan))) (front (c .before .before .before .before)) (whole-cut w) ∙ whole-tests w (s .pre .1 .1 .0)
 
 pub whole-refusal-spec : {M : Type 1} → statement M
 whole-refusal-spec =
