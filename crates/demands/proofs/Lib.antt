@@ -30,6 +30,7 @@ pub mod Refused
 pub mod Blind
 pub mod Silence
 pub mod Kept
+pub mod Room
 pub mod Samples
 -- the parameters
 pub mod Parameters
