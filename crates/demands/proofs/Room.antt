@@ -4,11 +4,11 @@ use mathlib.Core.Logic.{inl, inr}
 use mathlib.Core.Bool.{Bool, true, false, not, _&&_}
 use mathlib.Core.List.{List, [], _∷_, map}
 use Prim.Native.Nat.{ℕ, zero, suc, _+_, _*_, _-_, _^_, _<_, _≤_, zero-le, min}
-use native.Mathlib.Nat.{zero-add, le-refl}
+use native.Mathlib.Nat.{zero-add, add-sub-of-le, le-refl, le-trans}
 use native.Mathlib.Omega.{arith}
 use lib.Dec.{T, eqb, ltb, ltb→lt, nltb→le}
 use lib.ListN.{length, take, drop, getD, set, length-append, length-map, length-take, length-drop}
-use lib.Seq.{sets, drop-set-lt, take-set-lt, take-take, getD-take, ext-getD, length-sets}
+use lib.Seq.{sets, drop-drop, drop-set-lt, take-set-lt, take-take, getD-take, ext-getD, length-sets}
 use Rattle.field.specs.Lists.{if_then_else_, upFrom}
 use Rattle.field.specs.Field.{size, dot}
 use Rattle.field.proofs.Lists.{getD-map-below, map-up-same}
@@ -30,14 +30,14 @@ use Rattle.repair.proofs.Levels.{checks-suc, checks-le}
 use Rattle.repair.proofs.Shape.{shape}
 use Rattle.repair.proofs.Fit.{BenchFit, bench-fit}
 use Rattle.repair.proofs.Sound.{filled-row, learned-length}
-use Rattle.demands.specs.Words.{onRow, onLevel}
-use Rattle.demands.specs.Room.{SameRead, SameReadStep, RowStepReads, LevelStepReads, WalkReads, placesAt, RoomKept, StepsKeepRoom}
+use Rattle.demands.specs.Words.{onRow, onLevel, after, walk}
+use Rattle.demands.specs.Room.{SameRead, SameReadStep, RowStepReads, LevelStepReads, WalkReads, placesAt, RoomKept, StepsKeepRoom, WalksKeepRoom}
 use Rattle.demands.proofs.Blind.{sets-alike, sets-here, all-same}
 
 -- ---- not changed
 
 room-refl : (b : Bench) → RoomKept b b
-room-refl b = record { symbols = refl; marks = refl; sums = refl; before = λ r l. refl; above = λ r l. refl }
+room-refl b = record { plan = refl; level = le-refl (b .level); symbols = refl; marks = refl; sums = refl; before = λ r l. refl; above = λ r l. refl }
 
 module _ (b : Bench) where
   abbrev P : Plan
@@ -53,6 +53,8 @@ module _ (b : Bench) where
   pub room-put : (r : ℕ) (row : List ℕ) → r < P .rows → length row ≡ P .columns → RoomKept b (putRow b r row)
   unfolding putRow
   room-put r row l wide = record {
+    plan = refl;
+    level = le-refl (b .level);
     symbols = drop-sets-before (P .rows * P .columns) row (b .symbols) (r * P .columns) (omega (arith, wide, row-end (P .columns) l));
     marks = drop-set-lt (P .rows) (b .marks) r 0 l;
     sums = refl;
@@ -73,6 +75,8 @@ module _ (b : Bench) where
     pub room-raise : RoomKept b (raise b cs)
     unfolding raise sumsAt
     room-raise = record {
+      plan = refl;
+      level = omega arith;
       symbols = refl;
       marks = refl;
       sums =
@@ -110,6 +114,42 @@ steps-keep-room b onLevel = go (benchRefusal b unasked) refl (ltb (b .level) (le
     go zero e true q (learned cs) d =
         let f = bench-fit b unasked e .0 in
         room-raise b (f .plan-known) (ltb→lt (b .level) (length (planOf (b .plan) .levels)) (subst T (sym q) tt)) cs (learned-length b f cs d)
+
+-- lists that agree from n on agree from any later place on
+pub drop-later : {n m : ℕ} (x y : List ℕ) → n ≤ m → drop n x ≡ drop n y → drop m x ≡ drop m y
+drop-later {n} {m} x y h e =
+    ap (λ k. drop k x) (sym (add-sub-of-le h)) ∙ sym (drop-drop (m - n) n x) ∙ ap (drop (m - n)) e ∙ drop-drop (m - n) n y
+    ∙ ap (λ k. drop k y) (add-sub-of-le h)
+
+-- sums that agree up to a level agree up to a lower one
+sums-lower : (P : Plan) {t u : ℕ} (x y : List ℕ) (r : ℕ) → t ≤ u → sumsAt P u x r ≡ sumsAt P u y r → sumsAt P t x r ≡ sumsAt P t y r
+unfolding sumsAt
+sums-lower P {t} {u} x y r h e =
+    let n = length (checksTo P t) in
+    let m = length (checksTo P u) in
+    sym (take-take n m (drop (r * room) x) (checks-le P h)) ∙ ap (take n) e ∙ take-take n m (drop (r * room) y) (checks-le P h)
+
+room-trans : (b c d : Bench) → RoomKept b c → RoomKept c d → RoomKept b d
+room-trans b c d k j =
+    let P = planOf (b .plan) in
+    let g = subst (λ c. RoomKept c d) own j in
+    record {
+      plan = g .plan;
+      level = le-trans (k .level) (g .level);
+      symbols = g .symbols ∙ k .symbols;
+      marks = g .marks ∙ k .marks;
+      sums = g .sums ∙ k .sums;
+      before = λ r l. sums-lower P (d .sums) (c .sums) r (k .level) (g .before r l) ∙ k .before r l;
+      above = λ r l. g .above r l ∙ drop-later (placesAt (c .sums) r) (placesAt (b .sums) r) (checks-le P (g .level)) (k .above r l);
+    }
+  where
+    own : c ≡ benchOf (b .plan) (c .level) (c .symbols) (c .marks) (c .sums)
+    own = λ i. record { plan = sym (k .plan) i; level = c .level; symbols = c .symbols; marks = c .marks; sums = c .sums }
+
+pub walks-keep-room : WalksKeepRoom
+walks-keep-room [] b = room-refl b
+walks-keep-room (m ∷ ms) b =
+    room-trans b (after b m) (walk ms (after b m)) (steps-keep-room b m) (walks-keep-room ms (after b m))
 
 -- ---- not read
 

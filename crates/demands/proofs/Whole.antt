@@ -3,11 +3,11 @@
 use mathlib.Core.Path.{_≡_, refl, sym, ap, ap₂, _∙_}
 use mathlib.Core.Logic.{_⊎_, inl, inr}
 use mathlib.Core.List.{List, [], _∷_, _++_}
-use Prim.Native.Nat.{ℕ, zero, suc, _*_, _-_, _<_, _≤_}
-use native.Mathlib.Nat.{add-sub-of-le, zero-lt-suc, le-of-suc-le-suc, not-suc-le-zero}
+use Prim.Native.Nat.{ℕ, zero, suc, _*_, _<_, _≤_}
+use native.Mathlib.Nat.{zero-lt-suc, le-of-suc-le-suc, not-suc-le-zero}
 use native.Mathlib.Omega.{arith}
 use lib.ListN.{length, drop, getD, length-map, take-append-drop}
-use lib.Seq.{drop-drop, take-take, getD-set-same, getD-set-other}
+use lib.Seq.{take-take, getD-set-same, getD-set-other}
 use Rattle.linear.specs.Fill.{sumsOf}
 use Rattle.repair.specs.Plan.{Plan, planOf, levelOf, checksTo, rowAt}
 use Rattle.repair.specs.Refusal.{room, sumsAt}
@@ -19,14 +19,8 @@ use Rattle.repair.proofs.Shape.{shape}
 use Rattle.demands.specs.Words.{Move, after, walk}
 use Rattle.demands.specs.Room.{placesAt}
 use Rattle.demands.proofs.Codewords.{word-row}
-use Rattle.demands.proofs.Room.{room-put, room-raise}
+use Rattle.demands.proofs.Room.{drop-later, room-put, room-raise}
 use Rattle.demands.proofs.Held.{Held, own-plan, wordSums, held-known, held-level, held-words, held-unmarked, Made, stays, fills, learns, makes, held-after}
-
--- lists that agree from n on agree from any later place on
-drop-later : {n m : ℕ} (x y : List ℕ) → n ≤ m → drop n x ≡ drop n y → drop m x ≡ drop m y
-drop-later {n} {m} x y h e =
-    ap (λ k. drop k x) (sym (add-sub-of-le h)) ∙ sym (drop-drop (m - n) n x) ∙ ap (drop (m - n)) e ∙ drop-drop (m - n) n y
-    ∙ ap (λ k. drop k y) (add-sub-of-le h)
 
 -- b came from a: a marked row, the room beyond the plan's size and the sums of levels above b's are as they were
 pub record Kept (p : ℕ) (a b : Bench) : Type 0 where

@@ -1,5 +1,5 @@
 -- Room: what a bench has beyond the plan's size, and its sums of levels above t, are not read by a step and do not change.
-use Prim.Native.Nat.{ℕ, _*_, _<_}
+use Prim.Native.Nat.{ℕ, _*_, _<_, _≤_}
 use mathlib.Core.Path.{_≡_}
 use mathlib.Core.List.{List}
 use lib.ListN.{length, take, drop}
@@ -44,6 +44,8 @@ placesAt sums r = take room (drop (r * room) sums)
 
 -- c came from b: the room beyond the plan's size, the sums learned before, and those of levels above c's are as they were
 pub record RoomKept (b c : Bench) : Type 0 where
+  pub plan : b .plan ≡ c .plan
+  pub level : b .level ≤ c .level
   pub symbols : let P = planOf (b .plan) in drop (P .rows * P .columns) (c .symbols) ≡ drop (P .rows * P .columns) (b .symbols)
   pub marks : let P = planOf (b .plan) in drop (P .rows) (c .marks) ≡ drop (P .rows) (b .marks)
   pub sums : let P = planOf (b .plan) in drop (P .rows * room) (c .sums) ≡ drop (P .rows * room) (b .sums)
@@ -54,3 +56,7 @@ pub record RoomKept (b c : Bench) : Type 0 where
 -- after any row step and any level step
 abbrev pub StepsKeepRoom : Type 0
 StepsKeepRoom = (b : Bench) (m : Move) → RoomKept b (after b m)
+
+-- and so after any sequence of steps
+abbrev pub WalksKeepRoom : Type 0
+WalksKeepRoom = (ms : List Move) (b : Bench) → RoomKept b (walk ms b)
