@@ -124,7 +124,7 @@ shown-alike (true ∷ ms) (x ∷ v) (y ∷ w) l a = ap (λ z. 63 ∷ z) (shown-a
 shown-alike (false ∷ ms) (x ∷ v) (y ∷ w) l a = ap₂ (λ x z. hex x ∷ z) (a .0) (shown-alike ms v w (suc-inj l) (a .1))
 
 -- the same for every row
-all-same : (f g : ℕ → Bool) (k n : ℕ) → ((r : ℕ) → r < k + n → f r ≡ g r) → all f (upFrom k n) ≡ all g (upFrom k n)
+pub all-same : (f g : ℕ → Bool) (k n : ℕ) → ((r : ℕ) → r < k + n → f r ≡ g r) → all f (upFrom k n) ≡ all g (upFrom k n)
 unfolding all upFrom
 all-same f g k zero h = refl
 all-same f g k (suc n) h = ap₂ _&&_ (h k (omega arith)) (all-same f g (suc k) n (λ r l. h r (omega arith)))

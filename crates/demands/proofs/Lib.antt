@@ -1,4 +1,4 @@
--- Why the demands hold. The theorems stand in Second, Counts, Encoding, Third, Refused, Blind, Silence and Kept, the plans' parameters in Parameters
+-- Why the demands hold. The theorems stand in Second, Counts, Encoding, Third, Refused, Blind, Silence, Kept and Room, the plans' parameters in Parameters
 -- and Distance, and samples that meet the premises in Samples.
 pub mod Lists
 pub mod Marked
@@ -30,6 +30,7 @@ pub mod Refused
 pub mod Blind
 pub mod Silence
 pub mod Kept
+pub mod Room
 pub mod Samples
 -- the parameters
 pub mod Parameters

@@ -1,34 +1,38 @@
--- The premises can be met: stripes of the bench sheet, by computation. Assumes nothing.
+-- The premises of each theorem can be met: stripes of the bench sheet, by computation. Assumes nothing.
 use mathlib.Core.Path.{_≡_, refl, sym, ap, subst}
 use mathlib.Core.Bool.{Bool, true, false, _&&_}
 use mathlib.Core.List.{List, [], _∷_, _++_, map, flatMap}
 use Prim.Native.Nat.{ℕ, zero, suc, _<_}
 use native.Mathlib.Omega.{arith}
 use lib.Count.{ones as bitsSet, onesIn}
-use lib.Dec.{T, eqb, eqb→eq}
+use lib.Dec.{T, eqb, ltb, eqb→eq}
 use lib.ListN.{getD, replicate, set}
 use Rattle.field.specs.Lists.{if_then_else_, upFrom}
 use Rattle.field.specs.Field.{_⊕_, size, double, times, mul, dot, gf2}
 use Rattle.field.proofs.Test.{both-left, both-right}
+use Rattle.field.proofs.Words.{weight}
 use Rattle.linear.specs.Lists.{any, all, only, same, zeros, vanish, first, rest}
 use Rattle.linear.specs.Marks.{bitsOf}
 use Rattle.linear.specs.Fill.{sumsOf, options, before, choices, loose, dependent, fillings, fillBy, fill}
 use Rattle.linear.proofs.Choices.{Alike}
-use Rattle.plans.specs.Plan.{ones, bitChecks, wordOf, locations1, plan1, known, planOf, noLevel, levelOf, checksTo, rowAt, marksAt, marksOf, across, checkPlacesOf, carried}
-use Rattle.plans.specs.Refusal.{firstFailed, unasked, inMemory, stripeFits, wordsFit, marksFit, allBelow, unmarkedBelow, symbolsFit, sumsAt, sumsFit, levelFits, lentRefusal, benchRefusal}
-use Rattle.steps.specs.Steps.{fresh, stepped, unlessRefused, rowFill, putRow, rowStepBy, rowStep, lossy, join, joined, levelFill, keepSums, raise, levelStepBy, levelStep}
+use Rattle.plans.specs.Plan.{ones, bitChecks, wordOf, locations1, plan1, known, planOf, noLevel, levelOf, checksTo, rowAt, marksAt, marksOf, across, checkPlacesOf, carried, marksOffset, symbolsOffset, fileLength}
+use Rattle.plans.specs.Refusal.{firstFailed, unasked, inMemory, inFile, stripeFits, wordsFit, marksFit, allBelow, unmarkedBelow, symbolsFit, sumsAt, sumsFit, levelFits, lentRefusal, benchRefusal}
+use Rattle.steps.specs.Steps.{fresh, empty, stepped, unlessRefused, rowFill, putRow, rowStepBy, rowStep, lossy, join, joined, levelFill, keepSums, raise, levelStepBy, levelStep}
 use Rattle.repair.specs.Mending.{mendReport, mendMarks}
 use Rattle.codewords.specs.Codeword.{rowsHold, totalsHold, isCodeword, encodeRefusal, extractRefusal}
 use Rattle.repair.specs.Encoding.{encodeStripe}
+use Rattle.repair.specs.File.{writeRefusal, planIn, fileRefusal, readRefusal}
 use Rattle.plans.specs.declared.Bench.{Bench}
 use Rattle.plans.specs.declared.Answer.{Answer}
 use Rattle.plans.specs.declared.Answer.the-variants.{Restored, Stuck, Clash}
 use Rattle.plans.specs.declared.Place.the-variants.{Row}
 use Rattle.repair.proofs.Sheet.{Case, restored, stuck, clashed, blank, unchanged, blankRestored, row1, exampleStripe, exampleMarks, exampleAfter, cases, done, sheet}
 use Rattle.steps.proofs.Sound.{row-outside}
-use Rattle.demands.specs.Words.{Codeword, Agree, Fit, Move, onRow, onLevel, walk, Quiet, rounds, rowsWith, counts, MeetsCounts, total, distance}
+use Rattle.demands.specs.Words.{Codeword, Agree, Fit, Move, onRow, onLevel, walk, Quiet, rounds, rowsWith, counts, MeetsCounts, total, rowDistance, distance}
 use Rattle.demands.specs.Third.{Premise}
 use Rattle.demands.specs.Silence.{SameUnmarked, SameButMarks}
+use Rattle.demands.specs.Room.{SameRead}
+use Rattle.demands.specs.Parameters.{RowWord}
 use Rattle.demands.proofs.Alike.{alike-at}
 use Rattle.demands.proofs.Third.{rounds-suffice}
 use Rattle.demands.proofs.Silence.{fresh-same}
@@ -119,7 +123,7 @@ pub is-stuck : mendReport 1 blank (row1 (0 ∷ 1 ∷ 3 ∷ 6 ∷ [])) .answer �
 unfolding restored stuck clashed unchanged blankRestored cases done
 is-stuck = ap (answers 3) (sheet .0)
 
--- and a codeword that agrees with what is Stuck
+-- and a codeword that agrees with what is Stuck: the stripe itself
 pub blank-word : Codeword 1 blank
 unfolding if_then_else_ upFrom _⊕_ size double times mul dot gf2 all vanish sumsOf ones bitChecks locations1 plan1 planOf noLevel levelOf rowAt
     allBelow across rowsHold totalsHold isCodeword blank
@@ -200,8 +204,63 @@ unfolding upFrom flatMap bitsOf plan1 planOf marksAt marksOf wordOf restored stu
 still-marked =
     ap (λ (cs : List Case). getD (marksOf (planOf 1) (getD (map (λ (c : Case). c .marksAfter) cs) 3 [])) 7 true) (sheet .0)
 
--- ---- a refusal: a plan that is not known
+-- a place that is still marked after a step: the same column, once row 0 is filled
+pub marked-after : getD (marksOf (planOf 1) (walk (onRow 0 ∷ []) (fresh 1 exampleStripe exampleMarks) .marks)) 7 true ≡ true
+unfolding if_then_else_ upFrom _⊕_ size double times mul dot gf2 flatMap
+    any all only same zeros vanish first rest bitsOf sumsOf options before choices loose dependent fillings fillBy fill
+    ones bitChecks locations1 plan1 known planOf noLevel levelOf checksTo rowAt marksAt marksOf
+    firstFailed unasked inMemory marksFit allBelow unmarkedBelow symbolsFit sumsAt sumsFit levelFits benchRefusal
+    fresh stepped unlessRefused rowFill putRow rowStepBy rowStep exampleStripe exampleMarks
+marked-after = refl
 
-pub is-refused : lentRefusal 4 blank [] ≡ 10
-unfolding if_then_else_ known firstFailed inMemory lentRefusal
-is-refused = refl
+-- ---- the room's: a bench that differs from the example's fresh one wherever a step may not read
+
+unfoldable pub otherRoom : Bench
+otherRoom =
+    let sums : List ℕ = 0 ∷ replicate 15 200 in
+    record {
+      plan = 1;
+      level = 1;
+      symbols = exampleStripe ++ replicate 235 200;
+      marks = exampleMarks ++ replicate 5 200;
+      sums = sums ++ sums ++ sums ++ replicate 80 200;
+    }
+
+pub same-read : SameRead (fresh 1 exampleStripe exampleMarks) otherRoom
+unfolding flatMap ones plan1 planOf checksTo sumsAt fresh exampleStripe exampleMarks otherRoom
+same-read = record { plan = refl; level = refl; symbols = refl; marks = refl; sums = sums-same; places = refl }
+  where
+    sums-same : (r : ℕ) → r < 3 → sumsAt plan1 1 (replicate 128 0) r ≡ sumsAt plan1 1 (otherRoom .sums) r
+    sums-same zero l = refl
+    sums-same (suc zero) l = refl
+    sums-same (suc (suc zero)) l = refl
+    sums-same (suc (suc (suc r))) l = absurd (omega arith)
+
+-- ---- the refusals': each call refused
+
+pub refusals :
+    -- start and mending; encoding; extraction; reading; writing
+    (lentRefusal 4 blank [] ≡ 10) × (encodeRefusal 1 [] blank ≡ 11) × (extractRefusal 1 (set blank 0 1) (replicate 15 0) ≡ 16)
+    × (readRefusal [] blank [] ≡ 20) × (writeRefusal 1 blank (128 ∷ 0 ∷ 0 ∷ []) (replicate 41 0) ≡ 12)
+    -- a row step; a level step
+    × (benchRefusal otherRoom (ltb 3 (planOf (otherRoom .plan) .rows)) ≡ 14) × (benchRefusal empty unasked ≡ 10)
+unfolding if_then_else_ upFrom _⊕_ size double times mul dot gf2 flatMap all only vanish bitsOf sumsOf
+    ones bitChecks wordOf locations1 plan1 known planOf noLevel levelOf checksTo rowAt marksAt marksOf
+    firstFailed unasked inMemory inFile stripeFits wordsFit marksFit allBelow unmarkedBelow symbolsFit sumsAt sumsFit levelFits lentRefusal benchRefusal
+    empty across rowsHold totalsHold isCodeword checkPlacesOf carried encodeRefusal extractRefusal
+    marksOffset symbolsOffset fileLength writeRefusal planIn fileRefusal readRefusal blank exampleStripe exampleMarks otherRoom
+refusals = (refl, refl, refl, refl, refl, refl, refl)
+
+-- ---- the parameters': the plans' numbers, and the zero row and stripe, which are light
+
+pub plans-known : T (known 1) × T (known 2) × T (known 3)
+unfolding known
+plans-known = (tt, tt, tt)
+
+pub light-row : RowWord 1 (replicate 7 0) × (weight (replicate 7 0) < rowDistance 1)
+unfolding if_then_else_ _⊕_ size double times mul dot gf2 all vanish sumsOf ones plan1 planOf levelOf allBelow weight rowDistance
+light-row = (record { long = refl; symbols = tt; holds = tt }, omega arith)
+
+pub light-word : Codeword 1 blank × (weight blank < distance 1)
+unfolding weight distance blank
+light-word = (blank-word, omega arith)

@@ -1,30 +1,26 @@
 -- Whole benches: what steps leave as it was, room included; and benches that came from one and have the same level and marks are equal.
 -- Assumes nothing.
-use mathlib.Core.Path.{_≡_, refl, sym, ap, ap₂, _∙_, subst}
+use mathlib.Core.Path.{_≡_, refl, sym, ap, ap₂, _∙_}
 use mathlib.Core.Logic.{_⊎_, inl, inr}
 use mathlib.Core.List.{List, [], _∷_, _++_}
-use Prim.Native.Nat.{ℕ, zero, suc, _+_, _*_, _<_, _≤_, zero-le}
-use native.Mathlib.Nat.{zero-add, le-refl, zero-lt-suc, le-of-suc-le-suc, not-suc-le-zero}
+use Prim.Native.Nat.{ℕ, zero, suc, _*_, _<_, _≤_}
+use native.Mathlib.Nat.{zero-lt-suc, le-of-suc-le-suc, not-suc-le-zero}
 use native.Mathlib.Omega.{arith}
-use lib.ListN.{length, take, drop, getD, length-append, length-map, take-append-drop}
-use lib.Seq.{drop-drop, drop-set-lt, take-take, getD-set-same, getD-set-other}
-use Rattle.field.specs.Lists.{upFrom}
+use lib.ListN.{length, drop, getD, length-map, take-append-drop}
+use lib.Seq.{take-take, getD-set-same, getD-set-other}
 use Rattle.linear.specs.Fill.{sumsOf}
 use Rattle.plans.specs.Plan.{Plan, planOf, levelOf, checksTo, rowAt, across}
 use Rattle.plans.specs.Refusal.{room, sumsAt}
-use Rattle.steps.specs.Steps.{putRow, keepSums, raise}
+use Rattle.steps.specs.Steps.{putRow, raise}
 use Rattle.plans.specs.declared.Bench.{Bench}
-use Rattle.plans.proofs.Rows.{of-rows, row-end, row-other, rows-ext, drop-sets-before}
-use Rattle.steps.proofs.Sums.{learnedAt, keep-part, keep-room}
-use Rattle.steps.proofs.Levels.{checks-suc, checks-le}
+use Rattle.plans.proofs.Rows.{of-rows, row-other, rows-ext}
+use Rattle.steps.proofs.Levels.{checks-le}
 use Rattle.plans.proofs.Shape.{shape}
 use Rattle.demands.specs.Words.{Move, after, walk}
+use Rattle.demands.specs.Room.{placesAt}
 use Rattle.demands.proofs.Codewords.{word-row}
+use Rattle.demands.proofs.Room.{drop-later, room-put, room-raise}
 use Rattle.demands.proofs.Held.{Held, own-plan, wordSums, held-known, held-level, held-words, held-unmarked, Made, stays, fills, learns, makes, held-after}
-
--- row r's places for sums
-abbrev pub placesAt : List ℕ → ℕ → List ℕ
-placesAt sums r = take room (drop (r * room) sums)
 
 -- b came from a: a marked row, the room beyond the plan's size and the sums of levels above b's are as they were
 pub record Kept (p : ℕ) (a b : Bench) : Type 0 where
@@ -52,9 +48,8 @@ module _ (X : List ℕ) (a b : Bench) (h : Held (b .plan) X b) (k : Kept (b .pla
             of-rows (λ j. (getD (c .marks) j 0 ≡ 0) ⊎ (rowAt P (c .symbols) j ≡ rowAt P (a .symbols) j)) r
             (inl (getD-set-same (b .marks) r 0 0 (omega (arith, held-words (b .plan) X b h))))
             (λ j g ne. rw (getD-set-other (b .marks) r j 0 0 ne, row-other P r (rowAt P X r) (b .symbols) long j ne) (k .rows j g));
-        symbols =
-            drop-sets-before (P .rows * P .columns) (rowAt P X r) (b .symbols) (r * P .columns) (omega (arith, row-end (P .columns) l)) ∙ k .symbols;
-        marks = drop-set-lt (P .rows) (b .marks) r 0 l ∙ k .marks;
+        symbols = room-put b r (rowAt P X r) l long .symbols ∙ k .symbols;
+        marks = room-put b r (rowAt P X r) l long .marks ∙ k .marks;
         places = k .places;
         sums = k .sums;
       }
@@ -62,27 +57,15 @@ module _ (X : List ℕ) (a b : Bench) (h : Held (b .plan) X b) (k : Kept (b .pla
   own-raise : b .level < length (P .levels) → Kept (b .plan) a (raise b (wordSums (b .plan) (b .level) X))
   unfolding raise
   own-raise low =
-      let L = levelOf P (suc (b .level)) in
       let cs = wordSums (b .plan) (b .level) X in
-      let at = length (checksTo P (b .level)) in
-      let v = length (L .checks) in
-      let next = length (checksTo P (suc (b .level))) in
-      let count : length cs ≡ v = length-map (L .checks) (across P X) in
-      let more : next ≡ at + v = ap length (checks-suc P (b .level) low) ∙ length-append (checksTo P (b .level)) (L .checks) in
-      let narrow : at + length cs ≤ room = omega (arith, checks-le P low, shape (b .plan) (h .sound .fit .plan-known) .sums-le) in
+      let kept = room-raise b (h .sound .fit .plan-known) low cs (length-map (levelOf P (suc (b .level)) .checks) (across P X)) in
       record {
         rows = k .rows;
         symbols = k .symbols;
         marks = k .marks;
         places = λ r l.
-            ap (drop next) (keep-part at cs narrow 0 (P .rows) room (b .sums) r (le-refl room) zero-le (omega arith))
-            ∙ drop-sets-before next (learnedAt cs r) (placesAt (b .sums) r) at (omega (arith, length-map cs (λ c. getD c r 0)))
-            ∙ ap (λ n. drop n (placesAt (b .sums) r)) more ∙ sym (drop-drop v at (placesAt (b .sums) r)) ∙ ap (drop v) (k .places r l)
-            ∙ drop-drop v at (placesAt (a .sums) r) ∙ ap (λ n. drop n (placesAt (a .sums) r)) (sym more);
-        sums =
-            subst (λ n. drop (n * room) (keepSums at cs (b .sums) (upFrom 0 (P .rows))) ≡ drop (n * room) (b .sums)) (zero-add (P .rows))
-            (keep-room at cs narrow 0 (P .rows) (b .sums))
-            ∙ k .sums;
+            kept .above r l ∙ drop-later (placesAt (b .sums) r) (placesAt (a .sums) r) (checks-le P (omega arith)) (k .places r l);
+        sums = kept .sums ∙ k .sums;
       }
 
 module _ (p : ℕ) (X : List ℕ) (a : Bench) where

@@ -3,5 +3,6 @@ pub mod Words
 pub mod Second
 pub mod Third
 pub mod Silence
+pub mod Room
 pub mod Refused
 pub mod Parameters

@@ -5,7 +5,7 @@ use mathlib.Core.List.{List, [], _∷_, _++_, map, flatMap, append-assoc}
 use Prim.Native.Nat.{ℕ, zero, suc, _+_, _*_, _-_, _/_, _%_, _^_, _≤_, _<_}
 use native.Mathlib.Nat.{div-add-mod', mod-eq-of-lt, add-assoc, not-suc-le-zero, le-of-suc-le-suc, le-of-eq, le-trans}
 use native.Mathlib.Omega.{arith}
-use borrow.Author.Tests.{eq-eqb, ne-eqb}
+use borrow.Author.Tests.{le-leb, eq-eqb, ne-eqb}
 use lib.Dec.{T, eqb, leb, ltb, ltb→lt, eqb→eq, le→leb}
 use lib.ListN.{length, getD, take, drop, length-map, length-append, length-take, length-drop, take-append-drop}
 use lib.Pow.{pow-mono, shr-shr}
@@ -21,6 +21,7 @@ use Rattle.plans.specs.Refusal.{firstFailed, unasked, inMemory, inFile, stripeF
 use Rattle.repair.specs.File.{bytes2, bytes4, headerOf, blanked, fileOf, writeRefusal, writeFile, planIn, wordAt, marksIn, symbolsIn, fileRefusal, readRefusal, readStripe, readMarks}
 use Rattle.plans.proofs.Parts.{rest-of}
 use Rattle.plans.proofs.Rows.{sets-whole}
+use Rattle.files.specs.Written.{contentRefusal}
 use Rattle.files.proofs.Writing.{front-set}
 use Rattle.plans.proofs.Shape.{shape}
 use Rattle.steps.proofs.Fit.{pass, go-on, eq→eqb, passed, marks-fit, fit-marks, symbols-fit, fit-symbols, LentFit, lent-fit, fit-lent}
@@ -99,6 +100,10 @@ module _ (file : List ℕ) where
   symbols-behind e =
       let P = planOf (planIn file) in take-all (P .rows * P .columns) (drop (symbolsOffset P) file) (simp length-drop (omega arith))
 
+is-true : (b : Bool) → T b → b ≡ true
+is-true true t = refl
+is-true false t = absurd t
+
 -- a file of its plan's length, as code that knows its rows reads it
 pub record Whole (p n : ℕ) (file : List ℕ) : Type 0 where
   pub plan-known : T (known p)
@@ -132,6 +137,16 @@ module _ {p n : ℕ} {file : List ℕ} (w : Whole p n file) where
       rest-of (8 + 4 * n) file
       ∙ ap (λ k. drop (8 + 4 * k) file) (w .rows ∙ ap (λ k. planOf k .rows) (w .plan))
       ∙ sym (symbols-behind file (w .long ∙ ap (λ k. fileLength (planOf k)) (w .plan)))
+
+  -- header and length are right, so the tests of marks and symbols are left
+  pub whole-tests : T (same (take 8 file) (headerOf p)) → contentRefusal (planOf p) (marksIn file) (symbolsIn file) ≡ fileRefusal file unasked
+  unfolding unasked fileRefusal
+  whole-tests t =
+      let long : leb 8 (length file) ≡ true = le-leb 8 (length file) (omega (arith, whole-start)) in
+      let is-plan : known (planIn file) ≡ true = ap known (sym (w .plan)) ∙ is-true _ (w .plan-known) in
+      let agrees : same (take 8 file) (headerOf (planIn file)) ≡ true = ap (λ k. same (take 8 file) (headerOf k)) (sym (w .plan)) ∙ is-true _ t in
+      let fits : eqb (length file) (fileLength (planOf (planIn file))) ≡ true = eq-eqb _ _ (w .long ∙ ap (λ k. fileLength (planOf k)) (w .plan)) in
+      rw (long, is-plan, agrees, fits, w .plan)
 
 -- ---- files that are not refused
 

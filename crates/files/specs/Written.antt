@@ -1,18 +1,18 @@
 -- What the inner functions that write bytes and read files answer.
 use Prim.Native.Nat.{ℕ, _+_, _≤_}
 use mathlib.Core.Path.{_≡_}
-use mathlib.Core.Bool.{Bool}
-use mathlib.Core.List.{List, [], _∷_}
+use mathlib.Core.List.{List}
 use lib.ListN.{length}
 use lib.Seq.{sets}
 use Rattle.linear.specs.Lists.{same}
 use Rattle.plans.specs.Plan.{Plan, marksOf}
-use Rattle.plans.specs.Refusal.{marksFit, symbolsFit}
+use Rattle.plans.specs.Refusal.{inFile, unasked, marksFit, symbolsFit}
 use Rattle.repair.specs.File.{blanked}
 
--- the last tests of a file, those of its marks and symbols
-abbrev pub contentTests : Plan → (marks symbols : List ℕ) → List (ℕ × Bool)
-contentTests P marks symbols = (12, marksFit P marks) ∷ (13, symbolsFit P marks symbols) ∷ (22, same symbols (blanked (marksOf P marks) symbols)) ∷ []
+-- what of a file's marks and symbols is refused, no other test being asked
+abbrev pub contentRefusal : Plan → (marks symbols : List ℕ) → ℕ
+contentRefusal P marks symbols =
+    inFile unasked unasked unasked unasked unasked (marksFit P marks) (symbolsFit P marks symbols) (same symbols (blanked (marksOf P marks) symbols))
 
 -- the bytes xs were written into the buffer `old` from `at` up to `next`, which made it `new`
 pub record Put (old : List ℕ) (at : ℕ) (xs : List ℕ) (next : ℕ) (new : List ℕ) : Type 0 where

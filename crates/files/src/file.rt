@@ -1,21 +1,21 @@
 // The stripe file, read and written.
 use crate::buffer;
 use crate::marks;
-use plans::refusal;
 use repair::plan;
+use plans::refusal;
 ghost use mathlib.Core.Path.{_≡_};
 ghost use mathlib.Core.List.{flatMap};
 ghost use Prim.Native.Nat.{_+_, _*_, _/_, _%_, _^_, _≤_, _<_};
 ghost use lib.Dec.{T, eqb};
-ghost use lib.ListN.{length, getD};
+ghost use lib.ListN.{length, take, getD};
 ghost use lib.Seq.{sets};
 ghost use Rattle.field.specs.Lists.{if_then_else_, upFrom};
 ghost use Rattle.linear.specs.Lists.{«same» as equal};
 ghost use Rattle.linear.specs.Marks.{bitsOf};
 ghost use Rattle.plans.specs.Plan.{planOf, known, marksOf, fileLength};
-ghost use Rattle.plans.specs.Refusal.{firstFailed, unasked};
+ghost use Rattle.plans.specs.Refusal.{unasked};
 ghost use Rattle.repair.specs.File.{bytes4, headerOf, blanked, fileOf, writeRefusal, planIn, wordAt, marksIn, symbolsIn, fileRefusal};
-ghost use Rattle.files.specs.Written.{Put, contentTests};
+ghost use Rattle.files.specs.Written.{Put, contentRefusal};
 
 // ---- words of four bytes, low byte first
 
@@ -207,7 +207,7 @@ fn content_refusal(plan: usize, symbols: &[u8], marks: &[u32]) -> usize
     requires { ⌜ T (known plan) ⌝ }
     requires { ⌜ length (now marks) ≡ planOf plan .rows ⌝ }
     requires { ⌜ length (now symbols) ≡ planOf plan .rows * planOf plan .columns ⌝ }
-    ensures { λ r. ⌜ r ≡ firstFailed (contentTests (planOf plan) (now (marks .entry)) (now (symbols .entry))) ⌝ }
+    ensures { λ r. ⌜ r ≡ contentRefusal (planOf plan) (now (marks .entry)) (now (symbols .entry)) ⌝ }
 {
     if !refusal::marks_fit(plan, marks) {
         return 12;
@@ -221,12 +221,13 @@ fn content_refusal(plan: usize, symbols: &[u8], marks: &[u32]) -> usize
     0
 }
 
-// The same of a file whose header and length are right.
+// What of a file is refused whose header and length are right, the lent buffers left out.
 fn whole_refusal(plan: usize, file: &[u8]) -> usize
     requires { ⌜ T (known plan) ⌝ }
     requires { ⌜ plan ≡ planIn (now file) ⌝ }
+    requires { ⌜ T (equal (take 8 (now file)) (headerOf plan)) ⌝ }
     requires { ⌜ length (now file) ≡ fileLength (planOf plan) ⌝ }
-    ensures { λ r. ⌜ r ≡ firstFailed (contentTests (planOf plan) (marksIn (now (file .entry))) (symbolsIn (now (file .entry)))) ⌝ }
+    ensures { λ r. ⌜ r ≡ fileRefusal (now (file .entry)) unasked ⌝ }
 {
     let rows = plan::rows(plan);
     let mut words = [0u32; 8];
@@ -244,7 +245,7 @@ pub fn file_refusal(file: &[u8], lengths: bool) -> usize
     }
     let plan = plan_in(file);
     if !plan::is_known(plan) {
-        return 10;
+        return 10; // whatever its header says
     }
     let header = header_of(plan);
     if !same(&file[..8], &header) {

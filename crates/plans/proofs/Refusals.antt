@@ -15,7 +15,7 @@ use Rattle.field.specs.Field.{size}
 use Rattle.linear.specs.Lists.{all}
 use Rattle.linear.specs.Marks.{bitsOf}
 use Rattle.plans.specs.Plan.{Plan, known, planOf, rowAt, marksAt, checksTo}
-use Rattle.plans.specs.Refusal.{room, firstFailed, stripeFits, wordsFit, marksFit, allBelow, unmarkedBelow, symbolsFit, sumsAt, sumsFit, levelFits, inMemory, lentRefusal, benchRefusal}
+use Rattle.plans.specs.Refusal.{room, firstFailed, stripeFits, wordsFit, marksFit, allBelow, unmarkedBelow, symbolsFit, sumsAt, sumsFit, levelFits, inMemory, inFile, lentRefusal, benchRefusal}
 use Rattle.plans.specs.Tables.{FactsOf}
 use Rattle.plans.specs.declared.Bench.{Bench}
 use Rattle.plans.specs.declared.plan.Facts.{Facts}
@@ -43,6 +43,22 @@ pub passed : (n : ℕ) (b : Bool) (ts : List (ℕ × Bool)) → (n ≡ 0 → ⊥
 unfolding if_then_else_ firstFailed
 passed n true ts ne e = (refl, e)
 passed n false ts ne e = absurd (ne e)
+
+-- whatever the later tests say: in memory 10, 11, 15, 12, 13, 14, 16
+pub first-in-memory : (b c d e f g : Bool)
+    → (inMemory false b c d e f g ≡ 10) × (inMemory true false c d e f g ≡ 11) × (inMemory true true false d e f g ≡ 15)
+    × (inMemory true true true false e f g ≡ 12) × (inMemory true true true true false f g ≡ 13)
+    × (inMemory true true true true true false g ≡ 14) × (inMemory true true true true true true false ≡ 16)
+unfolding if_then_else_ firstFailed inMemory
+first-in-memory b c d e f g = (refl, refl, refl, refl, refl, refl, refl)
+
+-- for a file 20, 10, 21, 20, 11, 12, 13, 22
+pub first-in-file : (b c d e f g h : Bool)
+    → (inFile false b c d e f g h ≡ 20) × (inFile true false c d e f g h ≡ 10) × (inFile true true false d e f g h ≡ 21)
+    × (inFile true true true false e f g h ≡ 20) × (inFile true true true true false f g h ≡ 11) × (inFile true true true true true false g h ≡ 12)
+    × (inFile true true true true true true false h ≡ 13) × (inFile true true true true true true true false ≡ 22)
+unfolding if_then_else_ firstFailed inFile
+first-in-file b c d e f g h = (refl, refl, refl, refl, refl, refl, refl, refl)
 
 -- ---- lengths
 

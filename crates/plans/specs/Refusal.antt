@@ -21,11 +21,13 @@ firstFailed (t ∷ ts) = if t .1 then firstFailed ts else t .0
 unfoldable pub unasked : Bool
 unasked = true
 
+-- the order in memory
 unfoldable pub inMemory : (plan lengths level marks symbols row codeword : Bool) → ℕ
 inMemory plan lengths level marks symbols row codeword =
     firstFailed
     ((10, plan) ∷ (11, lengths) ∷ (15, level) ∷ (12, marks) ∷ (13, symbols) ∷ (14, row) ∷ (16, codeword) ∷ [])
 
+-- the order for a file: `header` says that it has 8 bytes, `whole` that it has the plan's length
 unfoldable pub inFile : (header plan agrees whole lengths marks symbols blank : Bool) → ℕ
 inFile header plan agrees whole lengths marks symbols blank =
     firstFailed

@@ -1,18 +1,23 @@
 -- Plans 2 and 3 on samples: a codeword of each, found by another program from the rule of the code alone, and the plans' published sizes.
+-- And the orders of refusal, on samples that have two flaws at once.
 -- Assumes nothing.
 use Prim.Native.Nat.{ℕ, suc, _*_, _/_, _%_, _^_}
 use mathlib.Core.Path.{_≡_, refl}
 use mathlib.Core.Bool.{Bool, true, false}
 use mathlib.Core.List.{List, [], _∷_, _++_, map, flatMap}
-use lib.ListN.{getD, set}
+use lib.ListN.{take, getD, replicate, set}
 use Rattle.field.specs.Lists.{if_then_else_, upFrom}
 use Rattle.field.specs.Field.{_⊕_, size, double, times, mul, dot, gf2, gf16, gf32}
 use Rattle.field.specs.Power.{power}
-use Rattle.linear.specs.Lists.{all, only, vanish}
+use Rattle.linear.specs.Lists.{all, only, same, vanish}
 use Rattle.linear.specs.Marks.{bitsOf}
 use Rattle.linear.specs.Fill.{sumsOf}
-use Rattle.plans.specs.Plan.{ones, bitChecks, wordOf, locations1, plan1, locations2, powers2, plan2, locations3, powers3, plan3, noLevel, levelOf, rowAt, marksAt, marksOf, across, checkPlacesOf, carried, marksOffset, symbolsOffset, fileLength}
-use Rattle.codewords.specs.Codeword.{rowsHold, totalsHold, isCodeword}
+use Rattle.plans.specs.Plan.{ones, bitChecks, wordOf, locations1, plan1, locations2, powers2, plan2, locations3, powers3, plan3, known, noPlan, planOf, noLevel, levelOf, checksTo, rowAt, marksAt, marksOf, across, checkPlacesOf, carried, marksOffset, symbolsOffset, fileLength}
+use Rattle.plans.specs.Refusal.{firstFailed, unasked, inMemory, inFile, stripeFits, wordsFit, marksFit, allBelow, unmarkedBelow, symbolsFit, sumsAt, sumsFit, levelFits, lentRefusal, benchRefusal}
+use Rattle.codewords.specs.Codeword.{rowsHold, totalsHold, isCodeword, extractRefusal}
+use Rattle.repair.specs.File.{bytes2, headerOf, blanked, planIn, wordAt, marksIn, symbolsIn, fileRefusal, readRefusal}
+use Rattle.plans.specs.declared.Bench.{Bench}
+use Rattle.repair.proofs.Sheet.{blank, exampleFile}
 
 -- a row of n symbols below q, read off a number, column 0 last
 unfoldable pub rowOf : (q n : ℕ) → ℕ → List ℕ
@@ -47,3 +52,67 @@ pub sizes :
     × (fileLength plan1 ≡ 41) × (fileLength plan2 ≡ 296) × (fileLength plan3 ≡ 160)
 unfolding if_then_else_ upFrom flatMap only bitsOf ones wordOf plan1 plan2 plan3 marksAt marksOf checkPlacesOf carried marksOffset symbolsOffset fileLength
 sizes = (refl, refl, refl, refl, refl, refl)
+
+-- ---- the orders of refusal: of two flaws the earlier in the order is named
+
+unfoldable pub noMarks : List ℕ
+noMarks = replicate 3 0
+
+-- the example's file with one byte changed, and with two
+unfoldable pub withByte : (at byte : ℕ) → List ℕ
+withByte at byte = set exampleFile at byte
+
+unfoldable pub withBytes : (at byte at′ byte′ : ℕ) → List ℕ
+withBytes at byte at′ byte′ = set (set exampleFile at byte) at′ byte′
+
+-- for a file: 20 (shorter than 8), 10, 21, 20 (whole length), 11, 12, 13, 22
+pub file-order :
+    -- shorter than 8, of an unknown plan
+    (readRefusal (9 ∷ []) blank noMarks ≡ 20)
+    -- an unknown plan, and a header that disagrees
+    × (readRefusal (withByte 0 9) blank noMarks ≡ 10)
+    -- a header that disagrees, one byte too few
+    × (readRefusal (take 40 (withByte 1 4)) blank noMarks ≡ 21)
+    -- one byte too few, a lent stripe too short
+    × (readRefusal (take 40 exampleFile) [] noMarks ≡ 20)
+    -- a lent stripe too short, a mark bit at column 7
+    × (readRefusal (withByte 8 0x82) [] noMarks ≡ 11)
+    -- a mark bit at column 7, a symbol 2
+    × (readRefusal (withBytes 8 0x82 20 2) blank noMarks ≡ 12)
+    -- a symbol 2, and 1 under a mark
+    × (readRefusal (withBytes 20 2 21 1) blank noMarks ≡ 13)
+    -- 1 under a mark alone, and nothing
+    × (readRefusal (withByte 21 1) blank noMarks ≡ 22) × (readRefusal exampleFile blank noMarks ≡ 0)
+unfolding if_then_else_ upFrom size gf2 flatMap all same bitsOf plan1 known noPlan planOf rowAt marksAt marksOf
+    firstFailed unasked inFile stripeFits wordsFit marksFit unmarkedBelow symbolsFit
+    bytes2 marksOffset symbolsOffset fileLength headerOf blanked planIn wordAt marksIn symbolsIn fileRefusal readRefusal
+    blank exampleFile noMarks withByte withBytes
+file-order = (refl, refl, refl, refl, refl, refl, refl, refl, refl)
+
+-- a bench whose row 0 has this mark word, this symbol in column 0 and this sum of level 1
+unfoldable pub benchWith : (plan level word symbol sum : ℕ) → Bench
+benchWith p t word symbol sum = record {
+  plan = p;
+  level = t;
+  symbols = set (replicate 256 0) 0 symbol;
+  marks = set (replicate 8 0) 0 word;
+  sums = set (replicate 128 0) 0 sum;
+}
+
+-- in memory: 10, 11, 15, 12, 13, 14, 16; no call has all of them
+pub memory-order :
+    -- lent: an unknown plan, its lengths; a stripe too short, a mark bit at column 7; the mark bit, a symbol 2
+    (lentRefusal 4 blank noMarks ≡ 10) × (lentRefusal 1 [] (set noMarks 0 128) ≡ 11) × (lentRefusal 1 (set blank 0 2) (set noMarks 0 128) ≡ 12)
+    -- a bench: an unknown plan, level 0; level 3, a mark bit at column 7; the mark bit, a symbol 2
+    × (benchRefusal (benchWith 4 0 0 0 0) unasked ≡ 10) × (benchRefusal (benchWith 1 3 128 0 0) unasked ≡ 15)
+    × (benchRefusal (benchWith 1 1 128 2 0) unasked ≡ 12)
+    -- and a row number that does not fit: with a symbol 2, with a sum 2, alone
+    × (benchRefusal (benchWith 1 1 0 2 0) false ≡ 13) × (benchRefusal (benchWith 1 1 0 0 2) false ≡ 13) × (benchRefusal (benchWith 1 1 0 0 0) false ≡ 14)
+    -- extraction: lengths, a symbol 2; a symbol 2, no codeword; no codeword alone
+    × (extractRefusal 1 (set blank 0 2) [] ≡ 11) × (extractRefusal 1 (set (set blank 0 2) 7 1) (replicate 15 0) ≡ 13)
+    × (extractRefusal 1 (set blank 0 1) (replicate 15 0) ≡ 16)
+unfolding if_then_else_ upFrom _⊕_ size double times mul dot gf2 flatMap all only vanish bitsOf sumsOf
+    ones bitChecks wordOf locations1 plan1 known noPlan planOf noLevel levelOf checksTo rowAt marksAt marksOf
+    firstFailed unasked inMemory stripeFits wordsFit marksFit allBelow unmarkedBelow symbolsFit sumsAt sumsFit levelFits lentRefusal benchRefusal
+    across rowsHold totalsHold isCodeword checkPlacesOf carried extractRefusal blank noMarks benchWith
+memory-order = (refl, refl, refl, refl, refl, refl, refl, refl, refl, refl, refl, refl)

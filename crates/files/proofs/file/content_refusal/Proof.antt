@@ -1,33 +1,48 @@
--- `repair::file::content_refusal` meets its contract: the first test that fails gives its number. Assumes nothing.
-use mathlib.Core.Path.{sym, _∙_}
+-- `files::file::content_refusal` meets its contract: the first test that fails gives its number. Assumes nothing.
+use mathlib.Core.Path.{_≡_, sym, _∙_}
+use mathlib.Core.Bool.{true}
 use borrow.Author.Tests.{not-true, not-false}
 use borrow.Author.Needs.{needs}
-use Rattle.plans.proofs.Refusals.{passes, fails, none-fails}
+use denote.Ref.{now}
+use Rattle.field.specs.Lists.{if_then_else_}
+use Rattle.plans.specs.Plan.{planOf}
+use Rattle.plans.specs.Refusal.{firstFailed, unasked, inFile, marksFit, symbolsFit}
 use Rattle.files.proofs.file.content_refusal.Statement.{statement}
 use Rattle.files.proofs.file.content_refusal.Tie as tie
+
+-- the tests that passed, in their order
+
+words : (c : tie.Else1) → let a = c .before .before .before .before .args in marksFit (planOf (a .plan)) (now (a .marks)) ≡ true
+words c = sym (c .before .marks-fit .ensures) ∙ not-false _ (c .if1 .left)
+
+below : (c : tie.Else2) → let a = c .before .before .before .before .before .before .args in
+    symbolsFit (planOf (a .plan)) (now (a .marks)) (now (a .symbols)) ≡ true
+below c = sym (c .before .symbols-fit .ensures) ∙ not-false _ (c .if2 .left)
 
 marks-fit-requires : tie.Need-marks-fit-requires
 marks-fit-requires c κs = search needs
 
 returns : tie.Need-returns
-returns c = sym (fails 12 _ (sym (c .before .marks-fit .ensures) ∙ not-true _ (c .if1 .taken)))
+unfolding if_then_else_ firstFailed unasked inFile
+returns c = rw (sym (c .before .marks-fit .ensures) ∙ not-true _ (c .if1 .taken))
 
 symbols-fit-requires : tie.Need-symbols-fit-requires
 symbols-fit-requires c κs = search needs
 
 returns-2 : tie.Need-returns-2
-returns-2 c = sym (passes 12 _ (sym (c .before .before .before .marks-fit .ensures) ∙ not-false _ (c .before .before .if1 .left)) ∙ fails 13 _ (sym (c .before .symbols-fit .ensures) ∙ not-true _ (c .if2 .taken)))
+unfolding if_then_else_ firstFailed unasked inFile
+returns-2 c = rw (words (c .before .before), sym (c .before .symbols-fit .ensures) ∙ not-true _ (c .if2 .taken))
 
 is-blank-requires : tie.Need-is-blank-requires
 is-blank-requires c κs = search needs
 
 returns-3 : tie.Need-returns-3
-returns-3 c =
-    sym (passes 12 _ (sym (c .before .before .before .before .before .marks-fit .ensures) ∙ not-false _ (c .before .before .before .before .if1 .left)) ∙ passes 13 _ (sym (c .before .before .before .symbols-fit .ensures) ∙ not-false _ (c .before .before .if2 .left)) ∙ fails 22 _ (sym (c .before .is-blank .ensures) ∙ not-true _ (c .if3 .taken)))
+unfolding if_then_else_ firstFailed unasked inFile
+returns-3 c = rw (words (c .before .before .before .before), below (c .before .before), sym (c .before .is-blank .ensures) ∙ not-true _ (c .if3 .taken))
 
 returns-4 : tie.Need-returns-4
-returns-4 c =
-    sym (passes 12 _ (sym (c .before .before .before .before .before .marks-fit .ensures) ∙ not-false _ (c .before .before .before .before .if1 .left)) ∙ passes 13 _ (sym (c .before .before .before .symbols-fit .ensures) ∙ not-false _ (c .before .before .if2 .left)) ∙ passes 22 _ (sym (c .before .is-blank .ensures) ∙ not-false _ (c .if3 .left)) ∙ none-fails)
+unfolding if_then_else_ firstFailed unasked inFile
+returns-4 c = rw (words (c .before .before .before .before), below (c .before .before), sym (c .before .is-blank .ensures) ∙ not-false _ (c .if3 .left))
 
 pub content-refusal-spec : {M : Type 1} → statement M
 content-refusal-spec =

@@ -1,4 +1,4 @@
--- `repair::file::file_refusal` meets its contract: the first test that fails gives its number. Assumes nothing.
+-- `files::file::file_refusal` meets its contract: the first test that fails gives its number. Assumes nothing.
 use mathlib.Core.Bool.{true}
 use mathlib.Core.Path.{_≡_, sym, ap, subst, _∙_}
 use borrow.Author.Tests.{le-leb, lt-leb, eq-eqb, ne-eqb, not-true, not-false}
@@ -8,10 +8,9 @@ use lib.Seq.{length-take-le}
 use lib.ListN.{length, take}
 use lib.Dec.{T, leb}
 use Rattle.linear.specs.Lists.{same}
-use Rattle.repair.specs.File.{bytes2, headerOf, planIn, marksIn, symbolsIn, fileRefusal}
+use Rattle.repair.specs.File.{bytes2, headerOf, planIn, fileRefusal}
 use Rattle.plans.specs.Plan.{fileLength, planOf, known}
-use Rattle.files.specs.Written.{contentTests}
-use Rattle.plans.specs.Refusal.{firstFailed, inFile}
+use Rattle.plans.specs.Refusal.{unasked, inFile}
 use Rattle.plans.proofs.Refusals.{passes, fails}
 use Rattle.files.proofs.file.file_refusal.Statement.{statement}
 use Rattle.files.proofs.file.file_refusal.Tie as tie
@@ -26,6 +25,10 @@ is-plan c = ap known (sym (c .before .before .plan-in .ensures)) ∙ sym (c .bef
 
 header : (c : tie.After-same) → c .same .result ≡ same (take 8 (now (c .before .before .before .before .before .before .before .before .before .args .file))) (headerOf (planIn (now (c .before .before .before .before .before .before .before .before .before .args .file))))
 header c = c .same .ensures ∙ ap (same _) (c .before .before .before .header-of .ensures ∙ ap headerOf (c .before .before .before .before .before .before .plan-in .ensures))
+
+agrees : (c : tie.Else3) → let file = now (c .before .before .before .before .before .before .before .before .before .before .args .file) in
+    same (take 8 file) (headerOf (planIn file)) ≡ true
+agrees c = sym (header (c .before)) ∙ not-false _ (c .if3 .left)
 
 whole : (c : tie.Else4) → length (now (c .before .before .before .before .before .before .before .before .before .before .before .before .args .file)) ≡ fileLength (planOf (planIn (now (c .before .before .before .before .before .before .before .before .before .before .before .before .args .file))))
 whole c = c .if4 .left ∙ c .before .file-length .ensures ∙ ap (λ p. fileLength (planOf p)) (c .before .before .before .before .before .before .before .before .before .plan-in .ensures)
@@ -69,27 +72,26 @@ file-length-requires c κs = search needs
 returns-4 : tie.Need-returns-4
 unfolding inFile fileRefusal
 returns-4 c =
-    sym (passes 20 _ (long (c .before .before .before .before .before .before .before .before .before .before)) ∙ passes 10 _ (is-plan (c .before .before .before .before .before .before .before)) ∙ passes 21 _ (sym (header (c .before .before .before)) ∙ not-false _ (c .before .before .if3 .left))
+    sym (passes 20 _ (long (c .before .before .before .before .before .before .before .before .before .before)) ∙ passes 10 _ (is-plan (c .before .before .before .before .before .before .before)) ∙ passes 21 _ (agrees (c .before .before))
     ∙ fails 20 _ (ne-eqb _ _ (λ e. c .if4 .taken (e ∙ sym (c .before .file-length .ensures ∙ ap (λ p. fileLength (planOf p)) (c .before .before .before .before .before .before .before .before .before .plan-in .ensures))))))
 
 returns-5 : tie.Need-returns-5
 unfolding inFile fileRefusal
 returns-5 c =
-    sym (passes 20 _ (long (c .before .before .before .before .before .before .before .before .before .before .before)) ∙ passes 10 _ (is-plan (c .before .before .before .before .before .before .before .before)) ∙ passes 21 _ (sym (header (c .before .before .before .before)) ∙ not-false _ (c .before .before .before .if3 .left))
+    sym (passes 20 _ (long (c .before .before .before .before .before .before .before .before .before .before .before)) ∙ passes 10 _ (is-plan (c .before .before .before .before .before .before .before .before)) ∙ passes 21 _ (agrees (c .before .before .before))
     ∙ passes 20 _ (eq-eqb _ _ (whole (c .before))) ∙ fails 11 _ (not-true _ (c .if5 .taken)))
 
 whole-refusal-requires : tie.Need-whole-refusal-requires
 whole-refusal-requires c κs =
+    let file = now (c .before .before .before .before .before .before .before .before .before .before .before .before .before .args .file) in
     let p = c .before .before .before .before .before .before .before .before .before .before .plan-in .ensures in
-    (subst (λ b. T b) (sym (ap known p ∙ is-plan (c .before .before .before .before .before .before .before .before))) tt, (p, whole (c .before) ∙ ap (λ p. fileLength (planOf p)) (sym p)))
+    let header-agrees = ap (λ k. same (take 8 file) (headerOf k)) p ∙ agrees (c .before .before .before) in
+    let plan-known = ap known p ∙ is-plan (c .before .before .before .before .before .before .before .before) in
+    (subst T (sym plan-known) tt, (p, (subst T (sym header-agrees) tt, whole (c .before) ∙ ap (λ p. fileLength (planOf p)) (sym p))))
 
 returns-6 : tie.Need-returns-6
-unfolding inFile fileRefusal
-returns-6 c =
-    let file = now (c .before .before .before .before .before .before .before .before .before .before .before .before .before .before .args .file) in
-    c .whole-refusal .ensures ∙ ap (λ p. firstFailed (contentTests (planOf p) (marksIn file) (symbolsIn file))) (c .before .before .before .before .before .before .before .before .before .before .before .plan-in .ensures)
-    ∙ sym (passes 20 _ (long (c .before .before .before .before .before .before .before .before .before .before .before .before)) ∙ passes 10 _ (is-plan (c .before .before .before .before .before .before .before .before .before)) ∙ passes 21 _ (sym (header (c .before .before .before .before .before)) ∙ not-false _ (c .before .before .before .before .if3 .left))
-    ∙ passes 20 _ (eq-eqb _ _ (whole (c .before .before))) ∙ passes 11 _ (not-false _ (c .before .if5 .left)))
+unfolding unasked
+returns-6 c = c .whole-refusal .ensures ∙ ap (fileRefusal _) (sym (not-false _ (c .before .if5 .left)))
 
 pub file-refusal-spec : {M : Type 1} → statement M
 file-refusal-spec =

@@ -1,19 +1,18 @@
--- `repair::file::whole_refusal` meets its contract: the marks and the symbols are cut out of the file. Assumes nothing.
+-- `files::file::whole_refusal` meets its contract: the marks and the symbols are cut out of the file. Assumes nothing.
 use mathlib.Core.Path.{_≡_, sym, ap, ap₂, _∙_}
 use native.Mathlib.Omega.{arith}
 use borrow.Author.Needs.{needs}
 use denote.Ref.{now}
 use lib.ListN.{replicate, length, take}
 use Rattle.repair.specs.File.{marksIn}
-use Rattle.files.specs.Written.{contentTests}
-use Rattle.plans.specs.Refusal.{firstFailed}
 use Rattle.plans.specs.Plan.{planOf}
-use Rattle.files.proofs.Files.{Whole, whole-start, whole-rows, whole-marks, whole-front, whole-symbols, whole-cut}
+use Rattle.files.specs.Written.{contentRefusal}
+use Rattle.files.proofs.Files.{Whole, whole-start, whole-rows, whole-marks, whole-front, whole-symbols, whole-cut, whole-tests}
 use Rattle.files.proofs.file.whole_refusal.Statement.{statement}
 use Rattle.files.proofs.file.whole_refusal.Tie as tie
 
 whole : (c : tie.After-rows) → let a = c .before .before .args in Whole (a .plan) (c .rows .result) (now (a .file))
-whole c = let s = c .before .before in record { plan-known = s .pre .0; plan = s .pre .1 .0; rows = c .rows .ensures; long = s .pre .1 .1 }
+whole c = let s = c .before .before in record { plan-known = s .pre .0; plan = s .pre .1 .0; rows = c .rows .ensures; long = s .pre .1 .1 .1 }
 
 front : (c : tie.After-read-marks) → take (c .before .before .rows .result) (c .read-marks .last .1 .1 .0) ≡ marksIn (now (c .before .before .before .before .args .file))
 front c =
@@ -58,8 +57,10 @@ content-refusal-requires c κs =
 
 returns : tie.Need-returns
 returns c =
-    let P = planOf (c .before .before .before .before .before .before .before .before .args .plan) in
-    c .content-refusal .ensures ∙ ap₂ (λ marks symbols. firstFailed (contentTests P marks symbols)) (front (c .before .before .before .before)) (whole-cut (whole (c .before .before .before .before .before .before)))
+    let s = c .before .before .before .before .before .before .before .before in
+    let w = whole (c .before .before .before .before .before .before) in
+    c .content-refusal .ensures
+    ∙ ap₂ (contentRefusal (planOf (s .args .plan))) (front (c .before .before .before .before)) (whole-cut w) ∙ whole-tests w (s .pre .1 .1 .0)
 
 pub whole-refusal-spec : {M : Type 1} → statement M
 whole-refusal-spec =
