@@ -1,7 +1,7 @@
 -- A bench read from bytes and written as bytes, and what the calls on it leave. Assumes nothing.
 use mathlib.Core.Path.{_≡_, refl, sym, ap, _∙_}
 use mathlib.Core.List.{List, [], _∷_, _++_}
-use Prim.Native.Nat.{ℕ, _+_, _*_}
+use Prim.Native.Nat.{ℕ, _+_}
 use native.Mathlib.Omega.{arith}
 use lib.ListN.{length, take, drop, getD, length-append}
 use Rattle.field.specs.Lists.{upFrom}
@@ -11,7 +11,7 @@ use Rattle.repair.specs.Steps.{started}
 use Rattle.repair.specs.declared.Bench.{Bench}
 use Rattle.repair.specs.declared.Stepped.{Stepped}
 use Rattle.repair.specs.declared.Started.{Started}
-use Rattle.shelf.specs.Layout.{byte, benchSize, benchBytes, benchIn}
+use Rattle.shelf.specs.Layout.{benchSize, benchBytes, benchIn}
 use Rattle.shelf.specs.Calls.{unfit, startNumber, startBuffer, stepAnswer, stepBuffer}
 use Rattle.shelf.specs.Written.{Written}
 use Rattle.shelf.proofs.Sizing.{sized-fit, sized-unfit}
@@ -37,12 +37,11 @@ module _ (l : List ℕ) where
 
 -- plan and level, symbols, mark words and sums are all of a bench's bytes
 module _ (b : Bench) (symbols : length (b .symbols) ≡ 256) (marks : length (b .marks) ≡ 8) (sums : length (b .sums) ≡ 128) where
-  pub bench-written : {old l₁ l₂ l₃ new : List ℕ} {plan level : ℕ} → length old ≡ 418 → plan ≡ byte (b .plan) → level ≡ byte (b .level)
-      → Written old 0 (plan ∷ level ∷ []) l₁ → Written l₁ 2 (b .symbols) l₂ → Written l₂ 258 (wordBytes (b .marks)) l₃
+  pub bench-written : {old l₁ l₂ l₃ new : List ℕ} → length old ≡ 418 → Written old 0 (b .plan ∷ b .level ∷ []) l₁ → Written l₁ 2 (b .symbols) l₂ → Written l₂ 258 (wordBytes (b .marks)) l₃
       → Written l₃ 290 (b .sums) new → new ≡ benchBytes b
   unfolding benchBytes
-  bench-written {old} {plan = plan} {level} fits e f w₁ w₂ w₃ w₄ =
-      let head = plan ∷ level ∷ [] in
+  bench-written fits w₁ w₂ w₃ w₄ =
+      let head = b .plan ∷ b .level ∷ [] in
       let words = wordBytes (b .marks) in
       let n₂ : length (head ++ b .symbols) ≡ 258 = length-append head (b .symbols) ∙ ap (λ n. 2 + n) symbols in
       let n₃ : length ((head ++ b .symbols) ++ words) ≡ 290 =
@@ -50,7 +49,6 @@ module _ (b : Bench) (symbols : length (b .symbols) ≡ 256) (marks : length (b 
       let n₄ : length (((head ++ b .symbols) ++ words) ++ b .sums) ≡ 418 =
       length-append ((head ++ b .symbols) ++ words) (b .sums) ∙ omega arith in
       written-whole (written-then (written-then (written-then w₁ refl w₂) (omega arith) w₃) (omega arith) w₄) (fits ∙ sym n₄)
-      ∙ rw (e, f) refl
 
 -- ---- calls
 

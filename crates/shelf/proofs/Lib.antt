@@ -2,6 +2,7 @@
 pub mod Writing
 pub mod Sizing
 pub mod Bytes
+pub mod Fitting
 pub mod Mending
 pub mod Words
 pub mod Benches

@@ -5,38 +5,35 @@ use repair::Place;
 use repair::Report;
 ghost use mathlib.Core.Path.{_≡_};
 ghost use mathlib.Core.List.{flatMap};
-ghost use Prim.Native.Nat.{_+_, _*_, _^_, _≤_};
+ghost use Prim.Native.Nat.{_+_, _*_, _^_, _≤_, _<_};
+ghost use lib.Dec.{T};
 ghost use lib.ListN.{length};
+ghost use Rattle.repair.specs.Refusal.{allBelow};
 ghost use Rattle.repair.specs.File.{bytes2, bytes4, wordAt};
-ghost use Rattle.shelf.specs.Layout.{byte, placeBytes, clashBytes, reportBytes, benchBytes, benchIn};
+ghost use Rattle.shelf.specs.Layout.{placeBytes, clashBytes, reportBytes, benchBytes, benchIn};
 ghost use Rattle.shelf.specs.Written.{Written};
-
-// The low byte of a number.
-fn byte_of(n: usize) -> u8
-    ensures { λ r. ⌜ r ≡ byte n ⌝ }
-{
-    (n % 256) as u8
-}
 
 // A number of two bytes, low byte first.
 pub fn size_bytes(n: usize) -> [u8; 2]
     ensures { λ r. ⌜ r ≡ bytes2 n ⌝ }
 {
-    [byte_of(n), byte_of(n / 256)]
+    [(n % 256) as u8, (n / 256 % 256) as u8]
 }
 
 // A Clash's place.
 fn place_bytes(place: Place) -> [u8; 3]
+    requires { ⌜ T (allBelow 256 (placeBytes place)) ⌝ }
     ensures { λ r. ⌜ r ≡ placeBytes place ⌝ }
 {
     match place {
-        Place::Row { row, level } => [1, byte_of(row), byte_of(level)],
-        Place::Across { level } => [2, 0, byte_of(level)],
+        Place::Row { row, level } => [1, row as u8, level as u8],
+        Place::Across { level } => [2, 0, level as u8],
     }
 }
 
 // A Clash's place; zeros where there is no Clash.
 fn clash_bytes(answer: Answer) -> [u8; 3]
+    requires { ⌜ T (allBelow 256 (clashBytes answer)) ⌝ }
     ensures { λ r. ⌜ r ≡ clashBytes answer ⌝ }
 {
     match answer {
@@ -49,17 +46,18 @@ fn clash_bytes(answer: Answer) -> [u8; 3]
 
 // A report's bytes.
 pub fn report_bytes(report: Report) -> [u8; 8]
+    requires { ⌜ T (allBelow 256 (reportBytes report)) ⌝ }
     ensures { λ r. ⌜ r ≡ reportBytes report ⌝ }
 {
     let answer = report.answer;
     let rows = report.rows;
     let clash = clash_bytes(answer);
     [
-        byte_of(report.level),
-        byte_of(report.left),
-        byte_of(rows[0]),
-        byte_of(rows[1]),
-        byte_of(rows[2]),
+        report.level as u8,
+        report.left as u8,
+        rows[0] as u8,
+        rows[1] as u8,
+        rows[2] as u8,
         clash[0],
         clash[1],
         clash[2],
@@ -130,6 +128,7 @@ fn sums_of(part: &[u8]) -> [u8; 128]
 pub fn bench_in(bytes: &[u8]) -> Bench
     requires { ⌜ length (now bytes) ≡ 418 ⌝ }
     ensures { λ r. ⌜ r ≡ benchIn (now (bytes .entry)) ⌝ }
+    ensures { λ r. ⌜ (r .plan < 256) × (r .level < 256) ⌝ }
 {
     let symbols = symbols_of(&bytes[2..258]);
     let sums = sums_of(&bytes[290..418]);
@@ -178,12 +177,13 @@ fn put_words(words: &[u32], out: &mut [u8], at: usize)
 // Writes a bench's bytes over the whole of `out`.
 pub fn put_bench(bench: Bench, out: &mut [u8])
     requires { ⌜ length (now out) ≡ 418 ⌝ }
+    requires { ⌜ (bench .plan < 256) × (bench .level < 256) ⌝ }
     ensures { λ _. ⌜ now (out .exit) ≡ benchBytes bench ⌝ }
 {
     let symbols = bench.symbols;
     let marks = bench.marks;
     let sums = bench.sums;
-    let head = [byte_of(bench.plan), byte_of(bench.level)];
+    let head = [bench.plan as u8, bench.level as u8];
     put(&head, out, 0);
     put(&symbols, out, 2);
     put_words(&marks, out, 258);

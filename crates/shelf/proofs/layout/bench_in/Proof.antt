@@ -66,10 +66,12 @@ cast-t24 : tie.Need-cast-t24
 cast-t24 c = omega (arith, c .shared-slice-known3 .given 1)
 
 returns : tie.Need-returns
-returns c =
-    bench-is _ (c .before .before .before .before .before .before .before .before .before .before .before .before .symbols-of .ensures) (c .before .before .before .before .before .before .before .before .before .before .sums-of .ensures)
-    (c .before .before .before .before .before .before .before .before .before .word-at .ensures) (c .before .before .before .before .before .before .before .before .word-at2 .ensures) (c .before .before .before .before .before .before .before .word-at3 .ensures) (c .before .before .before .before .before .before .word-at4 .ensures)
-    (c .before .before .before .before .before .word-at5 .ensures) (c .before .before .before .before .word-at6 .ensures) (c .before .before .before .word-at7 .ensures) (c .before .before .word-at8 .ensures)
+returns c = (
+  bench-is _ (c .before .before .before .before .before .before .before .before .before .before .before .before .symbols-of .ensures) (c .before .before .before .before .before .before .before .before .before .before .sums-of .ensures)
+      (c .before .before .before .before .before .before .before .before .before .word-at .ensures) (c .before .before .before .before .before .before .before .before .word-at2 .ensures) (c .before .before .before .before .before .before .before .word-at3 .ensures) (c .before .before .before .before .before .before .word-at4 .ensures)
+      (c .before .before .before .before .before .word-at5 .ensures) (c .before .before .before .before .word-at6 .ensures) (c .before .before .before .word-at7 .ensures) (c .before .before .word-at8 .ensures),
+  (omega (arith, c .before .shared-slice-known2 .given 0), omega (arith, c .shared-slice-known3 .given 1)),
+)
 
 pub bench-in-spec : {M : Type 1} → statement M
 bench-in-spec =

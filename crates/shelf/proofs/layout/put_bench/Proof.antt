@@ -17,11 +17,11 @@ marks-long c = sym (length-map (c .args .bench .marks) (λ v. v)) ∙ c .good .0
 sums-long : (c : tie.Start) → length (c .args .bench .sums) ≡ 128
 sums-long c = sym (length-map (c .args .bench .sums) (λ v. v)) ∙ c .good .0 .1 .1 .1 .1 .1 .1 .0 .1 .0 .1
 
-byte-of-requires : tie.Need-byte-of-requires
-byte-of-requires c κs = search needs
+cast-t7 : tie.Need-cast-t7
+cast-t7 c = omega (arith, c .before .before .before .before .before .pre .1 .0)
 
-byte-of-requires-2 : tie.Need-byte-of-requires-2
-byte-of-requires-2 c κs = search needs
+cast-t8 : tie.Need-cast-t8
+cast-t8 c = omega (arith, c .before .before .before .before .before .before .pre .1 .1)
 
 slice-aggregate-put : tie.Need-slice-aggregate-put
 slice-aggregate-put c = search needs
@@ -34,7 +34,7 @@ slice-aggregate-put-2 c = search needs
 
 put-requires-2 : tie.Need-put-requires-2
 put-requires-2 c κs =
-    let start = c .before .before .before .before .before .before .before .before .before .before .before .before .before in omega (arith, symbols-long start, start .pre, c .before .before .before .before .put .ensures .long)
+    let start = c .before .before .before .before .before .before .before .before .before .before .before .before .before in omega (arith, symbols-long start, start .pre .0, c .before .before .before .before .put .ensures .long)
 
 slice-aggregate-put-words : tie.Need-slice-aggregate-put-words
 slice-aggregate-put-words c = search needs
@@ -42,7 +42,7 @@ slice-aggregate-put-words c = search needs
 put-words-requires : tie.Need-put-words-requires
 put-words-requires c κs =
     let start = c .before .before .before .before .before .before .before .before .before .before .before .before .before .before .before .before .before .before in
-    omega (arith, marks-long start, start .pre, c .before .before .before .before .put2 .ensures .long, c .before .before .before .before .before .before .before .before .before .put .ensures .long)
+    omega (arith, marks-long start, start .pre .0, c .before .before .before .before .put2 .ensures .long, c .before .before .before .before .before .before .before .before .before .put .ensures .long)
 
 slice-aggregate-put-3 : tie.Need-slice-aggregate-put-3
 slice-aggregate-put-3 c = search needs
@@ -50,7 +50,7 @@ slice-aggregate-put-3 c = search needs
 put-requires-3 : tie.Need-put-requires-3
 put-requires-3 c κs =
     let start = c .before .before .before .before .before .before .before .before .before .before .before .before .before .before .before .before .before .before .before .before .before .before .before in
-    omega (arith, sums-long start, start .pre, c .before .before .before .before .put-words .ensures .long, c .before .before .before .before .before .before .before .before .before .put2 .ensures .long, c .before .before .before .before .before .before .before .before .before .before .before .before .before .before .put .ensures .long)
+    omega (arith, sums-long start, start .pre .0, c .before .before .before .before .put-words .ensures .long, c .before .before .before .before .before .before .before .before .before .put2 .ensures .long, c .before .before .before .before .before .before .before .before .before .before .before .before .before .before .put .ensures .long)
 
 same-length : tie.Need-same-length
 same-length c = search needs
@@ -58,16 +58,15 @@ same-length c = search needs
 returns : tie.Need-returns
 returns c =
     let start = c .before .before .before .before .before .before .before .before .before .before .before .before .before .before .before .before .before .before .before .before .before .before .before .before .before .before in
-    bench-written _ (symbols-long start) (marks-long start) (sums-long start) (start .pre)
-    (c .before .before .before .before .before .before .before .before .before .before .before .before .before .before .before .before .before .before .before .before .before .byte-of .ensures) (c .before .before .before .before .before .before .before .before .before .before .before .before .before .before .before .before .before .before .before .before .byte-of2 .ensures)
+    bench-written _ (symbols-long start) (marks-long start) (sums-long start) (start .pre .0)
     (c .before .before .before .before .before .before .before .before .before .before .before .before .before .before .before .before .before .put .ensures) (c .before .before .before .before .before .before .before .before .before .before .before .before .put2 .ensures) (c .before .before .before .before .before .before .before .put-words .ensures) (c .before .before .put3 .ensures)
 
 pub put-bench-spec : {M : Type 1} → statement M
 put-bench-spec =
     tie.close
     (tie.spec
-    byte-of-requires
-    byte-of-requires-2
+    cast-t7
+    cast-t8
     slice-aggregate-put
     put-requires
     slice-aggregate-put-2

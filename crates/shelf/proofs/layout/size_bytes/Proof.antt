@@ -1,20 +1,18 @@
 -- `shelf::layout::size_bytes` meets its contract. Assumes nothing.
-use mathlib.Core.Path.{ap₂}
-use mathlib.Core.List.{[], _∷_}
 use Rattle.repair.specs.File.{bytes2}
 use borrow.Author.Needs.{needs}
 use Rattle.shelf.proofs.layout.size_bytes.Statement.{statement}
 use Rattle.shelf.proofs.layout.size_bytes.Tie as tie
 
-byte-of-requires : tie.Need-byte-of-requires
-byte-of-requires c κs = search needs
+cast-t3 : tie.Need-cast-t3
+cast-t3 c = search needs
 
-byte-of-requires-2 : tie.Need-byte-of-requires-2
-byte-of-requires-2 c κs = search needs
+cast-t6 : tie.Need-cast-t6
+cast-t6 c = search needs
 
 returns : tie.Need-returns
 unfolding bytes2
-returns c = ap₂ (λ low high. low ∷ high ∷ []) (c .before .byte-of .ensures) (c .byte-of2 .ensures)
+returns c = search needs
 
 pub size-bytes-spec : {M : Type 1} → statement M
-size-bytes-spec = tie.close (tie.spec byte-of-requires byte-of-requires-2 returns)
+size-bytes-spec = tie.close (tie.spec cast-t3 cast-t6 returns)
