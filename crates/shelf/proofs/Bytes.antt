@@ -1,11 +1,9 @@
 -- Lengths and members of what is written. Assumes nothing.
 use mathlib.Core.Path.{_≡_, refl, sym, ap, ap₂, _∙_}
-use mathlib.Core.List.{List, [], _∷_, _++_, append-nil}
-use Prim.Native.Nat.{ℕ, _-_}
-use native.Mathlib.Nat.{sub-self}
+use mathlib.Core.List.{List, [], _∷_, _++_}
+use Prim.Native.Nat.{ℕ}
 use native.Mathlib.Omega.{arith}
-use lib.ListN.{length, getD, replicate}
-use Rattle.repair.specs.Tables.{padded}
+use lib.ListN.{length, getD}
 use Rattle.repair.specs.declared.Report.{Report}
 use Rattle.repair.specs.declared.Answer.{Answer}
 use Rattle.repair.specs.declared.Answer.the-variants.{Restored, Stuck, Clash, Refused}
@@ -40,8 +38,3 @@ module _ (r : Report) (three : length (r .rows) ≡ 3) where
   report-is e =
       ap (λ c. r .level ∷ r .left ∷ getD rows 0 0 ∷ getD rows 1 0 ∷ getD rows 2 0 ∷ getD c 0 0 ∷ getD c 1 0 ∷ getD c 2 0 ∷ []) e
       ∙ ap₂ (λ l c. r .level ∷ r .left ∷ l ++ c) (sym (three-are rows three)) (sym (clash-three (r .answer)))
-
--- nothing stands behind a list that is long enough
-pub padded-full : (n : ℕ) (xs : List ℕ) → length xs ≡ n → padded n xs ≡ xs
-unfolding padded
-padded-full n xs e = ap (λ k. xs ++ replicate (n - k) 0) e ∙ ap (λ k. xs ++ replicate k 0) (sub-self n) ∙ append-nil xs

@@ -1,6 +1,6 @@
 -- `shelf_mend` meets its contract. Assumes nothing.
 use mathlib.Core.Path.{sym, _∙_}
-use Rattle.shelf.proofs.Writing.{written-whole}
+use Rattle.files.proofs.Writing.{put-whole}
 use Rattle.shelf.proofs.Fitting.{report-fits}
 use Rattle.shelf.proofs.Mending.{mends-unfit, mends-fit, after-refusal, after-answer}
 use native.Mathlib.Omega.{arith}
@@ -61,7 +61,7 @@ returns-3 c =
     let bytes = c .before .before .before .before .before .report-bytes .ensures in
     let refuses = sym (c .before .before .before .before .before .before .before .is-refusal .ensures) ∙ c .before .before .before .before .before .before .if2 .left in
     mends-fit _ _ _ _ fits _ (mend .ensures .0) (c .before .before .before .before .before .before .before .before .of-answer .ensures) (mend .ensures .1 .0) (mend .ensures .1 .1)
-    (written-whole (c .before .before .put .ensures) (omega (arith, fits)) ∙ bytes ∙ after-answer _ _ refuses)
+    (put-whole (c .before .before .put .ensures) (omega (arith, fits)) ∙ bytes ∙ after-answer _ _ refuses)
 
 pub shelf-mend-spec : {M : Type 1} → statement M
 shelf-mend-spec =

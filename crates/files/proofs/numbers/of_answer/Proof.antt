@@ -1,9 +1,9 @@
--- `shelf::numbers::of_answer` meets its contract. Assumes nothing.
+-- `files::numbers::of_answer` meets its contract: by the answer. Assumes nothing.
 use mathlib.Core.Path.{sym, ap}
-use Rattle.repair.specs.Answers.{answerNumber}
 use borrow.Author.Needs.{needs}
-use Rattle.shelf.proofs.numbers.of_answer.Statement.{statement}
-use Rattle.shelf.proofs.numbers.of_answer.Tie as tie
+use Rattle.repair.specs.Answers.{answerNumber}
+use Rattle.files.proofs.numbers.of_answer.Statement.{statement}
+use Rattle.files.proofs.numbers.of_answer.Tie as tie
 
 enum-told : tie.Need-enum-told
 enum-told c = search needs

@@ -1,8 +1,8 @@
--- `shelf::layout::size_bytes` meets its contract. Assumes nothing.
+-- `files::words::size_bytes` meets its contract. Assumes nothing.
 use Rattle.repair.specs.File.{bytes2}
 use borrow.Author.Needs.{needs}
-use Rattle.shelf.proofs.layout.size_bytes.Statement.{statement}
-use Rattle.shelf.proofs.layout.size_bytes.Tie as tie
+use Rattle.files.proofs.words.size_bytes.Statement.{statement}
+use Rattle.files.proofs.words.size_bytes.Tie as tie
 
 cast-t3 : tie.Need-cast-t3
 cast-t3 c = search needs
