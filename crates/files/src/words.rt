@@ -11,7 +11,9 @@ ghost use Rattle.files.specs.Written.{Put};
 pub fn size_bytes(n: usize) -> [u8; 2]
     ensures { λ r. ⌜ r ≡ bytes2 n ⌝ }
 {
-    [(n % 256) as u8, (n / 256 % 256) as u8]
+    let low = n % 256;
+    let high = n / 256 % 256;
+    [low as u8, high as u8]
 }
 
 // The word of these bytes.

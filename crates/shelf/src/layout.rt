@@ -1,4 +1,4 @@
-// A report and a bench as bytes.
+// A report and a bench as bytes, and the room of a text.
 use files::buffer;
 use files::words;
 use repair::Answer;

@@ -4,8 +4,8 @@ use borrow.Author.Needs.{needs}
 use Rattle.files.proofs.words.size_bytes.Statement.{statement}
 use Rattle.files.proofs.words.size_bytes.Tie as tie
 
-cast-t3 : tie.Need-cast-t3
-cast-t3 c = search needs
+cast-t5 : tie.Need-cast-t5
+cast-t5 c = search needs
 
 cast-t6 : tie.Need-cast-t6
 cast-t6 c = search needs
@@ -15,4 +15,4 @@ unfolding bytes2
 returns c = search needs
 
 pub size-bytes-spec : {M : Type 1} → statement M
-size-bytes-spec = tie.close (tie.spec cast-t3 cast-t6 returns)
+size-bytes-spec = tie.close (tie.spec cast-t5 cast-t6 returns)
