@@ -5,3 +5,4 @@ pub mod Fitting
 pub mod Mending
 pub mod Benches
 pub mod Telling
+pub mod Kept
