@@ -1,4 +1,4 @@
--- Lengths and members of what is written. Assumes nothing.
+-- A report's bytes, one by one. Assumes nothing.
 use mathlib.Core.Path.{_≡_, refl, sym, ap, ap₂, _∙_}
 use mathlib.Core.List.{List, [], _∷_, _++_}
 use Prim.Native.Nat.{ℕ}
@@ -11,7 +11,7 @@ use Rattle.repair.specs.declared.Place.{Place}
 use Rattle.repair.specs.declared.Place.the-variants.{Row, Across}
 use Rattle.shelf.specs.Layout.{placeBytes, clashBytes, reportBytes}
 
-pub three-are : (l : List ℕ) → length l ≡ 3 → l ≡ getD l 0 0 ∷ getD l 1 0 ∷ getD l 2 0 ∷ []
+three-are : (l : List ℕ) → length l ≡ 3 → l ≡ getD l 0 0 ∷ getD l 1 0 ∷ getD l 2 0 ∷ []
 three-are [] e = absurd (omega arith)
 three-are (x ∷ []) e = absurd (omega arith)
 three-are (x ∷ y ∷ []) e = absurd (omega arith)
@@ -19,7 +19,7 @@ three-are (x ∷ y ∷ z ∷ []) e = refl
 three-are (x ∷ y ∷ z ∷ w ∷ l) e = absurd (omega arith)
 
 -- a Clash's place is three bytes
-pub clash-three : (a : Answer) → clashBytes a ≡ getD (clashBytes a) 0 0 ∷ getD (clashBytes a) 1 0 ∷ getD (clashBytes a) 2 0 ∷ []
+clash-three : (a : Answer) → clashBytes a ≡ getD (clashBytes a) 0 0 ∷ getD (clashBytes a) 1 0 ∷ getD (clashBytes a) 2 0 ∷ []
 unfolding clashBytes placeBytes
 clash-three Restored = refl
 clash-three Stuck = refl
