@@ -2,8 +2,8 @@
  *
  * A buffer is a pointer and then its length in elements. Two buffers of one call must not overlap, and none may be null.
  * No call keeps a buffer, allocates, prints or fails in any other way than by the number that it returns.
- * Every call answers for any bytes and any lengths; a call that refuses (10 or more) leaves every buffer as it was, except that
- * a refused shelf_start with a bench buffer of the right length fills it with zeros.
+ * Every call answers for any numbers, any bytes and any lengths. A number of 10 or more is a refusal: every buffer is then as
+ * it was, with one exception: a refused shelf_start fills a bench buffer of the right length with zeros.
  *
  * Plans, and the lengths that a plan asks for:
  *
@@ -13,32 +13,33 @@
  *        3     8       15             16           120           8          98         160
  *
  * A stripe is one byte for each symbol, row after row. A row's marks are one 32-bit word, bit c for column c; a set bit says
- * that the symbol there is lost.
+ * that the symbol there is lost. Rows and columns count from 0. No answer and no other byte depends on the byte under a mark,
+ * except that a file must hold 0 there.
  *
  * Numbers that are returned:
  *
  *     0  Restored; Done; yes, a codeword
  *     1  Stuck; no, not a codeword
- *     2  Clash: the unmarked symbols contradict each other
- *     3  Whole: the row has no marks, and its sums are right
+ *     2  Clash: what is not marked contradicts itself
+ *     3  Whole: the row has no marks, and its sums are the learned ones
  *     4  Filled: the row's marked symbols were found, its marks are clear
  *     5  Tied: the row's marked symbols are not determined at this level
  *     6  Raised: the next level's sums were learned
- *     7  Blocked: too many rows have marks to learn them
+ *     7  Blocked: the rows that have marks leave them undetermined
  *     8  Top: the bench is at the plan's last level
  *    10  unknown plan
  *    11  a buffer of a wrong length
- *    12  a mark at column N or above
+ *    12  a mark at a column that the plan does not have
  *    13  an unmarked symbol, a data symbol, or a learned sum that is too large
  *    14  no such row
- *    15  no such level
+ *    15  a bench at no level of its plan
  *    16  extraction from a stripe that is not a codeword
  *    20  a file that is too short or of a wrong length
  *    21  a file header that disagrees with its plan
  *    22  a file with a byte other than 0 under a mark
  *
- * Where more than one refusal applies, the first is returned in the order 10, 11, 15, 12, 13, 14, 16; for a file that is read,
- * 20 (shorter than its header), 10, 21, 20 (of a wrong length), 11, 12, 13, 22. */
+ * Where more than one refusal applies, the first is returned in the order 10, 11, 15, 12, 13, 14, 16 (but see the length of a
+ * bench below); for a file that is read, 20 (shorter than 8 bytes), 10, 21, 20 (of a wrong length), 11, 12, 13, 22. */
 #ifndef SHELF_H
 #define SHELF_H
 
@@ -53,32 +54,35 @@ extern "C" {
 #define SHELF_BENCH 418
 #define SHELF_REPORT 8
 #define SHELF_TEXT 320
-#define SHELF_TEXT_LENGTH 2
+#define SHELF_TEXT_SIZE 2
 
 /* ---- mending in one call ---- */
 
 /* Mends a stripe: fills what the marks say is lost, as far as the plan can, and clears the marks of each row that was restored.
- * Returns 0 Restored, 1 Stuck (some rows are left, the others are restored), 2 Clash (stripe and marks are as they were), or a
- * refusal. The bytes under marks are not looked at.
+ *     0 Restored   every row is whole, all marks are clear
+ *     1 Stuck      some rows are left, with their marks and bytes as they were; the others are restored
+ *     2 Clash      stripe and marks are as they were
+ *     10, 11, 12, 13   refused: the report is as it was too
+ * Restored does not say that the unmarked symbols were right, nor Stuck that they agree with a codeword.
  *
- * The report, 8 bytes (a refusal leaves it as it was):
+ * The report, 8 bytes:
  *     0     level reached          5  place of a Clash: 0 none, 1 in a row, 2 across rows
  *     1     rows left              6  row of a Clash in a row
  *     2..4  rows restored at       7  level of a Clash
  *           levels 1, 2 and 3
- * Restored and Stuck leave bytes 5 to 7 zero, a Clash bytes 0 to 4. */
+ * After Restored and Stuck bytes 5 to 7 are 0; after a Clash bytes 0 to 4 are, and byte 6 of a Clash across rows. */
 size_t shelf_mend(size_t plan, uint8_t *stripe, size_t stripe_length, uint32_t *marks, size_t marks_length,
                   uint8_t *report, size_t report_length);
 
-/* Whether a stripe is a codeword: 0 yes, 1 no, or a refusal. */
+/* Whether a stripe is a codeword: 0 yes, 1 no; or refused by 10, 11 or 13. */
 size_t shelf_is_codeword(size_t plan, const uint8_t *stripe, size_t stripe_length);
 
 /* ---- data in and out ---- */
 
-/* Encodes data to a stripe: 0, or a refusal. */
+/* Encodes data to a stripe: 0; or refused by 10, 11 or 13. What the stripe held is not read. */
 size_t shelf_encode(size_t plan, const uint8_t *data, size_t data_length, uint8_t *stripe, size_t stripe_length);
 
-/* Takes the data out of a stripe that is a codeword: 0, or a refusal. */
+/* Takes the data out of a stripe that is a codeword: 0; or refused by 10, 11, 13 or 16. What the data buffer held is not read. */
 size_t shelf_extract(size_t plan, const uint8_t *stripe, size_t stripe_length, uint8_t *data, size_t data_length);
 
 /* ---- mending step by step ----
@@ -86,34 +90,39 @@ size_t shelf_extract(size_t plan, const uint8_t *stripe, size_t stripe_length, u
  * A bench is 418 bytes that the caller keeps and may copy:
  *     0         plan
  *     1         level
- *     2..257    symbols, row after row
- *     258..289  eight mark words of 4 bytes, low byte first
+ *     2..257    symbols, row after row; those beyond the plan's are not used
+ *     258..289  eight mark words of 4 bytes, low byte first; those beyond the plan's rows are not used
  *     290..417  learned sums, row r's from 290 + 16 r on, in the order of the levels
- * A bench buffer of another length is refused by 11 before anything else by a step, and after 10 by shelf_start. */
+ * A bench buffer of another length is refused by 11: by a step before anything else, by shelf_start after 10. */
 
-/* Starts a bench at level 1 with the stripe and the marks as they are: 0, or a refusal. Stripe and marks are only read. */
+/* Starts a bench at level 1 with the stripe and the marks as they are, zeros elsewhere: 0; or refused by 10, 11, 12 or 13. */
 size_t shelf_start(size_t plan, const uint8_t *stripe, size_t stripe_length, const uint32_t *marks, size_t marks_length,
                    uint8_t *bench, size_t bench_length);
 
-/* The row step: 3 Whole, 4 Filled, 5 Tied, 2 Clash, or a refusal. Only Filled changes the bench. */
+/* The row step: 3 Whole, 4 Filled, 5 Tied, 2 Clash; or refused by 11, 10, 15, 12, 13 or 14. Only Filled changes the bench. */
 size_t shelf_row_step(uint8_t *bench, size_t bench_length, size_t row);
 
-/* The level step: 6 Raised, 7 Blocked, 8 Top, 2 Clash, or a refusal. Only Raised changes the bench. */
+/* The level step: 6 Raised, 7 Blocked, 8 Top, 2 Clash; or refused by 11, 10, 15, 12 or 13. Only Raised changes the bench. */
 size_t shelf_level_step(uint8_t *bench, size_t bench_length);
 
 /* ---- stripe files ---- */
 
-/* Reads a stripe file's stripe and marks: 0, or a refusal. The file's first byte is its plan. */
+/* Reads a stripe file's stripe and marks: 0; or refused by 10, 11, 12, 13, 20, 21 or 22. The file's first byte is its plan, and
+ * the two buffers have that plan's lengths. */
 size_t shelf_read_file(const uint8_t *file, size_t file_length, uint8_t *stripe, size_t stripe_length,
                        uint32_t *marks, size_t marks_length);
 
-/* Writes a stripe and its marks as a stripe file, with 0 at each marked place: 0, or a refusal. */
+/* Writes a stripe and its marks as a stripe file, with 0 at each marked place: 0; or refused by 10, 11, 12 or 13. */
 size_t shelf_write_file(size_t plan, const uint8_t *stripe, size_t stripe_length, const uint32_t *marks, size_t marks_length,
                         uint8_t *file, size_t file_length);
 
-/* What the program `mend` prints for a file, any bytes: 0, or 11 where a buffer has another length. The text is 320 bytes, zeros
- * behind what is printed; length is 2 bytes, low byte first, the number of bytes that are printed. */
-size_t shelf_text(const uint8_t *file, size_t file_length, uint8_t *text, size_t text_length, uint8_t *length, size_t length_length);
+/* Writes what the program `mend` prints for a file of any bytes: into text, 320 bytes, with zeros behind it; and how many bytes
+ * it is into size, 2 bytes, low byte first. Returns 0, or 11 where one of these two buffers has another length.
+ *
+ * WARNING: 0 says that the text was written, and not that the stripe was restored. It is 0 for a file that is Stuck or a Clash,
+ * and for one that is refused, whose text is `refused` and the number. What became of the stripe stands in the text alone;
+ * shelf_read_file and shelf_mend return it as a number. */
+size_t shelf_text(const uint8_t *file, size_t file_length, uint8_t *text, size_t text_length, uint8_t *size, size_t size_length);
 
 #ifdef __cplusplus
 }

@@ -30,7 +30,7 @@ use Rattle.files.proofs.Stripes.{length-blanked, blanked-twice, fit-bla
 -- ---- words of four bytes
 
 -- a word behind something else
-word-behind : (a l : List ℕ) (i : ℕ) → wordAt (a ++ l) (length a + i) ≡ wordAt l i
+pub word-behind : (a l : List ℕ) (i : ℕ) → wordAt (a ++ l) (length a + i) ≡ wordAt l i
 unfolding wordAt
 word-behind a l i = simp (add-assoc, getD-append-add)
 
@@ -63,7 +63,7 @@ word-bytes a b c d ha hb hc hd =
     lowest x q h = omega arith
 
 -- the words' bytes hold the words
-words-bytes : (ws l : List ℕ) (r : ℕ) → r < length ws → getD ws r 0 < 2 ^ 32 → wordAt (flatMap bytes4 ws ++ l) (4 * r) ≡ getD ws r 0
+pub words-bytes : (ws l : List ℕ) (r : ℕ) → r < length ws → getD ws r 0 < 2 ^ 32 → wordAt (flatMap bytes4 ws ++ l) (4 * r) ≡ getD ws r 0
 unfolding flatMap bytes4
 words-bytes [] l r h small = absurd (not-suc-le-zero h)
 words-bytes (w ∷ ws) l zero h small = ap (λ k. wordAt k 0) (append-assoc (bytes4 w) (flatMap bytes4 ws) l) ∙ bytes-word w (flatMap bytes4 ws ++ l) small
@@ -363,16 +363,16 @@ module _ (file : List ℕ) (bytes : Fit 256 file) where
       next : (i j n : ℕ) → suc i ≡ j → i < length file → take (suc n) (drop i file) ≡ getD file i 0 ∷ take n (drop j file)
       next i j n e h = ap (take (suc n)) (drop-cons file i 0 h) ∙ ap (λ k. getD file i 0 ∷ take n (drop k file)) e
 
-  words-at : (k n : ℕ) → 8 + 4 * k + 4 * n ≤ length file
-      → flatMap bytes4 (map (λ r. wordAt file (8 + 4 * r)) (upFrom k n)) ≡ take (4 * n) (drop (8 + 4 * k) file)
+  pub words-at : (at k n : ℕ) → at + 4 * k + 4 * n ≤ length file
+      → flatMap bytes4 (map (λ r. wordAt file (at + 4 * r)) (upFrom k n)) ≡ take (4 * n) (drop (at + 4 * k) file)
   unfolding flatMap upFrom
-  words-at k zero h = refl
-  words-at k (suc n) h =
-      ap₂ _++_ (bytes-at (8 + 4 * k) (omega arith))
-      (words-at (suc k) n (omega arith) ∙ ap (λ i. take (4 * n) (drop i file)) next ∙ ap (take (4 * n)) (sym (drop-drop 4 (8 + 4 * k) file)))
-      ∙ sym (take-add 4 (4 * n) (drop (8 + 4 * k) file)) ∙ ap (λ i. take i (drop (8 + 4 * k) file)) more
+  words-at at k zero h = refl
+  words-at at k (suc n) h =
+      ap₂ _++_ (bytes-at (at + 4 * k) (omega arith))
+      (words-at at (suc k) n (omega arith) ∙ ap (λ i. take (4 * n) (drop i file)) next ∙ ap (take (4 * n)) (sym (drop-drop 4 (at + 4 * k) file)))
+      ∙ sym (take-add 4 (4 * n) (drop (at + 4 * k) file)) ∙ ap (λ i. take i (drop (at + 4 * k) file)) more
     where
-      next : 8 + 4 * suc k ≡ 8 + 4 * k + 4
+      next : at + 4 * suc k ≡ at + 4 * k + 4
       next = omega arith
 
       more : 4 + 4 * n ≡ 4 * suc n
@@ -386,7 +386,7 @@ module _ (file : List ℕ) (bytes : Fit 256 file) where
     pub file-of-read : fileOf (planIn file) (symbolsIn file) (marksIn file) ≡ file
     unfolding marksOffset symbolsOffset fileLength fileOf marksIn
     file-of-read =
-        ap₂ _++_ (ap₂ _++_ (sym (f .header)) (words-at 0 (R .rows) (omega (arith, f .whole))) ∙ sym (take-add 8 (4 * R .rows) file))
+        ap₂ _++_ (ap₂ _++_ (sym (f .header)) (words-at 8 0 (R .rows) (omega (arith, f .whole))) ∙ sym (take-add 8 (4 * R .rows) file))
         (sym (f .blank) ∙ symbols-behind file (f .whole))
         ∙ take-append-drop (8 + 4 * R .rows) file
 

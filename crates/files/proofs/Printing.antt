@@ -38,7 +38,7 @@ use Rattle.steps.proofs.Sound.{Sound, sound-fresh, sound-row, sound-level}
 -- ---- steps keep the plan
 
 module _ (b : Bench) where
-  row-plan : (r : ℕ) → rowStep b r .bench .plan ≡ b .plan
+  pub row-plan : (r : ℕ) → rowStep b r .bench .plan ≡ b .plan
   unfolding stepped unlessRefused putRow rowStepBy rowStep
   row-plan r = go (benchRefusal b (ltb r (planOf (b .plan) .rows))) (rowFill b r)
     where
@@ -48,7 +48,7 @@ module _ (b : Bench) where
       go zero (one row) = refl
       go (suc n) f = refl
 
-  level-plan : levelStep b .bench .plan ≡ b .plan
+  pub level-plan : levelStep b .bench .plan ≡ b .plan
   unfolding if_then_else_ stepped unlessRefused raise levelStepBy levelStep
   level-plan = go (benchRefusal b unasked) (ltb (b .level) (length (planOf (b .plan) .levels))) (levelFill b)
     where
@@ -295,6 +295,16 @@ module _ (p : ℕ) (stripe marks : List ℕ) (e : lentRefusal p stripe marks ≡
       go (on m) a = end-below m a (eqb (rowsLeft (m .bench)) 0)
       go (end m) a = end-below m a (eqb (rowsLeft (m .bench)) 0)
       go (clash place) a = (omega arith, a)
+
+  -- the numbers beside any answer; a Clash leaves them 0
+  pub beside-report : let r = mendReport p stripe marks in T (allBelow 100 (r .level ∷ r .left ∷ r .rows))
+  unfolding if_then_else_ all allBelow endReport bare turnReport mendReport
+  beside-report = rw e (go (mended p stripe marks) reached)
+    where
+      go : (t : Turn) → Reached p 27 t → T (allBelow 100 (turnReport t .level ∷ turnReport t .left ∷ turnReport t .rows))
+      go (on m) a = beside m a
+      go (end m) a = beside m a
+      go (clash place) a = tt
 
 -- a report, a stripe and marks that can be printed
 pub record Printable (p : ℕ) (r : Report) (s m : List ℕ) : Type 0 where

@@ -30,6 +30,10 @@ put-is {old} {l} {at} {i} e p = subst (λ zs. Put old at zs i l) (sym e) p
 pub put-one : {old l : List ℕ} {at i : ℕ} {xs : List ℕ} → Put old at xs i l → i < length l → (v : ℕ) → Put old at (xs ++ (v ∷ [])) (i + 1) (set l i v)
 put-one p h v = put-then {ys = v ∷ []} p record { reached = refl; inside = omega arith; written = refl }
 
+-- what was put over the whole of a buffer
+pub put-whole : {old new : List ℕ} {i : ℕ} {xs : List ℕ} → Put old 0 xs i new → length xs ≡ length old → new ≡ xs
+put-whole {old} {xs = xs} p e = p .written ∙ sets-whole xs old e
+
 -- what was written at the front is read there
 pub front-set : (n : ℕ) (x l : List ℕ) → length x ≡ n → n ≤ length l → take n (sets l 0 x) ≡ x
 front-set n x l e h = take-sets n x l 0 ∙ sets-whole x (take n l) (e ∙ sym (length-take-le n l h))

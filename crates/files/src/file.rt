@@ -1,50 +1,21 @@
 // The stripe file, read and written.
 use crate::buffer;
 use crate::marks;
+use crate::words;
 use repair::plan;
 use plans::refusal;
 ghost use mathlib.Core.Path.{_≡_};
-ghost use mathlib.Core.List.{flatMap};
 ghost use Prim.Native.Nat.{_+_, _*_, _/_, _%_, _^_, _≤_, _<_};
 ghost use lib.Dec.{T, eqb};
-ghost use lib.ListN.{length, take, getD};
+ghost use lib.ListN.{length};
 ghost use lib.Seq.{sets};
-ghost use Rattle.field.specs.Lists.{if_then_else_, upFrom};
+ghost use Rattle.field.specs.Lists.{if_then_else_};
 ghost use Rattle.linear.specs.Lists.{«same» as equal};
 ghost use Rattle.linear.specs.Marks.{bitsOf};
 ghost use Rattle.plans.specs.Plan.{planOf, known, marksOf, fileLength};
 ghost use Rattle.plans.specs.Refusal.{unasked};
-ghost use Rattle.repair.specs.File.{bytes4, headerOf, blanked, fileOf, writeRefusal, planIn, wordAt, marksIn, symbolsIn, fileRefusal};
+ghost use Rattle.repair.specs.File.{headerOf, blanked, fileOf, writeRefusal, planIn, marksIn, symbolsIn, fileRefusal};
 ghost use Rattle.files.specs.Written.{Put, contentRefusal};
-
-// ---- words of four bytes, low byte first
-
-// The word of these bytes.
-fn word_of(b0: u8, b1: u8, b2: u8, b3: u8) -> u32
-    ensures { λ r. ⌜ r ≡ b0 + b1 * 256 + b2 * 2 ^ 16 + b3 * 2 ^ 24 ⌝ }
-{
-    b0 as u32 + b1 as u32 * 0x100 + b2 as u32 * 0x10000 + b3 as u32 * 0x1000000
-}
-
-// The word that stands at `at`.
-fn word_at(file: &[u8], at: usize) -> u32
-    requires { ⌜ at + 4 ≤ length (now file) ⌝ }
-    ensures { λ r. ⌜ r ≡ wordAt (now (file .entry)) at ⌝ }
-{
-    word_of(file[at], file[at + 1], file[at + 2], file[at + 3])
-}
-
-// The bytes of a word.
-fn bytes_of(word: u32) -> [u8; 4]
-    ensures { λ r. ⌜ r ≡ bytes4 word ⌝ }
-{
-    [
-        (word % 0x100) as u8,
-        (word / 0x100 % 0x100) as u8,
-        (word / 0x10000 % 0x100) as u8,
-        (word / 0x1000000 % 0x100) as u8,
-    ]
-}
 
 // ---- the header
 
@@ -55,9 +26,7 @@ fn header_of(plan: usize) -> [u8; 8]
 {
     let rows = plan::rows(plan);
     let columns = plan::columns(plan);
-    let symbols = 8 + 4 * rows;
-    let low = symbols % 256;
-    let high = symbols / 256 % 256;
+    let symbols = words::size_bytes(8 + 4 * rows);
     [
         plan as u8,
         rows as u8,
@@ -65,8 +34,8 @@ fn header_of(plan: usize) -> [u8; 8]
         0,
         8,
         0,
-        low as u8,
-        high as u8,
+        symbols[0],
+        symbols[1],
     ]
 }
 
@@ -137,19 +106,6 @@ fn put_symbols(plan: usize, stripe: &[u8], marks: &[u32], file: &mut [u8], at: u
 
 // ---- marks
 
-// Writes the mark words from `at` on, and gives the place behind them. The rest of the file is unchanged.
-fn put_marks(marks: &[u32], file: &mut [u8], at: usize) -> usize
-    requires { ⌜ at + 4 * length (now marks) ≤ length (now file) ⌝ }
-    ensures { λ r. ⌜ Put (now (file .entry)) at (flatMap bytes4 (now (marks .entry))) r (now (file .exit)) ⌝ }
-{
-    let mut next = at;
-    for r in 0..marks.len() {
-        let bytes = bytes_of(marks[r]);
-        next = buffer::put(&bytes, file, next);
-    }
-    next
-}
-
 // Reads the mark words of a file into `marks`. What is behind them there is unchanged.
 fn read_marks(file: &[u8], rows: usize, marks: &mut [u32])
     requires { ⌜ rows ≡ planOf (planIn (now file)) .rows ⌝ }
@@ -157,7 +113,7 @@ fn read_marks(file: &[u8], rows: usize, marks: &mut [u32])
     ensures { λ _. ⌜ now (marks .exit) ≡ sets (now (marks .entry)) 0 (marksIn (now (file .entry))) ⌝ }
 {
     for r in 0..rows {
-        marks[r] = word_at(file, 8 + 4 * r);
+        marks[r] = words::word_at(file, 8 + 4 * r);
     }
 }
 
@@ -183,7 +139,7 @@ pub fn put_file(plan: usize, stripe: &[u8], marks: &[u32], file: &mut [u8])
 {
     let header = header_of(plan);
     let at_marks = buffer::put(&header, file, 0);
-    let at_symbols = put_marks(marks, file, at_marks);
+    let at_symbols = words::put_words(marks, file, at_marks);
     put_symbols(plan, stripe, marks, file, at_symbols);
 }
 

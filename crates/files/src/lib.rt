@@ -1,8 +1,10 @@
 // Stripe files: reading one, writing one, and the text that mend prints for one.
-mod buffer;
+pub mod buffer;
 mod file;
 mod lines;
 mod marks;
+pub mod numbers;
+pub mod words;
 
 use plans::refusal;
 use repair::Outcome;

@@ -2,6 +2,7 @@
 use crate::buffer;
 use crate::file;
 use crate::marks;
+use crate::numbers;
 use repair::Answer;
 use repair::Place;
 use repair::Report;
@@ -224,18 +225,6 @@ fn put_report(
     }
 }
 
-// The number of an answer.
-fn answer_number(answer: Answer) -> usize
-    ensures { λ r. ⌜ r ≡ answerNumber answer ⌝ }
-{
-    match answer {
-        Answer::Restored => 0,
-        Answer::Stuck => 1,
-        Answer::Clash(_) => 2,
-        Answer::Refused(n) => n,
-    }
-}
-
 // ---- the text
 
 // The plan and the number of the answer, from the front of `out` on.
@@ -245,7 +234,7 @@ fn put_answer(plan: usize, answer: Answer, out: &mut [u8]) -> usize
     ensures { λ r. ⌜ r ≤ 17 ⌝ }
 {
     let next = put_item(b"plan ", plan, out, 0);
-    put_item(b" answer ", answer_number(answer), out, next)
+    put_item(b" answer ", numbers::of_answer(answer), out, next)
 }
 
 // What is printed of a stripe and its marks that are not refused, from the front of `out` on. It mends them.

@@ -1,22 +1,21 @@
 -- A bench read from bytes and written as bytes, and what the calls on it leave. Assumes nothing.
-use mathlib.Core.Path.{_≡_, refl, sym, ap, _∙_}
-use mathlib.Core.List.{List, [], _∷_, _++_}
+use mathlib.Core.Path.{_≡_, refl, sym, ap, ap₂, _∙_}
+use mathlib.Core.List.{List, [], _∷_, _++_, flatMap}
 use Prim.Native.Nat.{ℕ, _+_, _*_}
-use native.Mathlib.Omega.{arith}
 use lib.ListN.{length, take, drop, getD, length-append}
 use Rattle.field.specs.Lists.{upFrom}
 use Rattle.plans.specs.Answers.{stepNumber, outcomeNumber}
-use Rattle.repair.specs.File.{wordAt}
+use Rattle.repair.specs.File.{bytes4, wordAt}
 use Rattle.steps.specs.Steps.{started}
 use Rattle.plans.specs.declared.Bench.{Bench}
 use Rattle.plans.specs.declared.Stepped.{Stepped}
 use Rattle.plans.specs.declared.Started.{Started}
-use Rattle.shelf.specs.Layout.{byte, benchSize, benchBytes, benchIn}
+use Rattle.files.specs.Written.{Put}
+use Rattle.files.proofs.Writing.{put-then, put-whole}
+use Rattle.files.proofs.Files.{length-bytes}
+use Rattle.shelf.specs.Layout.{benchSize, benchBytes, benchIn}
 use Rattle.shelf.specs.Calls.{unfit, startNumber, startBuffer, stepAnswer, stepBuffer}
-use Rattle.shelf.specs.Written.{Written}
 use Rattle.shelf.proofs.Sizing.{sized-fit, sized-unfit}
-use Rattle.shelf.proofs.Writing.{written-then, written-whole}
-use Rattle.shelf.proofs.Words.{wordBytes, length-words}
 
 -- ---- bytes
 
@@ -37,20 +36,25 @@ module _ (l : List ℕ) where
 
 -- plan and level, symbols, mark words and sums are all of a bench's bytes
 module _ (b : Bench) (symbols : length (b .symbols) ≡ 256) (marks : length (b .marks) ≡ 8) (sums : length (b .sums) ≡ 128) where
-  pub bench-written : {old l₁ l₂ l₃ new : List ℕ} {plan level : ℕ} → length old ≡ 418 → plan ≡ byte (b .plan) → level ≡ byte (b .level)
-      → Written old 0 (plan ∷ level ∷ []) l₁ → Written l₁ 2 (b .symbols) l₂ → Written l₂ 258 (wordBytes (b .marks)) l₃
-      → Written l₃ 290 (b .sums) new → new ≡ benchBytes b
+  abbrev head : List ℕ
+  head = b .plan ∷ b .level ∷ []
+
+  abbrev words : List ℕ
+  words = flatMap bytes4 (b .marks)
+
+  length-words : length words ≡ 32
+  length-words = length-bytes (b .marks) ∙ ap (λ n. 4 * n) marks
+
+  bench-length : length (benchBytes b) ≡ 418
   unfolding benchBytes
-  bench-written {old} {plan = plan} {level} fits e f w₁ w₂ w₃ w₄ =
-      let head = plan ∷ level ∷ [] in
-      let words = wordBytes (b .marks) in
-      let n₂ : length (head ++ b .symbols) ≡ 258 = length-append head (b .symbols) ∙ ap (λ n. 2 + n) symbols in
-      let n₃ : length ((head ++ b .symbols) ++ words) ≡ 290 =
-      length-append (head ++ b .symbols) words ∙ (let n = length-words (b .marks) in omega arith) in
-      let n₄ : length (((head ++ b .symbols) ++ words) ++ b .sums) ≡ 418 =
-      length-append ((head ++ b .symbols) ++ words) (b .sums) ∙ omega arith in
-      written-whole (written-then (written-then (written-then w₁ refl w₂) (omega arith) w₃) (omega arith) w₄) (fits ∙ sym n₄)
-      ∙ rw (e, f) refl
+  bench-length =
+      length-append ((head ++ b .symbols) ++ words) (b .sums)
+      ∙ ap₂ _+_ (length-append (head ++ b .symbols) words ∙ ap₂ _+_ (length-append head (b .symbols) ∙ ap (λ n. 2 + n) symbols) length-words) sums
+
+  pub bench-put : {old l₁ l₂ l₃ new : List ℕ} {i j k n : ℕ} → length old ≡ 418 → Put old 0 head i l₁ → Put l₁ i (b .symbols) j l₂
+      → Put l₂ j words k l₃ → Put l₃ k (b .sums) n new → new ≡ benchBytes b
+  unfolding benchBytes
+  bench-put fits p₁ p₂ p₃ p₄ = put-whole (put-then (put-then (put-then p₁ p₂) p₃) p₄) (bench-length ∙ sym fits)
 
 -- ---- calls
 

@@ -1,5 +1,5 @@
 -- What the calls that say Done or refuse return, and what the call of the text leaves. Assumes nothing.
-use mathlib.Core.Path.{_≡_, refl, sym, ap, _∙_}
+use mathlib.Core.Path.{_≡_, sym, ap, _∙_}
 use mathlib.Core.List.{List}
 use Prim.Native.Nat.{ℕ, zero, suc}
 use lib.ListN.{length}
@@ -9,7 +9,7 @@ use Rattle.repair.specs.File.{bytes2}
 use Rattle.plans.specs.Tables.{padded}
 use Rattle.repair.specs.Text.{printed}
 use Rattle.plans.specs.declared.Outcome.{Outcome}
-use Rattle.shelf.specs.Calls.{textRoom, roomy, textNumber, textBuffer, textSizeBuffer}
+use Rattle.shelf.specs.Calls.{textRoom, textNumber, textBuffer, textSizeBuffer}
 use Rattle.shelf.proofs.Sizing.{roomy-fit, roomy-no-text, roomy-no-size}
 
 -- a refusal is returned as its number, and Done as 0
@@ -17,10 +17,6 @@ pub outcome-told : (n : ℕ) {r : ℕ} {o : Outcome} → r ≡ outcomeNumber o �
 unfolding outcomeNumber outcomeOf
 outcome-told zero e f = e ∙ ap outcomeNumber f
 outcome-told (suc n) e f = e ∙ ap outcomeNumber f
-
-pub length-bytes2 : (n : ℕ) → length (bytes2 n) ≡ 2
-unfolding bytes2
-length-bytes2 n = refl
 
 module _ (file text size : List ℕ) where
   -- the answer's number and the two buffers

@@ -1,5 +1,5 @@
 -- A report and a bench as bytes.
-use Prim.Native.Nat.{ℕ, _+_, _*_, _%_}
+use Prim.Native.Nat.{ℕ, _+_, _*_}
 use mathlib.Core.Bool.{Bool, true, false}
 use mathlib.Core.List.{List, [], _∷_, _++_, map, flatMap}
 use lib.ListN.{take, drop, getD}
@@ -12,10 +12,6 @@ use Rattle.plans.specs.declared.Answer.the-variants.{Restored, Stuck, Clash, Re
 use Rattle.plans.specs.declared.Place.{Place}
 use Rattle.plans.specs.declared.Place.the-variants.{Row, Across}
 
--- the low byte of a number
-abbrev pub byte : ℕ → ℕ
-byte n = n % 256
-
 -- ---- a report: 8 bytes
 
 abbrev pub reportSize : ℕ
@@ -23,8 +19,8 @@ reportSize = 8
 
 -- a Clash's place: 1, row and level; or 2, 0 and level
 unfoldable pub placeBytes : Place → List ℕ
-placeBytes (Row row level) = 1 ∷ byte row ∷ byte level ∷ []
-placeBytes (Across level) = 2 ∷ 0 ∷ byte level ∷ []
+placeBytes (Row row level) = 1 ∷ row ∷ level ∷ []
+placeBytes (Across level) = 2 ∷ 0 ∷ level ∷ []
 
 -- zeros where there is no Clash
 unfoldable pub clashBytes : Answer → List ℕ
@@ -35,10 +31,7 @@ clashBytes (Refused n) = 0 ∷ 0 ∷ 0 ∷ []
 
 -- level, rows left, rows restored at levels 1, 2 and 3, and the place of a Clash
 unfoldable pub reportBytes : Report → List ℕ
-reportBytes r =
-    byte (r .level) ∷ byte (r .left)
-    ∷ byte (getD (r .rows) 0 0) ∷ byte (getD (r .rows) 1 0) ∷ byte (getD (r .rows) 2 0)
-    ∷ clashBytes (r .answer)
+reportBytes r = r .level ∷ r .left ∷ r .rows ++ clashBytes (r .answer)
 
 unfoldable pub refuses : Answer → Bool
 refuses Restored = false
@@ -53,7 +46,7 @@ benchSize = 418
 
 -- plan, level, symbols, mark words of four bytes each, low byte first, and sums
 unfoldable pub benchBytes : Bench → List ℕ
-benchBytes b = byte (b .plan) ∷ byte (b .level) ∷ b .symbols ++ flatMap bytes4 (b .marks) ++ b .sums
+benchBytes b = b .plan ∷ b .level ∷ b .symbols ++ flatMap bytes4 (b .marks) ++ b .sums
 
 unfoldable pub benchIn : List ℕ → Bench
 benchIn bytes = record {

@@ -1,5 +1,4 @@
 -- What the calls under C names answer, and what they leave in the buffers, in the order in which to read it.
 pub mod Layout
 pub mod Calls
--- what the contracts of inner functions cite
-pub mod Written
+pub mod Kept

@@ -86,12 +86,12 @@ pub extern "C" fn shelf_mend(
     }
     let mended = repair::mend(plan, stripe, marks);
     let answer = mended.answer;
-    let number = numbers::of_answer(answer);
+    let number = files::numbers::of_answer(answer);
     if numbers::is_refusal(answer) {
         return number;
     }
     let bytes = layout::report_bytes(mended);
-    layout::put(&bytes, report, 0);
+    files::buffer::put(&bytes, report, 0);
     number
 }
 
@@ -151,8 +151,8 @@ pub extern "C" fn shelf_text(file: &[u8], text: &mut [u8], size: &mut [u8]) -> u
         return 11;
     }
     let mut room = [0u8; 320];
-    let bytes = layout::size_bytes(files::text(file, &mut room));
+    let bytes = files::words::size_bytes(files::text(file, &mut room));
     layout::put_room(&room, text);
-    layout::put(&bytes, size, 0);
+    files::buffer::put(&bytes, size, 0);
     0
 }

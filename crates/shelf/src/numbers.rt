@@ -4,21 +4,9 @@ use repair::Outcome;
 use repair::Step;
 use repair::Verdict;
 ghost use mathlib.Core.Path.{_≡_};
-ghost use Rattle.plans.specs.Answers.{answerNumber, stepNumber, outcomeNumber, verdictNumber};
+ghost use Rattle.plans.specs.Answers.{stepNumber, outcomeNumber, verdictNumber};
 ghost use Rattle.shelf.specs.Calls.{unfit};
 ghost use Rattle.shelf.specs.Layout.{refuses};
-
-// Mending's answer.
-pub fn of_answer(answer: Answer) -> usize
-    ensures { λ r. ⌜ r ≡ answerNumber answer ⌝ }
-{
-    match answer {
-        Answer::Restored => 0,
-        Answer::Stuck => 1,
-        Answer::Clash(_) => 2,
-        Answer::Refused(n) => n,
-    }
-}
 
 // A step's answer.
 pub fn of_step(step: Step) -> usize

@@ -1,5 +1,7 @@
 -- `shelf_level_step` meets its contract. Assumes nothing.
 use Rattle.shelf.proofs.Benches.{steps-unfit, steps-fit}
+use Rattle.shelf.proofs.Fitting.{level-small}
+use native.Mathlib.Omega.{arith}
 use borrow.Author.Needs.{needs}
 use Rattle.shelf.proofs.shelf_level_step.Statement.{statement}
 use Rattle.shelf.proofs.shelf_level_step.Tie as tie
@@ -14,7 +16,9 @@ level-step-requires : tie.Need-level-step-requires
 level-step-requires c κs = search needs
 
 put-bench-requires : tie.Need-put-bench-requires
-put-bench-requires c κs = search needs
+put-bench-requires c κs =
+    let step = c .before .before .level-step in
+    (omega (arith, c .before .before .before .before .before .if1 .left), level-small _ (c .before .before .before .bench-in .ensures .1) (step .ensures))
 
 of-step-requires : tie.Need-of-step-requires
 of-step-requires c κs = search needs
@@ -24,7 +28,7 @@ same-length c = search needs
 
 returns-2 : tie.Need-returns-2
 returns-2 c =
-    steps-fit _ _ _ _ (c .before .before .before .before .before .before .before .before .before .if1 .left) (c .before .before .before .before .before .before .before .bench-in .ensures) (c .before .before .before .before .before .before .level-step .ensures)
+    steps-fit _ _ _ _ (c .before .before .before .before .before .before .before .before .before .if1 .left) (c .before .before .before .before .before .before .before .bench-in .ensures .0) (c .before .before .before .before .before .before .level-step .ensures)
     (c .of-step .ensures) (c .before .before .before .put-bench .ensures)
 
 pub shelf-level-step-spec : {M : Type 1} → statement M

@@ -1,8 +1,7 @@
 -- `shelf_mend` meets its contract. Assumes nothing.
-use mathlib.Core.Path.{sym, ap, _∙_}
-use lib.ListN.{length}
-use Rattle.shelf.proofs.Writing.{written-whole}
-use Rattle.shelf.proofs.Bytes.{report-length}
+use mathlib.Core.Path.{sym, _∙_}
+use Rattle.files.proofs.Writing.{put-whole}
+use Rattle.shelf.proofs.Fitting.{report-fits}
 use Rattle.shelf.proofs.Mending.{mends-unfit, mends-fit, after-refusal, after-answer}
 use native.Mathlib.Omega.{arith}
 use borrow.Author.Needs.{needs}
@@ -38,7 +37,7 @@ returns-2 c =
     (after-refusal _ _ refuses)
 
 report-bytes-requires : tie.Need-report-bytes-requires
-report-bytes-requires c κs = search needs
+report-bytes-requires c κs = report-fits _ _ _ (c .before .before .before .before .before .before .before .mend .ensures .0)
 
 slice-aggregate-put : tie.Need-slice-aggregate-put
 slice-aggregate-put c = search needs
@@ -62,7 +61,7 @@ returns-3 c =
     let bytes = c .before .before .before .before .before .report-bytes .ensures in
     let refuses = sym (c .before .before .before .before .before .before .before .is-refusal .ensures) ∙ c .before .before .before .before .before .before .if2 .left in
     mends-fit _ _ _ _ fits _ (mend .ensures .0) (c .before .before .before .before .before .before .before .before .of-answer .ensures) (mend .ensures .1 .0) (mend .ensures .1 .1)
-    (written-whole (c .before .before .put .ensures) (fits ∙ sym (ap length bytes ∙ report-length _)) ∙ bytes ∙ after-answer _ _ refuses)
+    (put-whole (c .before .before .put .ensures) (omega (arith, fits)) ∙ bytes ∙ after-answer _ _ refuses)
 
 pub shelf-mend-spec : {M : Type 1} → statement M
 shelf-mend-spec =

@@ -1,5 +1,7 @@
 -- `shelf_start` meets its contract. Assumes nothing.
 use Rattle.shelf.proofs.Benches.{starts-unfit, starts-fit}
+use Rattle.shelf.proofs.Fitting.{start-small}
+use native.Mathlib.Omega.{arith}
 use borrow.Author.Needs.{needs}
 use Rattle.shelf.proofs.shelf_start.Statement.{statement}
 use Rattle.shelf.proofs.shelf_start.Tie as tie
@@ -14,7 +16,7 @@ start-requires : tie.Need-start-requires
 start-requires c κs = search needs
 
 put-bench-requires : tie.Need-put-bench-requires
-put-bench-requires c κs = search needs
+put-bench-requires c κs = (omega (arith, c .before .before .before .if1 .left), start-small _ _ _ (c .before .before .start .ensures))
 
 of-outcome-requires : tie.Need-of-outcome-requires
 of-outcome-requires c κs = search needs

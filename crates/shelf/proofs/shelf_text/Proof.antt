@@ -1,9 +1,9 @@
 -- `shelf_text` meets its contract. Assumes nothing.
-use mathlib.Core.Path.{sym, ap, _∙_}
-use lib.ListN.{length}
+use mathlib.Core.Path.{ap, _∙_}
 use Rattle.repair.specs.File.{bytes2}
-use Rattle.shelf.proofs.Writing.{written-whole}
-use Rattle.shelf.proofs.Telling.{length-bytes2, tells-no-text, tells-no-size, tells}
+use Rattle.files.proofs.Writing.{put-whole}
+use Rattle.shelf.proofs.Telling.{tells-no-text, tells-no-size, tells}
+use native.Mathlib.Omega.{arith}
 use borrow.Author.Needs.{needs}
 use Rattle.shelf.proofs.shelf_text.Statement.{statement}
 use Rattle.shelf.proofs.shelf_text.Tie as tie
@@ -41,7 +41,7 @@ returns-3 c =
     let bytes = c .before .before .before .before .before .before .before .before .before .before .size-bytes .ensures in
     let fits = c .before .before .before .before .before .before .before .before .before .before .before .before .before .if2 .left in
     tells _ _ _ (c .before .before .before .before .before .before .before .before .before .before .before .before .before .before .if1 .left) fits (c .before .before .before .before .before .before .before .put-room .ensures ∙ text .ensures .1)
-    (written-whole (c .before .before .put .ensures) (fits ∙ sym (ap length bytes ∙ length-bytes2 _)) ∙ bytes ∙ ap bytes2 (text .ensures .0))
+    (put-whole (c .before .before .put .ensures) (omega (arith, fits)) ∙ bytes ∙ ap bytes2 (text .ensures .0))
 
 pub shelf-text-spec : {M : Type 1} → statement M
 shelf-text-spec =

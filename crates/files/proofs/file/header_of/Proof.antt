@@ -1,4 +1,4 @@
--- `repair::file::header_of` meets its contract: the bytes are those of the definition, and fit bytes by the plans' sizes. Assumes nothing.
+-- `files::file::header_of` meets its contract: the bytes are those of the definition, and fit bytes by the plans' sizes. Assumes nothing.
 use native.Mathlib.Omega.{arith}
 use borrow.Author.Needs.{needs}
 use Rattle.repair.specs.File.{bytes2, headerOf}
@@ -14,30 +14,33 @@ rows-requires c κs = search needs
 columns-requires : tie.Need-columns-requires
 columns-requires c κs = search needs
 
-mul-symbols : tie.Need-mul-symbols
-mul-symbols c = omega (arith, shape _ (c .before .before .pre))
+mul-size-bytes : tie.Need-mul-size-bytes
+mul-size-bytes c = omega (arith, shape _ (c .before .before .pre))
 
-add-symbols : tie.Need-add-symbols
-add-symbols c = omega (arith, shape _ (c .before .before .pre))
+add-size-bytes : tie.Need-add-size-bytes
+add-size-bytes c = omega (arith, shape _ (c .before .before .pre))
+
+size-bytes-requires : tie.Need-size-bytes-requires
+size-bytes-requires c κs = search needs
 
 cast-t8 : tie.Need-cast-t8
-cast-t8 c = omega (arith, known-below _ (c .before .before .pre))
+cast-t8 c = omega (arith, known-below _ (c .before .before .before .pre))
 
 cast-t9 : tie.Need-cast-t9
-cast-t9 c = omega (arith, shape _ (c .before .before .pre))
+cast-t9 c = omega (arith, shape _ (c .before .before .before .pre))
 
 cast-t10 : tie.Need-cast-t10
-cast-t10 c = omega (arith, shape _ (c .before .before .pre))
+cast-t10 c = omega (arith, shape _ (c .before .before .before .pre))
 
-cast-t11 : tie.Need-cast-t11
-cast-t11 c = search needs
+array-read-t13 : tie.Need-array-read-t13
+array-read-t13 c = search needs
 
-cast-t12 : tie.Need-cast-t12
-cast-t12 c = search needs
+array-read-t16 : tie.Need-array-read-t16
+array-read-t16 c = search needs
 
 returns : tie.Need-returns
 unfolding bytes2 marksOffset symbolsOffset headerOf
-returns c = rw (c .before .rows .ensures, c .columns .ensures)
+returns c = rw (c .size-bytes .ensures, c .before .before .rows .ensures, c .before .columns .ensures)
 
 pub header-of-spec : {M : Type 1} → statement M
 header-of-spec =
@@ -45,11 +48,12 @@ header-of-spec =
     (tie.spec
     rows-requires
     columns-requires
-    mul-symbols
-    add-symbols
+    mul-size-bytes
+    add-size-bytes
+    size-bytes-requires
     cast-t8
     cast-t9
     cast-t10
-    cast-t11
-    cast-t12
+    array-read-t13
+    array-read-t16
     returns)

@@ -1,4 +1,4 @@
--- `repair::file::put_file` meets its contract: header, marks and symbols stand one behind the other, and fill the file. Assumes nothing.
+-- `files::file::put_file` meets its contract: header, marks and symbols stand one behind the other, and fill the file. Assumes nothing.
 use mathlib.Core.Path.{_≡_, sym, ap, _∙_}
 use native.Mathlib.Omega.{arith}
 use borrow.Author.Needs.{needs}
@@ -27,9 +27,9 @@ put-requires : tie.Need-put-requires
 unfolding bytes2 marksOffset symbolsOffset fileLength headerOf
 put-requires c κs = omega (arith, ap length (c .before .before .header-of .ensures), fit (c .before .before .before .before .before .before) .1)
 
-put-marks-requires : tie.Need-put-marks-requires
+put-words-requires : tie.Need-put-words-requires
 unfolding bytes2 marksOffset symbolsOffset fileLength headerOf
-put-marks-requires c κs =
+put-words-requires c κs =
     let put = c .before .before .before .put in
     omega (arith, put .ensures .reached, put .kept .1 .0, ap length (c .before .before .before .before .before .before .header-of .ensures), fit (c .before .before .before .before .before .before .before .before .before .before) .0 .words, fit (c .before .before .before .before .before .before .before .before .before .before) .1)
 
@@ -38,7 +38,7 @@ unfolding bytes2 marksOffset symbolsOffset fileLength headerOf
 put-symbols-requires c κs =
     let s = c .before .before .before .before .before .before .before .before .before .before .before .before .before .before in
     let put = c .before .before .before .before .before .before .before .put in
-    let marks = c .before .before .before .put-marks in
+    let marks = c .before .before .before .put-words in
     let f = fit s in (
       f .0 .plan-known,
       (
@@ -69,7 +69,7 @@ unfolding fileOf
 returns c =
     let f = fit (c .before .before .before .before .before .before .before .before .before .before .before .before .before .before .before .before .before) in
     let header = put-is (sym (c .before .before .before .before .before .before .before .before .before .before .before .before .before .header-of .ensures)) (c .before .before .before .before .before .before .before .before .before .before .put .ensures) in
-    put-then (put-then header (c .before .before .before .before .before .before .put-marks .ensures)) (c .before .before .put-symbols .ensures) .written
+    put-then (put-then header (c .before .before .before .before .before .before .put-words .ensures)) (c .before .before .put-symbols .ensures) .written
     ∙ sets-whole _ _ (length-written _ _ _ (f .0) ∙ sym (f .1))
 
 pub put-file-spec : {M : Type 1} → statement M
@@ -79,7 +79,7 @@ put-file-spec =
     header-of-requires
     slice-aggregate-put
     put-requires
-    put-marks-requires
+    put-words-requires
     put-symbols-requires
     same-length
     returns)

@@ -1,4 +1,4 @@
--- `repair::lines::put_answer` meets its contract: two items. Assumes nothing.
+-- `files::lines::put_answer` meets its contract: two items. Assumes nothing.
 use mathlib.Core.Path.{sym, ap}
 use native.Mathlib.Omega.{arith}
 use borrow.Author.Needs.{needs}
@@ -16,8 +16,8 @@ put-item-requires c κs = search needs
 slice-aggregate-put-item-2 : tie.Need-slice-aggregate-put-item-2
 slice-aggregate-put-item-2 c = search needs
 
-answer-number-requires : tie.Need-answer-number-requires
-answer-number-requires c κs = search needs
+of-answer-requires : tie.Need-of-answer-requires
+of-answer-requires c κs = search needs
 
 put-item-requires-2 : tie.Need-put-item-requires-2
 put-item-requires-2 c κs = search needs
@@ -30,7 +30,7 @@ unfolding bytes item
 returns c =
     let plan = c .before .before .before .before .before .before .before .before .put-item .ensures in
     let answer = c .before .before .put-item2 .ensures in
-    (put-then (plan .0) (put-is (ap (item " answer ") (sym (c .before .before .before .before .answer-number .ensures))) (answer .0)), omega (arith, plan .1, answer .1))
+    (put-then (plan .0) (put-is (ap (item " answer ") (sym (c .before .before .before .before .of-answer .ensures))) (answer .0)), omega (arith, plan .1, answer .1))
 
 pub put-answer-spec : {M : Type 1} → statement M
 put-answer-spec =
@@ -39,7 +39,7 @@ put-answer-spec =
     slice-aggregate-put-item
     put-item-requires
     slice-aggregate-put-item-2
-    answer-number-requires
+    of-answer-requires
     put-item-requires-2
     same-length
     returns)

@@ -1,33 +1,40 @@
 -- `shelf::layout::bench_in` meets its contract. Assumes nothing.
+use Rattle.files.proofs.Writing.{put-whole}
 use Rattle.shelf.proofs.Benches.{bench-is}
 use native.Mathlib.Omega.{arith}
 use borrow.Author.Needs.{needs}
 use Rattle.shelf.proofs.layout.bench_in.Statement.{statement}
 use Rattle.shelf.proofs.layout.bench_in.Tie as tie
 
-sub-symbols-of : tie.Need-sub-symbols-of
-sub-symbols-of c = search needs
+sub-put : tie.Need-sub-put
+sub-put c = search needs
 
-part-symbols-of-start : tie.Need-part-symbols-of-start
-part-symbols-of-start c = search needs
+part-put-start : tie.Need-part-put-start
+part-put-start c = search needs
 
-part-symbols-of-end : tie.Need-part-symbols-of-end
-part-symbols-of-end c = search needs
+part-put-end : tie.Need-part-put-end
+part-put-end c = search needs
 
-symbols-of-requires : tie.Need-symbols-of-requires
-symbols-of-requires c κs = search needs
+slice-aggregate-put : tie.Need-slice-aggregate-put
+slice-aggregate-put c = search needs
 
-sub-sums-of : tie.Need-sub-sums-of
-sub-sums-of c = search needs
+put-requires : tie.Need-put-requires
+put-requires c κs = search needs
 
-part-sums-of-start : tie.Need-part-sums-of-start
-part-sums-of-start c = search needs
+sub-put-2 : tie.Need-sub-put-2
+sub-put-2 c = search needs
 
-part-sums-of-end : tie.Need-part-sums-of-end
-part-sums-of-end c = search needs
+part-put-start-2 : tie.Need-part-put-start-2
+part-put-start-2 c = search needs
 
-sums-of-requires : tie.Need-sums-of-requires
-sums-of-requires c κs = search needs
+part-put-end-2 : tie.Need-part-put-end-2
+part-put-end-2 c = search needs
+
+slice-aggregate-put-2 : tie.Need-slice-aggregate-put-2
+slice-aggregate-put-2 c = search needs
+
+put-requires-2 : tie.Need-put-requires-2
+put-requires-2 c κs = search needs
 
 word-at-requires : tie.Need-word-at-requires
 word-at-requires c κs = search needs
@@ -53,36 +60,40 @@ word-at-requires-7 c κs = search needs
 word-at-requires-8 : tie.Need-word-at-requires-8
 word-at-requires-8 c κs = search needs
 
-shared-slice-read-t21 : tie.Need-shared-slice-read-t21
-shared-slice-read-t21 c = search needs
+shared-slice-read-t26 : tie.Need-shared-slice-read-t26
+shared-slice-read-t26 c = search needs
 
-cast-t6 : tie.Need-cast-t6
-cast-t6 c = omega (arith, c .shared-slice-known2 .given 0)
+cast-t5 : tie.Need-cast-t5
+cast-t5 c = omega (arith, c .shared-slice-known2 .given 0)
 
-shared-slice-read-t23 : tie.Need-shared-slice-read-t23
-shared-slice-read-t23 c = search needs
+shared-slice-read-t28 : tie.Need-shared-slice-read-t28
+shared-slice-read-t28 c = search needs
 
-cast-t24 : tie.Need-cast-t24
-cast-t24 c = omega (arith, c .shared-slice-known3 .given 1)
+cast-t7 : tie.Need-cast-t7
+cast-t7 c = omega (arith, c .shared-slice-known3 .given 1)
 
 returns : tie.Need-returns
-returns c =
-    bench-is _ (c .before .before .before .before .before .before .before .before .before .before .before .before .symbols-of .ensures) (c .before .before .before .before .before .before .before .before .before .before .sums-of .ensures)
-    (c .before .before .before .before .before .before .before .before .before .word-at .ensures) (c .before .before .before .before .before .before .before .before .word-at2 .ensures) (c .before .before .before .before .before .before .before .word-at3 .ensures) (c .before .before .before .before .before .before .word-at4 .ensures)
-    (c .before .before .before .before .before .word-at5 .ensures) (c .before .before .before .before .word-at6 .ensures) (c .before .before .before .word-at7 .ensures) (c .before .before .word-at8 .ensures)
+returns c = (
+  bench-is _ (put-whole (c .before .before .before .before .before .before .before .before .before .before .before .before .before .before .before .put .ensures) (omega arith)) (put-whole (c .before .before .before .before .before .before .before .before .before .before .before .put2 .ensures) (omega arith))
+      (c .before .before .before .before .before .before .before .before .before .word-at .ensures) (c .before .before .before .before .before .before .before .before .word-at2 .ensures) (c .before .before .before .before .before .before .before .word-at3 .ensures) (c .before .before .before .before .before .before .word-at4 .ensures)
+      (c .before .before .before .before .before .word-at5 .ensures) (c .before .before .before .before .word-at6 .ensures) (c .before .before .before .word-at7 .ensures) (c .before .before .word-at8 .ensures),
+  (omega (arith, c .before .shared-slice-known2 .given 0), omega (arith, c .shared-slice-known3 .given 1)),
+)
 
 pub bench-in-spec : {M : Type 1} → statement M
 bench-in-spec =
     tie.close
     (tie.spec
-    sub-symbols-of
-    part-symbols-of-start
-    part-symbols-of-end
-    symbols-of-requires
-    sub-sums-of
-    part-sums-of-start
-    part-sums-of-end
-    sums-of-requires
+    sub-put
+    part-put-start
+    part-put-end
+    slice-aggregate-put
+    put-requires
+    sub-put-2
+    part-put-start-2
+    part-put-end-2
+    slice-aggregate-put-2
+    put-requires-2
     word-at-requires
     word-at-requires-2
     word-at-requires-3
@@ -91,8 +102,8 @@ bench-in-spec =
     word-at-requires-6
     word-at-requires-7
     word-at-requires-8
-    shared-slice-read-t21
-    cast-t6
-    shared-slice-read-t23
-    cast-t24
+    shared-slice-read-t26
+    cast-t5
+    shared-slice-read-t28
+    cast-t7
     returns)

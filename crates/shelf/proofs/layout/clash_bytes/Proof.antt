@@ -1,5 +1,7 @@
 -- `shelf::layout::clash_bytes` meets its contract. Assumes nothing.
-use mathlib.Core.Path.{sym, ap, _∙_}
+use mathlib.Core.Path.{sym, ap, subst, _∙_}
+use lib.Dec.{T}
+use Rattle.plans.specs.Refusal.{allBelow}
 use Rattle.shelf.specs.Layout.{clashBytes}
 use borrow.Author.Needs.{needs}
 use Rattle.shelf.proofs.layout.clash_bytes.Statement.{statement}
@@ -15,7 +17,8 @@ enum-known-answer : tie.Need-enum-known-answer
 enum-known-answer c = search needs
 
 place-bytes-requires : tie.Need-place-bytes-requires
-place-bytes-requires c κs = search needs
+unfolding clashBytes
+place-bytes-requires c κs = subst (λ a. T (allBelow 256 (clashBytes a))) (c .before .answer .given .1) (c .before .before .before .pre)
 
 enum-told-3 : tie.Need-enum-told-3
 enum-told-3 c = search needs

@@ -1,7 +1,8 @@
--- `shelf::layout::put_bench` meets its contract. Assumes nothing.
+-- `shelf::layout::put_bench` meets its contract: head, symbols, marks and sums stand one behind the other. Assumes nothing.
 use mathlib.Core.Path.{_≡_, sym, _∙_}
 use lib.ListN.{length, length-map}
-use Rattle.shelf.proofs.Benches.{bench-written}
+use Rattle.files.proofs.Files.{length-bytes}
+use Rattle.shelf.proofs.Benches.{bench-put}
 use native.Mathlib.Omega.{arith}
 use borrow.Author.Needs.{needs}
 use Rattle.shelf.proofs.layout.put_bench.Statement.{statement}
@@ -17,11 +18,11 @@ marks-long c = sym (length-map (c .args .bench .marks) (λ v. v)) ∙ c .good .0
 sums-long : (c : tie.Start) → length (c .args .bench .sums) ≡ 128
 sums-long c = sym (length-map (c .args .bench .sums) (λ v. v)) ∙ c .good .0 .1 .1 .1 .1 .1 .1 .0 .1 .0 .1
 
-byte-of-requires : tie.Need-byte-of-requires
-byte-of-requires c κs = search needs
+cast-t10 : tie.Need-cast-t10
+cast-t10 c = search needs
 
-byte-of-requires-2 : tie.Need-byte-of-requires-2
-byte-of-requires-2 c κs = search needs
+cast-t11 : tie.Need-cast-t11
+cast-t11 c = search needs
 
 slice-aggregate-put : tie.Need-slice-aggregate-put
 slice-aggregate-put c = search needs
@@ -34,7 +35,8 @@ slice-aggregate-put-2 c = search needs
 
 put-requires-2 : tie.Need-put-requires-2
 put-requires-2 c κs =
-    let start = c .before .before .before .before .before .before .before .before .before .before .before .before .before in omega (arith, symbols-long start, start .pre, c .before .before .before .before .put .ensures .long)
+    let start = c .before .before .before .before .before .before .before .before .before .before .before .before .before in
+    let head = c .before .before .before .before .put in omega (arith, symbols-long start, start .pre .0, head .ensures .reached, head .kept .1 .0)
 
 slice-aggregate-put-words : tie.Need-slice-aggregate-put-words
 slice-aggregate-put-words c = search needs
@@ -42,7 +44,9 @@ slice-aggregate-put-words c = search needs
 put-words-requires : tie.Need-put-words-requires
 put-words-requires c κs =
     let start = c .before .before .before .before .before .before .before .before .before .before .before .before .before .before .before .before .before .before in
-    omega (arith, marks-long start, start .pre, c .before .before .before .before .put2 .ensures .long, c .before .before .before .before .before .before .before .before .before .put .ensures .long)
+    let head = c .before .before .before .before .before .before .before .before .before .put in
+    let symbols = c .before .before .before .before .put2 in
+    omega (arith, symbols-long start, marks-long start, start .pre .0, head .ensures .reached, head .kept .1 .0, symbols .ensures .reached, symbols .kept .1 .0)
 
 slice-aggregate-put-3 : tie.Need-slice-aggregate-put-3
 slice-aggregate-put-3 c = search needs
@@ -50,7 +54,23 @@ slice-aggregate-put-3 c = search needs
 put-requires-3 : tie.Need-put-requires-3
 put-requires-3 c κs =
     let start = c .before .before .before .before .before .before .before .before .before .before .before .before .before .before .before .before .before .before .before .before .before .before .before in
-    omega (arith, sums-long start, start .pre, c .before .before .before .before .put-words .ensures .long, c .before .before .before .before .before .before .before .before .before .put2 .ensures .long, c .before .before .before .before .before .before .before .before .before .before .before .before .before .before .put .ensures .long)
+    let head = c .before .before .before .before .before .before .before .before .before .before .before .before .before .before .put in
+    let symbols = c .before .before .before .before .before .before .before .before .before .put2 in
+    let marks = c .before .before .before .before .put-words in
+    omega (
+      arith,
+      symbols-long start,
+      marks-long start,
+      sums-long start,
+      start .pre .0,
+      head .ensures .reached,
+      head .kept .1 .0,
+      symbols .ensures .reached,
+      symbols .kept .1 .0,
+      marks .ensures .reached,
+      marks .kept .1 .0,
+      length-bytes (start .args .bench .marks),
+    )
 
 same-length : tie.Need-same-length
 same-length c = search needs
@@ -58,16 +78,15 @@ same-length c = search needs
 returns : tie.Need-returns
 returns c =
     let start = c .before .before .before .before .before .before .before .before .before .before .before .before .before .before .before .before .before .before .before .before .before .before .before .before .before .before in
-    bench-written _ (symbols-long start) (marks-long start) (sums-long start) (start .pre)
-    (c .before .before .before .before .before .before .before .before .before .before .before .before .before .before .before .before .before .before .before .before .before .byte-of .ensures) (c .before .before .before .before .before .before .before .before .before .before .before .before .before .before .before .before .before .before .before .before .byte-of2 .ensures)
-    (c .before .before .before .before .before .before .before .before .before .before .before .before .before .before .before .before .before .put .ensures) (c .before .before .before .before .before .before .before .before .before .before .before .before .put2 .ensures) (c .before .before .before .before .before .before .before .put-words .ensures) (c .before .before .put3 .ensures)
+    bench-put _ (symbols-long start) (marks-long start) (sums-long start) (start .pre .0) (c .before .before .before .before .before .before .before .before .before .before .before .before .before .before .before .before .before .put .ensures) (c .before .before .before .before .before .before .before .before .before .before .before .before .put2 .ensures)
+    (c .before .before .before .before .before .before .before .put-words .ensures) (c .before .before .put3 .ensures)
 
 pub put-bench-spec : {M : Type 1} → statement M
 put-bench-spec =
     tie.close
     (tie.spec
-    byte-of-requires
-    byte-of-requires-2
+    cast-t10
+    cast-t11
     slice-aggregate-put
     put-requires
     slice-aggregate-put-2

@@ -1,5 +1,5 @@
 -- `shelf::layout::put_room` meets its contract. Assumes nothing.
-use Rattle.shelf.proofs.Writing.{written-whole}
+use Rattle.files.proofs.Writing.{put-whole}
 use native.Mathlib.Omega.{arith}
 use borrow.Author.Needs.{needs}
 use Rattle.shelf.proofs.layout.put_room.Statement.{statement}
@@ -12,7 +12,7 @@ same-length : tie.Need-same-length
 same-length c = search needs
 
 returns : tie.Need-returns
-returns c = written-whole (c .before .before .put .ensures) (omega arith)
+returns c = put-whole (c .before .before .put .ensures) (omega arith)
 
 pub put-room-spec : {M : Type 1} → statement M
 put-room-spec = tie.close (tie.spec put-requires same-length returns)

@@ -1,8 +1,8 @@
--- `shelf::layout::word_at` meets its contract. Assumes nothing.
-use Rattle.repair.specs.File.{wordAt}
+-- `files::words::word_at` meets its contract: the four bytes make the word of the definition. Assumes nothing.
 use borrow.Author.Needs.{needs}
-use Rattle.shelf.proofs.layout.word_at.Statement.{statement}
-use Rattle.shelf.proofs.layout.word_at.Tie as tie
+use Rattle.repair.specs.File.{wordAt}
+use Rattle.files.proofs.words.word_at.Statement.{statement}
+use Rattle.files.proofs.words.word_at.Tie as tie
 
 shared-slice-read-word-of : tie.Need-shared-slice-read-word-of
 shared-slice-read-word-of c = search needs

@@ -1,9 +1,9 @@
--- `repair::lines::answer_number` meets its contract: by the answer. Assumes nothing.
+-- `files::numbers::of_answer` meets its contract: by the answer. Assumes nothing.
 use mathlib.Core.Path.{sym, ap}
 use borrow.Author.Needs.{needs}
 use Rattle.plans.specs.Answers.{answerNumber}
-use Rattle.files.proofs.lines.answer_number.Statement.{statement}
-use Rattle.files.proofs.lines.answer_number.Tie as tie
+use Rattle.files.proofs.numbers.of_answer.Statement.{statement}
+use Rattle.files.proofs.numbers.of_answer.Tie as tie
 
 enum-told : tie.Need-enum-told
 enum-told c = search needs
@@ -33,8 +33,8 @@ returns-4 : tie.Need-returns-4
 unfolding answerNumber
 returns-4 c = sym (ap answerNumber (c .before .answer .given .1))
 
-pub answer-number-spec : {M : Type 1} → statement M
-answer-number-spec =
+pub of-answer-spec : {M : Type 1} → statement M
+of-answer-spec =
     tie.close
     (tie.spec
     enum-told

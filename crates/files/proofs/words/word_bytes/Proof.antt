@@ -1,8 +1,8 @@
--- `shelf::layout::word_bytes` meets its contract. Assumes nothing.
-use Rattle.repair.specs.File.{bytes4}
+-- `files::words::word_bytes` meets its contract: the bytes are those of the definition. Assumes nothing.
 use borrow.Author.Needs.{needs}
-use Rattle.shelf.proofs.layout.word_bytes.Statement.{statement}
-use Rattle.shelf.proofs.layout.word_bytes.Tie as tie
+use Rattle.repair.specs.File.{bytes4}
+use Rattle.files.proofs.words.word_bytes.Statement.{statement}
+use Rattle.files.proofs.words.word_bytes.Tie as tie
 
 cast-t3 : tie.Need-cast-t3
 cast-t3 c = search needs

@@ -1,4 +1,4 @@
--- `repair::file::put_marks` meets its contract: after r turns the first r words are written. Assumes nothing.
+-- `files::words::put_words` meets its contract: after r turns the first r words are written. Assumes nothing.
 use mathlib.Core.Path.{ap, _≡_, refl}
 use Prim.Native.Nat.{_+_, _*_, _-_}
 use native.Mathlib.Omega.{arith}
@@ -6,33 +6,33 @@ use borrow.Author.Needs.{needs}
 use lib.ListN.{length}
 use Rattle.repair.specs.File.{bytes4}
 use Rattle.files.proofs.Writing.{Joining, joining-starts, joining-length, joining-turns, joining-ends}
-use Rattle.files.proofs.file.put_marks.Statement.{statement}
-use Rattle.files.proofs.file.put_marks.Tie as tie
+use Rattle.files.proofs.words.put_words.Statement.{statement}
+use Rattle.files.proofs.words.put_words.Tie as tie
 
 abbrev Inv-loop : tie.InvT-loop
-Inv-loop marks file₀ at next₀ r₀ r-end file next r = (r-end ≡ length marks) × (next ≡ at + 4 * r) × Joining bytes4 file₀ at marks r file next
+Inv-loop words out₀ at next₀ r₀ r-end out next r = (r-end ≡ length words) × (next ≡ at + 4 * r) × Joining bytes4 out₀ at words r out next
 
 abbrev μ-loop : tie.MeasureT-loop
-μ-loop marks file₀ at next₀ r₀ r-end file next r = length marks - r
+μ-loop words out₀ at next₀ r₀ r-end out next r = length words - r
 
 loop-holds : tie.Need-loop-holds Inv-loop μ-loop
 loop-holds c = (refl, omega arith, joining-starts bytes4 _ _ _)
 
-mul-bytes-of : tie.Need-mul-bytes-of Inv-loop μ-loop
-mul-bytes-of c = search needs
+mul-word-bytes : tie.Need-mul-word-bytes Inv-loop μ-loop
+mul-word-bytes c = search needs
 
-shared-slice-read-bytes-of : tie.Need-shared-slice-read-bytes-of Inv-loop μ-loop
-shared-slice-read-bytes-of c = search needs
+shared-slice-read-word-bytes : tie.Need-shared-slice-read-word-bytes Inv-loop μ-loop
+shared-slice-read-word-bytes c = search needs
 
-bytes-of-requires : tie.Need-bytes-of-requires Inv-loop μ-loop
-bytes-of-requires c κs = search needs
+word-bytes-requires : tie.Need-word-bytes-requires Inv-loop μ-loop
+word-bytes-requires c κs = search needs
 
 slice-aggregate-put : tie.Need-slice-aggregate-put Inv-loop μ-loop
 slice-aggregate-put c = search needs
 
 put-requires : tie.Need-put-requires Inv-loop μ-loop
 unfolding bytes4
-put-requires c κs = omega (arith, ap length (c .before .before .bytes-of .ensures), joining-length bytes4 _ _ _ (c .before .before .before .before .before .loop .inv .2))
+put-requires c κs = omega (arith, ap length (c .before .before .word-bytes .ensures), joining-length bytes4 _ _ _ (c .before .before .before .before .before .loop .inv .2))
 
 add-r : tie.Need-add-r Inv-loop μ-loop
 add-r c = search needs
@@ -46,8 +46,8 @@ loop-again c =
     let l = c .before .before .before .before .before .before .before .before .loop in
     let put = c .before .before .put .ensures in (
       refl,
-      omega (arith, put .reached, ap length (c .before .before .before .before .before .bytes-of .ensures)),
-      joining-turns bytes4 _ _ _ (l .inv .2) (omega arith) (c .before .before .before .before .before .bytes-of .ensures) (put .written) (put .reached),
+      omega (arith, put .reached, ap length (c .before .before .before .before .before .word-bytes .ensures)),
+      joining-turns bytes4 _ _ _ (l .inv .2) (omega arith) (c .before .before .before .before .before .word-bytes .ensures) (put .written) (put .reached),
     )
 
 same-length : tie.Need-same-length Inv-loop μ-loop
@@ -56,16 +56,16 @@ same-length c = joining-length bytes4 _ _ _ (c .before .loop .inv .2)
 returns : tie.Need-returns Inv-loop μ-loop
 returns c = joining-ends bytes4 _ _ _ (c .before .loop .inv .2) (omega arith) (omega arith)
 
-pub put-marks-spec : {M : Type 1} → statement M
-put-marks-spec =
+pub put-words-spec : {M : Type 1} → statement M
+put-words-spec =
     tie.close
     (tie.spec
     Inv-loop
     μ-loop
     loop-holds
-    mul-bytes-of
-    shared-slice-read-bytes-of
-    bytes-of-requires
+    mul-word-bytes
+    shared-slice-read-word-bytes
+    word-bytes-requires
     slice-aggregate-put
     put-requires
     add-r

@@ -1,0 +1,207 @@
+-- A bench and its bytes say the same, and a step that is neither Filled nor Raised leaves the buffer. Assumes nothing.
+use mathlib.Core.Path.{_≡_, refl, sym, ap, ap₂, subst, _∙_}
+use mathlib.Core.Logic.{_≢_}
+use mathlib.Core.Bool.{Bool, true, false}
+use mathlib.Core.List.{List, [], _∷_, _++_, map, flatMap, append-assoc}
+use Prim.Native.Nat.{ℕ, zero, suc, _+_, _*_, _<_, _≤_}
+use native.Mathlib.Nat.{le-of-eq}
+use native.Mathlib.Omega.{arith}
+use borrow.Author.Tests.{eqb-true, eqb-false}
+use lib.Dec.{T, eqb, ltb, ltb→lt}
+use lib.ListN.{length, take, drop, getD, set, length-append, length-take, length-drop, length-map}
+use lib.Seq.{sets, take-add, take-all, take-at, drop-at, ext-getD, set-getD}
+use Rattle.field.specs.Lists.{if_then_else_, upFrom}
+use Rattle.field.proofs.Lists.{length-up, getD-map-below}
+use Rattle.field.proofs.Test.{both-left, both-right}
+use Rattle.field.proofs.Words.{Fit}
+use Rattle.linear.specs.Lists.{all, same}
+use Rattle.linear.specs.Marks.{bitsOf, vectorOf}
+use Rattle.linear.specs.Fill.{sumsOf, Fill, tied, none, one, fill}
+use Rattle.linear.proofs.Tests.{same→eq, same-refl}
+use Rattle.plans.specs.Plan.{Plan, planOf, checksTo, rowAt, marksAt}
+use Rattle.plans.specs.Answers.{stepNumber}
+use Rattle.plans.specs.Refusal.{unasked, allBelow, sumsAt, benchRefusal}
+use Rattle.repair.specs.File.{bytes4, wordAt}
+use Rattle.steps.specs.Steps.{stepped, unlessRefused, rowFill, putRow, rowStepBy, rowStep, Learned, blocked, failing, learned, levelFill, levelStepBy, levelStep}
+use Rattle.steps.specs.Learned.{benchOf}
+use Rattle.plans.specs.declared.Bench.{Bench}
+use Rattle.plans.specs.declared.Stepped.{Stepped}
+use Rattle.plans.specs.declared.Step.the-variants.{Whole, Filled, Top}
+use Rattle.plans.proofs.Rows.{row-length, row-again, marks-length}
+use Rattle.steps.proofs.Fit.{Sized, BenchFit, bench-fit}
+use Rattle.steps.proofs.Sound.{row-place}
+use Rattle.steps.proofs.Unmarked.{Clear, bits-clear, clear-one, clear-none}
+use Rattle.files.proofs.Files.{word-behind, words-bytes, words-at, length-bytes}
+use Rattle.shelf.specs.Layout.{benchSize, benchBytes, benchIn}
+use Rattle.shelf.specs.Calls.{stepAnswer, stepBuffer}
+use Rattle.shelf.specs.Kept.{OfCode, WrittenIsRead, ReadIsWritten, RowStepStays, LevelStepStays}
+use Rattle.shelf.proofs.Sizing.{sized-fit, sized-unfit}
+
+-- ---- what was written is read
+
+module _ (b : Bench) (c : OfCode b) where
+  abbrev front : List ℕ
+  front = b .plan ∷ b .level ∷ b .symbols
+
+  abbrev words : List ℕ
+  words = flatMap bytes4 (b .marks)
+
+  front-long : length front ≡ 258
+  front-long = length-append (b .plan ∷ b .level ∷ []) (b .symbols) ∙ ap (λ n. 2 + n) (c .symbols)
+
+  middle-long : length (front ++ words) ≡ 290
+  middle-long = length-append front words ∙ ap₂ _+_ front-long (length-bytes (b .marks) ∙ ap (λ n. 4 * n) (c .marks))
+
+  symbols-read : take 256 (drop 2 (benchBytes b)) ≡ b .symbols
+  unfolding benchBytes
+  symbols-read = ap (take 256) (append-assoc (b .symbols) words (b .sums)) ∙ take-at (b .symbols) (words ++ b .sums) 256 (c .symbols)
+
+  word-read : (r : ℕ) → r < 8 → wordAt (benchBytes b) (258 + 4 * r) ≡ getD (b .marks) r 0
+  unfolding benchBytes
+  word-read r h =
+      ap₂ wordAt (append-assoc front words (b .sums)) (ap (λ n. n + 4 * r) (sym front-long))
+      ∙ word-behind front (words ++ b .sums) (4 * r) ∙ words-bytes (b .marks) (b .sums) r (omega (arith, c .marks)) (c .words r h)
+
+  marks-read : map (λ r. wordAt (benchBytes b) (258 + 4 * r)) (upFrom 0 8) ≡ b .marks
+  marks-read =
+      let word : ℕ → ℕ = λ r. wordAt (benchBytes b) (258 + 4 * r) in
+      let long = length-map (upFrom 0 8) word ∙ length-up 0 8 in
+      ext-getD 0 (map word (upFrom 0 8)) (b .marks) (long ∙ sym (c .marks))
+      (λ r h. getD-map-below word 8 r 0 (omega (arith, long)) ∙ word-read r (omega (arith, long)))
+
+  sums-read : take 128 (drop 290 (benchBytes b)) ≡ b .sums
+  unfolding benchBytes
+  sums-read = ap (take 128) (drop-at (front ++ words) (b .sums) 290 middle-long) ∙ take-all 128 (b .sums) (le-of-eq (c .sums))
+
+pub written-is-read : WrittenIsRead
+unfolding benchBytes benchIn
+written-is-read b c =
+    ap (λ s. benchOf (b .plan) (b .level) s (map (λ r. wordAt (benchBytes b) (258 + 4 * r)) (upFrom 0 8)) (take 128 (drop 290 (benchBytes b)))) (symbols-read b c)
+    ∙ ap₂ (λ m s. benchOf (b .plan) (b .level) (b .symbols) m s) (marks-read b c) (sums-read b c)
+
+-- ---- what was read is written
+
+bytes-fit : (l : List ℕ) → T (allBelow 256 l) → Fit 256 l
+unfolding all allBelow
+bytes-fit [] t = tt
+bytes-fit (x ∷ l) t = (ltb→lt x 256 (both-left (ltb x 256) (allBelow 256 l) t), bytes-fit l (both-right (ltb x 256) (allBelow 256 l) t))
+
+first-two : (l : List ℕ) → 2 ≤ length l → take 2 l ≡ getD l 0 0 ∷ getD l 1 0 ∷ []
+first-two [] h = absurd (omega arith)
+first-two (x ∷ []) h = absurd (omega arith)
+first-two (x ∷ y ∷ l) h = refl
+
+pub read-is-written : ReadIsWritten
+unfolding benchBytes benchIn
+read-is-written l t e =
+    ap₂ (λ a w. ((a ++ take 256 (drop 2 l)) ++ w) ++ take 128 (drop 290 l)) (sym (first-two l (omega arith))) (words-at l (bytes-fit l t) 258 0 8 (omega arith))
+    ∙ sym (take-add 290 128 l ∙ ap (λ k. k ++ take 128 (drop 290 l)) (take-add 258 32 l ∙ ap (λ k. k ++ take 32 (drop 258 l)) (take-add 2 256 l)))
+    ∙ take-all 418 l (le-of-eq e)
+
+-- ---- steps that change nothing
+
+module _ (b : Bench) (s : Sized b) (r : ℕ) where
+  abbrev P : Plan
+  P = planOf (b .plan)
+
+  abbrev v : List ℕ
+  v = rowAt P (b .symbols) r
+
+  module _ (f : BenchFit b) (h : r < P .rows) (z : getD (b .marks) r 0 ≡ 0) where
+    place : r * P .columns + P .columns ≤ length (b .symbols)
+    place = row-place b f r h s
+
+    long : length v ≡ P .columns
+    long = row-length P (b .symbols) r place
+
+    clear : Clear (marksAt P (b .marks) r)
+    unfolding marksAt
+    clear = subst (λ w. Clear (bitsOf (P .columns) w)) (sym z) (bits-clear (P .columns))
+
+    -- a fill without marks leaves the row
+    row-left : vectorOf (rowFill b r) v ≡ v
+    unfolding rowFill vectorOf
+    row-left = go (same sums target) refl
+      where
+        sums : List ℕ
+        sums = sumsOf (P .field) (checksTo P (b .level)) v
+
+        target : List ℕ
+        target = sumsAt P (b .level) (b .sums) r
+
+        wide : length v ≡ length (marksAt P (b .marks) r)
+        wide = long ∙ sym (marks-length P (b .marks) r)
+
+        go : (c : Bool) → same sums target ≡ c → vectorOf (fill (P .field) (checksTo P (b .level)) target (marksAt P (b .marks) r) v) v ≡ v
+        go true e =
+            ap (λ f. vectorOf f v) (clear-one (P .field) (checksTo P (b .level)) target (marksAt P (b .marks) r) v clear wide
+            (same→eq sums target (subst T (sym e) tt)))
+        go false e =
+            ap (λ f. vectorOf f v) (clear-none (P .field) (checksTo P (b .level)) target (marksAt P (b .marks) r) v clear wide
+            (λ q. subst T (ap (same sums) q ∙ e) (same-refl sums)))
+
+    put-back : (row : List ℕ) → rowFill b r ≡ one row → putRow b r row ≡ b
+    unfolding putRow vectorOf
+    put-back row q =
+        let e : row ≡ v = sym (ap (λ f. vectorOf f v) q) ∙ row-left in
+        ap₂ (λ x m. benchOf (b .plan) (b .level) x m (b .sums))
+        (ap (sets (b .symbols) (r * P .columns)) e ∙ row-again P r v (b .symbols) long place refl)
+        (ap (set (b .marks) r) (sym z) ∙ set-getD (b .marks) r 0)
+
+  row-stays : stepNumber (rowStep b r .answer) ≢ 4 → rowStep b r .bench ≡ b
+  unfolding if_then_else_ stepNumber stepped unlessRefused rowStepBy rowStep
+  row-stays h = go (benchRefusal b (ltb r (P .rows))) refl (rowFill b r) refl h
+    where
+      go : (n : ℕ) → benchRefusal b (ltb r (P .rows)) ≡ n → (f : Fill) → rowFill b r ≡ f
+          → stepNumber (unlessRefused n b (rowStepBy b r f) .answer) ≢ 4 → unlessRefused n b (rowStepBy b r f) .bench ≡ b
+      go (suc n) e f q h = refl
+      go zero e tied q h = refl
+      go zero e none q h = refl
+      go zero e (one row) q h = by (eqb (getD (b .marks) r 0) 0) refl h
+        where
+          by : (c : Bool) → eqb (getD (b .marks) r 0) 0 ≡ c → stepNumber (if c then Whole else Filled) ≢ 4 → putRow b r row ≡ b
+          by true z h =
+              let f = bench-fit b (ltb r (P .rows)) e in put-back (f .0) (ltb→lt r (P .rows) (f .1)) (eqb-true (getD (b .marks) r 0) 0 z) row q
+          by false z h = absurd (h refl)
+
+level-stays : (b : Bench) → stepNumber (levelStep b .answer) ≢ 6 → levelStep b .bench ≡ b
+unfolding if_then_else_ stepNumber stepped unlessRefused levelStepBy levelStep
+level-stays b h = go (benchRefusal b unasked) (ltb (b .level) (length (planOf (b .plan) .levels))) (levelFill b) h
+  where
+    go : (n : ℕ) (c : Bool) (l : Learned) → let s = unlessRefused n b (if c then levelStepBy b l else stepped b Top) in
+        stepNumber (s .answer) ≢ 6 → s .bench ≡ b
+    go zero true blocked h = refl
+    go zero true failing h = refl
+    go zero true (learned cs) h = absurd (h refl)
+    go zero false l h = refl
+    go (suc n) c l h = refl
+
+-- ---- buffers
+
+sized-in : (l : List ℕ) → length l ≡ 418 → Sized (benchIn l)
+unfolding benchIn
+sized-in l e = record {
+  symbols = simp (length-take, length-drop) (omega arith);
+  marks = length-map (upFrom 0 8) (λ r. wordAt l (258 + 4 * r)) ∙ length-up 0 8;
+  sums = simp (length-take, length-drop) (omega arith);
+}
+
+module _ (step : Bench → Stepped) (l : List ℕ) (t : T (allBelow 256 l)) (n : ℕ) where
+  buffer-stays : (length l ≡ 418 → stepNumber (step (benchIn l) .answer) ≢ n → step (benchIn l) .bench ≡ benchIn l)
+      → stepAnswer step l ≢ n → stepBuffer step l ≡ l
+  unfolding stepAnswer stepBuffer
+  buffer-stays stays h = go (eqb (length l) benchSize) refl
+    where
+      go : (c : Bool) → eqb (length l) benchSize ≡ c → stepBuffer step l ≡ l
+      go false e = sized-unfit benchSize l _ _ (eqb-false (length l) benchSize e)
+      go true e =
+          let fits = eqb-true (length l) benchSize e in
+          sized-fit benchSize l _ _ fits
+          ∙ ap benchBytes (stays fits (λ q. h (sized-fit benchSize l (stepNumber (step (benchIn l) .answer)) 11 fits ∙ q)))
+          ∙ read-is-written l t fits
+
+pub row-step-stays : RowStepStays
+row-step-stays l t r = buffer-stays (λ b. rowStep b r) l t 4 (λ fits. row-stays (benchIn l) (sized-in l fits) r)
+
+pub level-step-stays : LevelStepStays
+level-step-stays l t = buffer-stays levelStep l t 6 (λ fits. level-stays (benchIn l))

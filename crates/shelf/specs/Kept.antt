@@ -1,0 +1,35 @@
+-- A bench and its bytes say the same, and only Filled and Raised change a bench buffer.
+use Prim.Native.Nat.{ℕ, _^_, _<_}
+use mathlib.Core.Path.{_≡_}
+use mathlib.Core.Logic.{_≢_}
+use mathlib.Core.List.{List}
+use lib.Dec.{T}
+use lib.ListN.{length, getD}
+use Rattle.plans.specs.Refusal.{allBelow}
+use Rattle.steps.specs.Steps.{rowStep, levelStep}
+use Rattle.plans.specs.declared.Bench.{Bench}
+use Rattle.shelf.specs.Layout.{benchSize, benchBytes, benchIn}
+use Rattle.shelf.specs.Calls.{stepAnswer, stepBuffer}
+
+-- a bench of the code: its arrays have their sizes, and its mark words 32 bits
+pub record OfCode (b : Bench) : Type 0 where
+  pub symbols : length (b .symbols) ≡ 256
+  pub marks : length (b .marks) ≡ 8
+  pub words : (r : ℕ) → r < 8 → getD (b .marks) r 0 < 2 ^ 32
+  pub sums : length (b .sums) ≡ 128
+
+-- what was written is read again, so calls one after the other are the steps one after the other
+abbrev pub WrittenIsRead : Type 0
+WrittenIsRead = (b : Bench) → OfCode b → benchIn (benchBytes b) ≡ b
+
+-- what was read is written again
+abbrev pub ReadIsWritten : Type 0
+ReadIsWritten = (bytes : List ℕ) → T (allBelow 256 bytes) → length bytes ≡ benchSize → benchBytes (benchIn bytes) ≡ bytes
+
+-- a row step that is not Filled, and a level step that is not Raised, leave the buffer as it was, whatever its length
+abbrev pub RowStepStays : Type 0
+RowStepStays = (bytes : List ℕ) → T (allBelow 256 bytes) → (r : ℕ)
+    → stepAnswer (λ b. rowStep b r) bytes ≢ 4 → stepBuffer (λ b. rowStep b r) bytes ≡ bytes
+
+abbrev pub LevelStepStays : Type 0
+LevelStepStays = (bytes : List ℕ) → T (allBelow 256 bytes) → stepAnswer levelStep bytes ≢ 6 → stepBuffer levelStep bytes ≡ bytes
