@@ -1,6 +1,4 @@
--- Facts about stripe files and the text. Assumes nothing.
+-- Facts about stripe files. Assumes nothing.
 pub mod Writing
 pub mod Stripes
 pub mod Files
-pub mod Texts
-pub mod Printing

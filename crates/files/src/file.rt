@@ -2,8 +2,8 @@
 use crate::buffer;
 use crate::marks;
 use crate::words;
-use repair::plan;
 use plans::refusal;
+use repair::plan;
 ghost use mathlib.Core.Path.{_≡_};
 ghost use Prim.Native.Nat.{_+_, _*_, _/_, _%_, _^_, _≤_, _<_};
 ghost use lib.Dec.{T, eqb};

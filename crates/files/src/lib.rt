@@ -1,8 +1,7 @@
-// Stripe files: reading one, writing one, and the text that mend prints for one.
+// Stripe files: reading one and writing one.
 pub mod buffer;
-mod file;
-mod lines;
-mod marks;
+pub mod file;
+pub mod marks;
 pub mod numbers;
 pub mod words;
 
@@ -10,11 +9,8 @@ use plans::refusal;
 use repair::Outcome;
 use repair::plan;
 ghost use mathlib.Core.Path.{_≡_};
-ghost use lib.ListN.{length};
 ghost use Rattle.codewords.specs.Codeword.{outcomeOf};
 ghost use Rattle.repair.specs.File.{writeRefusal, writeFile, readRefusal, readStripe, readMarks};
-ghost use Rattle.plans.specs.Tables.{padded};
-ghost use Rattle.repair.specs.Text.{printed};
 
 // Writes a stripe and its marks as a file, 0 under marks. Where it is refused the file is unchanged.
 pub fn write_file(plan: usize, stripe: &[u8], marks: &[u32], file: &mut [u8]) -> Outcome
@@ -43,15 +39,4 @@ pub fn read_file(file: &[u8], stripe: &mut [u8], marks: &mut [u32]) -> Outcome
     }
     file::load(file, stripe, marks);
     Outcome::Done
-}
-
-// What `mend` prints for any bytes that it reads: the text at the front of `out` and zeros behind it, and its length.
-pub fn text(file: &[u8], out: &mut [u8; 320]) -> usize
-    ensures { λ r. ⌜ r ≡ length (printed (now (file .entry))) ⌝ }
-    ensures { λ _. ⌜ now (out .exit) ≡ padded 320 (printed (now (file .entry))) ⌝ }
-{
-    let mut room = [0u8; 320];
-    let size = lines::put_text(file, &mut room);
-    *out = room;
-    size
 }

@@ -15,6 +15,6 @@ fn main() {
         return;
     }
     let mut out = [0u8; 320];
-    let size = files::text(&file[..got], &mut out);
+    let size = texts::text(&file[..got], &mut out);
     io::write_all(STDOUT_FILENO, &out[..size]);
 }

@@ -29,8 +29,8 @@ use Rattle.plans.specs.declared.Step.the-variants.{Top}
 use Rattle.plans.proofs.Shape.{shape}
 use Rattle.steps.proofs.Fit.{lent-fit, bench-fit}
 use Rattle.files.proofs.Stripes.{known-below}
-use Rattle.files.proofs.Texts.{below-at, beside-below, row-below, across-below}
-use Rattle.files.proofs.Printing.{row-plan, level-plan, report-below, beside-report}
+use Rattle.texts.proofs.Texts.{below-at, beside-below, row-below, across-below}
+use Rattle.texts.proofs.Printing.{row-plan, level-plan, report-below, beside-report}
 use Rattle.shelf.specs.Layout.{placeBytes, clashBytes, reportBytes}
 
 -- ---- lists of small numbers

@@ -151,7 +151,7 @@ pub extern "C" fn shelf_text(file: &[u8], text: &mut [u8], size: &mut [u8]) -> u
         return 11;
     }
     let mut room = [0u8; 320];
-    let bytes = files::words::size_bytes(files::text(file, &mut room));
+    let bytes = files::words::size_bytes(texts::text(file, &mut room));
     layout::put_room(&room, text);
     files::buffer::put(&bytes, size, 0);
     0

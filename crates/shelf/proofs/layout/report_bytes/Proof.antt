@@ -3,7 +3,7 @@ use mathlib.Core.Path.{_≡_, sym, _∙_}
 use Prim.Native.Nat.{ℕ, _<_}
 use lib.Dec.{lit<}
 use lib.ListN.{length, getD, length-map}
-use Rattle.files.proofs.Texts.{below-at}
+use Rattle.texts.proofs.Texts.{below-at}
 use Rattle.shelf.proofs.Bytes.{report-is}
 use Rattle.shelf.proofs.Fitting.{fitting-parts}
 use native.Mathlib.Omega.{arith}

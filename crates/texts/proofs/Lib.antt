@@ -1,0 +1,3 @@
+-- Facts about the text. Assumes nothing.
+pub mod Texts
+pub mod Printing

@@ -1,0 +1,80 @@
+-- `lines::put_place` meets its contract: by the kind of place. Assumes nothing.
+use mathlib.Core.Path.{ap}
+use native.Mathlib.Omega.{arith}
+use borrow.Author.Needs.{needs}
+use Rattle.repair.specs.Text.{bytes, item, placeText}
+use Rattle.files.proofs.Writing.{put-then, put-is}
+use Rattle.texts.proofs.Texts.{row-below, across-below}
+use Rattle.texts.proofs.lines.put_place.Statement.{statement}
+use Rattle.texts.proofs.lines.put_place.Tie as tie
+
+enum-known-place : tie.Need-enum-known-place
+enum-known-place c = search needs
+
+slice-aggregate-put-item : tie.Need-slice-aggregate-put-item
+slice-aggregate-put-item c = search needs
+
+put-item-requires : tie.Need-put-item-requires
+put-item-requires c κs = (row-below (c .before .before .before .place .given .1) (c .before .before .before .before .before .before .pre .0) .0, omega (arith, c .before .before .before .before .before .before .pre .1))
+
+slice-aggregate-put-item-2 : tie.Need-slice-aggregate-put-item-2
+slice-aggregate-put-item-2 c = search needs
+
+put-item-requires-2 : tie.Need-put-item-requires-2
+put-item-requires-2 c κs =
+    let item = c .before .before .before .before .put-item in
+    (row-below (c .before .before .before .before .before .before .before .before .place .given .1) (c .before .before .before .before .before .before .before .before .before .before .before .pre .0) .1, omega (arith, c .before .before .before .before .before .before .before .before .before .before .before .pre .1, item .ensures .1, item .kept .1 .1 .0))
+
+enum-known-place-2 : tie.Need-enum-known-place-2
+enum-known-place-2 c = search needs
+
+slice-aggregate-put-item-3 : tie.Need-slice-aggregate-put-item-3
+slice-aggregate-put-item-3 c = search needs
+
+put-item-requires-3 : tie.Need-put-item-requires-3
+put-item-requires-3 c κs = (across-below (c .before .before .before .place2 .given .1) (c .before .before .before .before .before .before .pre .0), omega (arith, c .before .before .before .before .before .before .pre .1))
+
+slice-aggregate-put : tie.Need-slice-aggregate-put
+slice-aggregate-put c = search needs
+
+put-requires : tie.Need-put-requires
+put-requires c κs = search needs
+
+same-length : tie.Need-same-length
+same-length c = search needs
+
+returns : tie.Need-returns
+unfolding bytes item placeText
+returns c =
+    let level = c .before .before .before .before .before .before .before .put-item .ensures in
+    let row = c .before .before .put-item2 .ensures in
+    (put-is (ap placeText (c .before .before .before .before .before .before .before .before .before .before .before .place .given .1)) (put-then (level .0) (row .0)), omega (arith, level .1, row .1))
+
+same-length-2 : tie.Need-same-length-2
+same-length-2 c = search needs
+
+returns-2 : tie.Need-returns-2
+unfolding bytes item placeText
+returns-2 c =
+    let level = c .before .before .before .before .before .before .before .put-item3 .ensures in
+    let across = c .before .before .put .ensures in
+    (put-is (ap placeText (c .before .before .before .before .before .before .before .before .before .before .before .place2 .given .1)) (put-then (level .0) across), omega (arith, level .1, across .reached))
+
+pub put-place-spec : {M : Type 1} → statement M
+put-place-spec =
+    tie.close
+    (tie.spec
+    enum-known-place
+    slice-aggregate-put-item
+    put-item-requires
+    slice-aggregate-put-item-2
+    put-item-requires-2
+    enum-known-place-2
+    slice-aggregate-put-item-3
+    put-item-requires-3
+    slice-aggregate-put
+    put-requires
+    same-length
+    returns
+    same-length-2
+    returns-2)

@@ -1,0 +1,109 @@
+-- `lines::put_report` meets its contract: by the answer. Assumes nothing.
+use mathlib.Core.List.{List, _∷_}
+use mathlib.Core.Path.{_≡_, ap, subst}
+use Prim.Native.Nat.{ℕ}
+use native.Mathlib.Omega.{arith}
+use borrow.Author.Needs.{needs}
+use denote.Ref.{now}
+use lib.Dec.{T}
+use Rattle.plans.specs.declared.Answer.{Answer}
+use Rattle.repair.specs.Text.{lineEnd, reportText}
+use Rattle.plans.specs.Refusal.{allBelow}
+use Rattle.plans.specs.Answers.{answerValues, reportValues}
+use Rattle.files.proofs.Writing.{put-is}
+use Rattle.texts.proofs.lines.put_report.Statement.{statement}
+use Rattle.texts.proofs.lines.put_report.Tie as tie
+
+-- what is known of the answer's values and of its text, once the answer is known
+
+beside : (c : tie.Start) {a : Answer} → c .args .report .answer ≡ a
+    → T (allBelow 100 (answerValues a (c .args .report .level ∷ c .args .report .left ∷ c .args .report .rows)))
+unfolding reportValues
+beside c e = subst (λ a. T (allBelow 100 (answerValues a (c .args .report .level ∷ c .args .report .left ∷ c .args .report .rows)))) e (c .pre .1 .1 .1 .1 .0)
+
+follows : (c : tie.Start) → Answer → List ℕ
+follows c a = reportText (c .args .plan) (c .args .report) a (now (c .args .stripe)) (now (c .args .marks))
+
+enum-told : tie.Need-enum-told
+enum-told c = search needs
+
+put-end-requires : tie.Need-put-end-requires
+unfolding answerValues
+put-end-requires c κs =
+    let s = c .before .before .before .before .before .before in
+    (s .pre .0, (s .pre .1 .0, (s .pre .1 .1 .0, (s .pre .1 .1 .1 .0, (beside s (c .before .enum-told .given .1), s .pre .1 .1 .1 .1 .1)))))
+
+enum-told-2 : tie.Need-enum-told-2
+enum-told-2 c = search needs
+
+put-end-requires-2 : tie.Need-put-end-requires-2
+unfolding answerValues
+put-end-requires-2 c κs =
+    let s = c .before .before .before .before .before .before in
+    (s .pre .0, (s .pre .1 .0, (s .pre .1 .1 .0, (s .pre .1 .1 .1 .0, (beside s (c .before .enum-told2 .given .1), s .pre .1 .1 .1 .1 .1)))))
+
+enum-known-answer : tie.Need-enum-known-answer
+enum-known-answer c = search needs
+
+put-clash-requires : tie.Need-put-clash-requires
+unfolding answerValues
+put-clash-requires c κs = (beside (c .before .before .before .before .before .before .before) (c .before .before .answer .given .1), omega (arith, c .before .before .before .before .before .before .before .pre .1 .1 .1 .1 .1))
+
+enum-told-3 : tie.Need-enum-told-3
+enum-told-3 c = search needs
+
+slice-aggregate-put : tie.Need-slice-aggregate-put
+slice-aggregate-put c = search needs
+
+put-requires : tie.Need-put-requires
+put-requires c κs = search needs
+
+same-length : tie.Need-same-length
+same-length c = search needs
+
+returns : tie.Need-returns
+unfolding follows reportText lineEnd
+returns c = put-is (ap (follows (c .before .before .before .before .before .before .before .before .before)) (c .before .before .before .before .enum-told .given .1)) (c .before .before .put-end .ensures)
+
+same-length-2 : tie.Need-same-length-2
+same-length-2 c = search needs
+
+returns-2 : tie.Need-returns-2
+unfolding follows reportText lineEnd
+returns-2 c = put-is (ap (follows (c .before .before .before .before .before .before .before .before .before)) (c .before .before .before .before .enum-told2 .given .1)) (c .before .before .put-end2 .ensures)
+
+same-length-3 : tie.Need-same-length-3
+same-length-3 c = search needs
+
+returns-3 : tie.Need-returns-3
+unfolding follows reportText lineEnd
+returns-3 c = put-is (ap (follows (c .before .before .before .before .before .before .before .before .before .before)) (c .before .before .before .before .before .answer .given .1)) (c .before .before .put-clash .ensures)
+
+same-length-4 : tie.Need-same-length-4
+same-length-4 c = search needs
+
+returns-4 : tie.Need-returns-4
+unfolding follows reportText lineEnd
+returns-4 c = put-is (ap (follows (c .before .before .before .before .before .before .before .before .before .before)) (c .before .before .before .before .before .enum-told3 .given .1)) (c .before .before .put .ensures)
+
+pub put-report-spec : {M : Type 1} → statement M
+put-report-spec =
+    tie.close
+    (tie.spec
+    enum-told
+    put-end-requires
+    enum-told-2
+    put-end-requires-2
+    enum-known-answer
+    put-clash-requires
+    enum-told-3
+    slice-aggregate-put
+    put-requires
+    same-length
+    returns
+    same-length-2
+    returns-2
+    same-length-3
+    returns-3
+    same-length-4
+    returns-4)
