@@ -11,8 +11,8 @@ ghost use Rattle.field.specs.Ours.{fieldOf, products};
 ghost use Rattle.linear.specs.Marks.{bitsOf};
 ghost use Rattle.plans.specs.Tables.{padded, rowSums};
 
-// The sum of each symbol times its coefficient.
-pub fn row_sum(q: usize, table: &[u8; 256], check: &[u8], row: &[u8]) -> u8
+// The sum of each symbol times its coefficient, by products in field `q`.
+fn sum_in(q: usize, table: &[u8; 256], check: &[u8], row: &[u8]) -> u8
     requires { ⌜ now table ≡ products ⌝ }
     requires { ⌜ length (now check) ≡ length (now row) ⌝ }
     ensures { λ r. ⌜ r ≡ dot (fieldOf q) (now (check .entry)) (now (row .entry)) ⌝ }
@@ -24,6 +24,18 @@ pub fn row_sum(q: usize, table: &[u8; 256], check: &[u8], row: &[u8]) -> u8
         sum = sum ^ field::product(q, table, x, y);
     }
     sum
+}
+
+// The sum of each symbol times its coefficient. GF(2) has a call of its own, whose loop is compiled without the table.
+pub fn row_sum(q: usize, table: &[u8; 256], check: &[u8], row: &[u8]) -> u8
+    requires { ⌜ now table ≡ products ⌝ }
+    requires { ⌜ length (now check) ≡ length (now row) ⌝ }
+    ensures { λ r. ⌜ r ≡ dot (fieldOf q) (now (check .entry)) (now (row .entry)) ⌝ }
+{
+    if q == 2 {
+        return sum_in(2, table, check, row);
+    }
+    sum_in(q, table, check, row)
 }
 
 // The sums of the rows under one check, and zeros behind them. A row is as long as the check.

@@ -1,61 +1,23 @@
--- `sums::row_sum` meets its contract: the invariant is that the columns passed and those to come make the whole sum. Assumes nothing.
-use Prim.Native.Nat.{_-_}
-use mathlib.Core.Path.{_≡_, refl}
+-- `sums::row_sum` meets its contract. Assumes nothing.
+use mathlib.Core.Path.{sym, ap, _∙_}
 use borrow.Author.Needs.{needs}
-use lib.ListN.{length}
-use Rattle.field.specs.Field.{_⊕_}
+use Rattle.field.specs.Field.{dot}
 use Rattle.field.specs.Ours.{fieldOf}
-use Rattle.plans.proofs.Summing.{Summing, summing-starts, summing-turns, summing-ends}
 use Rattle.plans.proofs.sums.row_sum.Statement.{statement}
 use Rattle.plans.proofs.sums.row_sum.Tie as tie
 
-abbrev Inv-loop : tie.InvT-loop
-Inv-loop q table check row sum₀ c₀ c-end sum c = (c-end ≡ length check) × Summing (fieldOf q) check row c sum
+sum-in-requires : tie.Need-sum-in-requires
+sum-in-requires c κs = search needs
 
-abbrev μ-loop : tie.MeasureT-loop
-μ-loop q table check row sum₀ c₀ c-end sum c = c-end - c
+returns : tie.Need-returns
+returns c = let s = c .before .before .before .before in
+    c .sum-in .ensures ∙ ap (λ q. dot (fieldOf q) (s .args .check .now) (s .args .row .now)) (sym (c .before .if1 .taken))
 
-loop-holds : tie.Need-loop-holds Inv-loop μ-loop
-loop-holds c = (refl, summing-starts _ _ _)
+sum-in-requires-2 : tie.Need-sum-in-requires-2
+sum-in-requires-2 c κs = search needs
 
-shared-slice-read-x : tie.Need-shared-slice-read-x Inv-loop μ-loop
-shared-slice-read-x c = search needs
-
-shared-slice-read-y : tie.Need-shared-slice-read-y Inv-loop μ-loop
-shared-slice-read-y c = search needs
-
-product-requires : tie.Need-product-requires Inv-loop μ-loop
-product-requires c κs = search needs
-
-add-c : tie.Need-add-c Inv-loop μ-loop
-add-c c = search needs
-
-loop-less : tie.Need-loop-less Inv-loop μ-loop
-loop-less c = search needs
-
-loop-again : tie.Need-loop-again Inv-loop μ-loop
-unfolding _⊕_
-loop-again c =
-    let start = c .before .before .before .before .before .before .before in
-    let head = c .before .before .before .before .loop in
-    let args = start .args in
-    let loop = head in
-    (refl, summing-turns (fieldOf (args .q)) (args .check .now) (args .row .now) (search needs) (search needs) (c .product .ensures) (loop .inv .1))
-
-returns : tie.Need-returns Inv-loop μ-loop
-returns c = summing-ends _ _ _ (search needs) (c .before .loop .inv .1)
+returns-2 : tie.Need-returns-2
+returns-2 c = search needs
 
 pub row-sum-spec : {M : Type 1} → statement M
-row-sum-spec =
-    tie.close
-    (tie.spec
-    Inv-loop
-    μ-loop
-    loop-holds
-    shared-slice-read-x
-    shared-slice-read-y
-    product-requires
-    add-c
-    loop-less
-    loop-again
-    returns)
+row-sum-spec = tie.close (tie.spec sum-in-requires returns sum-in-requires-2 returns-2)
