@@ -45,22 +45,43 @@ fn list_places(marks: u32, n: usize, places: &mut [usize]) -> usize
     k
 }
 
-// Copies v to `shown`, with 0 under the marks.
-fn hide(marks: u32, v: &[u8], shown: &mut [u8])
+// Copies v to the head of `shown`.
+fn copy(v: &[u8], shown: &mut [u8])
     requires { ⌜ length (now v) ≤ length (now shown) ⌝ }
-    ensures { λ _. ⌜ ((c : ℕ) → c < length (now (v .entry)) → vec (now (shown .exit)) c ≡ hidden marks (now (v .entry)) c) ⌝ }
+    ensures { λ _. ⌜ ((c : ℕ) → c < length (now (v .entry)) → vec (now (shown .exit)) c ≡ vec (now (v .entry)) c) ⌝ }
 {
-    let mut rest = marks;
     let mut c = 0;
     while c < v.len() {
-        if rest % 2 == 1 {
-            shown[c] = 0;
-        } else {
-            shown[c] = v[c];
-        }
-        rest = rest / 2;
+        shown[c] = v[c];
         c += 1;
     }
+}
+
+// Writes x to the first k places.
+fn scatter(v: &mut [u8], places: &[usize], k: usize, x: &[u8])
+    requires { ⌜ (k ≤ length (now places)) × (k ≤ length (now x)) × ((t : ℕ) → t < k → vec (now places) t < length (now v)) ⌝ }
+    ensures { λ _. ⌜ now (v .exit) ≡ scattered (now (v .entry)) (vec (now (places .entry))) (vec (now (x .entry))) k ⌝ }
+{
+    let mut t = 0;
+    while t < k {
+        let p = places[t];
+        v[p] = x[t];
+        t += 1;
+    }
+}
+
+// Lists the marked columns and gives how many there are; copies v to `shown`, with 0 under the marks.
+fn show(marks: u32, v: &[u8], places: &mut [usize], shown: &mut [u8]) -> usize
+    requires { ⌜ (length (now v) ≤ mostColumns) × (marks < 2 ^ length (now v)) ⌝ }
+    requires { ⌜ (length (now places) ≡ mostColumns) × (length (now shown) ≡ mostColumns) ⌝ }
+    ensures { λ k. ⌜ (k ≤ length (now (v .entry))) × Places marks k (vec (now (places .exit))) ⌝ }
+    ensures { λ _. ⌜ ((c : ℕ) → c < length (now (v .entry)) → vec (now (shown .exit)) c ≡ hidden marks (now (v .entry)) c) ⌝ }
+{
+    let none: [u8; COLUMNS] = [0; COLUMNS];
+    let k = list_places(marks, v.len(), places);
+    copy(v, shown);
+    scatter(shown, &places[..], k, &none[..]);
+    k
 }
 
 // The sum of check i over v: row i of the coefficients times v.
@@ -145,19 +166,6 @@ fn has_sums(q: usize, table: &[u8; 256], checks: &[u8], target: &[u8], v: &[u8])
     true
 }
 
-// Writes x to the first k places.
-fn scatter(v: &mut [u8], places: &[usize], k: usize, x: &[u8])
-    requires { ⌜ (k ≤ length (now places)) × (k ≤ length (now x)) × ((t : ℕ) → t < k → vec (now places) t < length (now v)) ⌝ }
-    ensures { λ _. ⌜ now (v .exit) ≡ scattered (now (v .entry)) (vec (now (places .entry))) (vec (now (x .entry))) k ⌝ }
-{
-    let mut t = 0;
-    while t < k {
-        let p = places[t];
-        v[p] = x[t];
-        t += 1;
-    }
-}
-
 // Gathers the system of the marked columns, lists these, and gives how many there are.
 fn gather_marked(
     q: usize,
@@ -179,8 +187,7 @@ fn gather_marked(
 {
     let n = v.len();
     let mut shown: [u8; COLUMNS] = [0; COLUMNS];
-    let k = list_places(marks, n, places);
-    hide(marks, v, &mut shown[..]);
+    let k = show(marks, v, places, &mut shown[..]);
     gather(q, table, checks, target, &shown[..], n, &places[..], k, a);
     k
 }
