@@ -31,7 +31,7 @@ gather-requires c κs = let s = c .before .before .before .before .before .befor
           (
             omega (arith, shown .kept .1 .1 .1 .0, fit .narrow),
             omega (arith, few, fit .narrow, room .0, shown .kept .1 .1 .0),
-            λ t l. bit-bound _ (s .args .marks) _ (fit .within) (shown .ensures .0 .1 .marked t l),
+            λ t l. bit-bound _ (s .args .marks) _ (fit .within) (shown .ensures .0 .2 .marked t l),
           ),
           (fit .coefficients, fit .sums, room .2),
         ),
@@ -47,7 +47,7 @@ same-length-2 c = search needs
 returns : tie.Need-returns
 returns c = let shown = c .before .before .before .before .before .before .before .before .before .show .ensures in
     let gathered = c .before .before .gather .ensures in
-    (shown .0, (gathered-same _ _ _ _ _ _ _ _ _ _ (shown .1) (gathered .0), gathered .1))
+    ((shown .0 .0, shown .0 .2), (gathered-same _ _ _ _ _ _ _ _ _ _ (shown .1) (gathered .0), gathered .1))
 
 pub gather-marked-spec : {M : Type 1} → statement M
 gather-marked-spec =

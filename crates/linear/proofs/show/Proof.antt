@@ -24,7 +24,7 @@ scatter-requires c κs = let s = c .before .before .before .before .before .befo
     let size = c .before .before .before .before .before .copy .kept .1 .0 in (
       search needs,
       search needs,
-      λ t l. omega (arith, s .pre, bit-bound _ (s .args .marks) _ (s .pre .0 .1) (listed .ensures .1 .marked t (omega arith)), size),
+      λ t l. omega (arith, s .pre, bit-bound _ (s .args .marks) _ (s .pre .0 .1) (listed .ensures .2 .marked t (omega arith)), size),
     )
 
 same-length : tie.Need-same-length
@@ -38,8 +38,8 @@ returns c = let s = c .before .before .before .before .before .before .before .b
     let listed = c .before .before .before .before .before .before .before .before .before .before .before .before .list-places in
     let copied = c .before .before .before .before .before .before .before .before .copy in (
       listed .ensures,
-      λ x l. ap (λ y. vec y x) (c .before .before .scatter .ensures) ∙ scattered-hides (s .args .marks) _ _ _ _ _ (listed .ensures .1)
-          (λ t b. omega (arith, s .pre, bit-bound _ (s .args .marks) _ (s .pre .0 .1) (listed .ensures .1 .marked t b), copied .kept .1 .0))
+      λ x l. ap (λ y. vec y x) (c .before .before .scatter .ensures) ∙ scattered-hides (s .args .marks) _ _ _ _ _ (listed .ensures .2)
+          (λ t b. omega (arith, s .pre, bit-bound _ (s .args .marks) _ (s .pre .0 .1) (listed .ensures .2 .marked t b), copied .kept .1 .0))
           (λ t b. getD-replicate 32 t 0 0 (omega (arith, s .pre, listed .ensures .0))) x (copied .ensures x l),
     )
 
