@@ -89,7 +89,7 @@ packing-start rows m k = record { upto = omega arith; size = refl; form = form-s
 module _ (rows₀ rows later : List ℕ) (m k c i f own : ℕ) (P : Packing rows₀ rows m k c) (found : Found (wordRows rows) m c c i)
     (ck : c < k) (im : i < m) (fits : m ≤ length rows₀) (ef : f ≡ 1 - bitAt (vec rows c) c) (eo : own ≡ vec rows c ⊕ vec rows i * f)
     (kept : length later ≡ length rows)
-    (added : (x : ℕ) → x < length rows₀ → vec later x ≡ vec rows x ⊕ own * bitAt (vec rows x) c) where
+    (added : (x : ℕ) → x < m → vec later x ≡ vec rows x ⊕ own * bitAt (vec rows x) c) where
   -- row c as `own`, before the others are cleared
   mid : List ℕ
   mid = set rows c own
@@ -121,7 +121,7 @@ module _ (rows₀ rows later : List ℕ) (m k c i f own : ℕ) (P : Packing rows
   rows-cleared = record {
     kept = λ j _. ap (λ w. bitAt w j) (getD-set-same later c own 0 (omega (arith, kept, c-fits)) ∙ sym (getD-set-same rows c own 0 c-fits));
     changed = λ x l ne j _.
-        ap (λ w. bitAt w j) (getD-set-other later c x own 0 ne ∙ added x (omega (arith, P .size)))
+        ap (λ w. bitAt w j) (getD-set-other later c x own 0 ne ∙ added x l)
         ∙ bit-added (vec rows x) own (bitAt (vec rows x) c) j (bit _)
         ∙ ap₂ (λ w y. bitAt w j ⊕ mul (fieldOf 2) (bitAt w c) (bitAt y j)) (sym (getD-set-other rows c x own 0 ne)) (sym (getD-set-same rows c own 0 c-fits));
   }

@@ -7,9 +7,6 @@ ghost use Rattle.field.specs.Ours.{fieldOf};
 ghost use Rattle.linear.specs.System.{vec, Same, Found, Form};
 ghost use Rattle.linear.specs.Marks.{mostChecks, bitAt, wordRows};
 
-// How many rows there is room for.
-const ROWS: usize = 16;
-
 // The first row from c on whose bit c is 1, or m.
 pub fn find_row(rows: &[u32], m: usize, c: usize) -> usize
     requires { ⌜ (m ≤ length (now rows)) × (m ≤ mostChecks) × (c ≤ m) ⌝ }
@@ -25,13 +22,13 @@ pub fn find_row(rows: &[u32], m: usize, c: usize) -> usize
     m
 }
 
-// Adds `own` to every row whose bit c is 1.
-fn add_to_rows(rows: &mut [u32], own: u32, c: usize)
-    requires { ⌜ (length (now rows) ≡ mostChecks) × (c ≤ mostChecks) ⌝ }
-    ensures { λ _. ⌜ ((x : ℕ) → x < mostChecks → vec (now (rows .exit)) x ≡ vec (now (rows .entry)) x ⊕ own * bitAt (vec (now (rows .entry)) x) c) ⌝ }
+// Adds `own` to each of the m rows whose bit c is 1.
+fn add_to_rows(rows: &mut [u32], m: usize, own: u32, c: usize)
+    requires { ⌜ (m ≤ length (now rows)) × (c ≤ mostChecks) ⌝ }
+    ensures { λ _. ⌜ ((x : ℕ) → x < m → vec (now (rows .exit)) x ≡ vec (now (rows .entry)) x ⊕ own * bitAt (vec (now (rows .entry)) x) c) ⌝ }
 {
     let mut x = 0;
-    while x < ROWS {
+    while x < m {
         rows[x] = rows[x] ^ own * ((rows[x] >> c) % 2);
         x += 1;
     }
@@ -39,7 +36,7 @@ fn add_to_rows(rows: &mut [u32], own: u32, c: usize)
 
 // Makes column after column the unit vector of its row, up to the first that depends on those before it, and gives how many it made.
 pub fn reduce(rows: &mut [u32], m: usize, k: usize) -> usize
-    requires { ⌜ (length (now rows) ≡ mostChecks) × (m ≤ mostChecks) × (k ≤ m) ⌝ }
+    requires { ⌜ (m ≤ length (now rows)) × (m ≤ mostChecks) × (k ≤ m) ⌝ }
     ensures { λ c. ⌜ (c ≤ k) × Form (wordRows (now (rows .exit))) m (λ t. t) c c ⌝ }
     ensures { λ c. ⌜ (c < k → (x : ℕ) → c ≤ x → x < m → wordRows (now (rows .exit)) x c ≡ 0) ⌝ }
     ensures { λ _. ⌜ Same (fieldOf 2) (wordRows (now (rows .entry))) (wordRows (now (rows .exit))) m (k + 1) ⌝ }
@@ -52,7 +49,7 @@ pub fn reduce(rows: &mut [u32], m: usize, k: usize) -> usize
         }
         let f = 1 - (rows[c] >> c) % 2;
         let own = rows[c] ^ rows[i] * f;
-        add_to_rows(rows, own, c);
+        add_to_rows(rows, m, own, c);
         rows[c] = own;
         c += 1;
     }

@@ -10,10 +10,10 @@ use Rattle.linear.proofs.binary.add_to_rows.Statement.{statement}
 use Rattle.linear.proofs.binary.add_to_rows.Tie as tie
 
 abbrev Inv-loop : tie.InvT-loop
-Inv-loop rows₀ own c x₀ rows x = (x ≤ 16) × AddingWords rows₀ rows own c x
+Inv-loop rows₀ m own c x₀ rows x = (x ≤ m) × AddingWords rows₀ rows own c x
 
 abbrev μ-loop : tie.MeasureT-loop
-μ-loop rows₀ own c x₀ rows x = 16 - x
+μ-loop rows₀ m own c x₀ rows x = m - x
 
 loop-holds : tie.Need-loop-holds Inv-loop μ-loop
 loop-holds c = (omega arith, adding-words-start _ _ _)

@@ -82,7 +82,7 @@ loop-again c = let s = c .before .before .before .before .before .before .before
     let found = c .before .before .before .before .before .before .before .before .find-row in
     let added = c .before .before .add-to-rows in
     packing-turn _ _ (added .last .0) _ _ _ (found .result) _ _ (c .before .before .before .before .before .before .before .before .before .before .before .loop .inv) (found .ensures) (omega arith) (omega arith) (omega arith) refl refl
-    (added .kept .0) (λ x l. added .ensures x (omega arith))
+    (added .kept .0) (added .ensures)
 
 same-length-2 : tie.Need-same-length-2 Inv-loop μ-loop
 same-length-2 c = search needs
