@@ -19,7 +19,7 @@ use Rattle.field.proofs.Laws.{IsField, mul-zero}
 use Rattle.field.proofs.Fields.{our-field}
 use Rattle.linear.specs.Lists.{same, zeros, vanish}
 use Rattle.linear.specs.Fill.{sumsOf, tied, none, one, fill}
-use Rattle.linear.specs.System.{vec, Matrix, ent, inner, Elements, Ker, Solves, Consistency, Dependence, Solved}
+use Rattle.linear.specs.System.{vec, Matrix, ent, inner, Elements, Ker, Solves, Consistency, Dependence}
 use Rattle.linear.specs.Marks.{Fit, rowsOf, bitAt, bitsOf, fillOf, answerOf, vectorOf, Places, hidden, Gathered, scattered}
 use Rattle.linear.specs.declared.Outcome.{Outcome}
 use Rattle.linear.specs.declared.Outcome.the-variants.{Tied, None, One}
@@ -188,19 +188,19 @@ pub record Outcomes (q : ℕ) (checks target v : List ℕ) (marks : ℕ) (depend
 pub outcomes : (q : ℕ) (checks target v : List ℕ) (marks k : ℕ) (places : List ℕ) (M : Matrix) (dependent consistent : Bool) (x z : ℕ → ℕ)
     → Places marks k (vec places) → marks < 2 ^ length v
     → Gathered (fieldOf q) checks target (hidden marks v) (length v) k (vec places) M (length target)
-    → Solved (fieldOf q) M (length target) k dependent consistent x z
+    → Dependence (fieldOf q) M (length target) k dependent z → (dependent ≡ false → Consistency (fieldOf q) M (length target) k consistent x)
     → Outcomes q checks target v marks dependent consistent (scattered v (vec places) x k)
 unfolding fillOf answerOf vectorOf
-outcomes q checks target v marks k places M dependent consistent x z P fit G S = record {
+outcomes q checks target v marks k places M dependent consistent x z P fit G D C = record {
   tied = λ d.
-      let e = answer-tied _ (our-field q) _ _ checks target v marks k _ _ M P fit G hole seen refl refl z (rw d at (S .dependence)) in (rw e, rw e);
+      let e = answer-tied _ (our-field q) _ _ checks target v marks k _ _ M P fit G hole seen refl refl z (rw d at D) in (rw e, rw e);
   none = λ d c.
       let e = answer-none _ (our-field q) _ _ checks target v marks k _ _ M P fit G hole seen refl refl x z
-      (rw d at (S .dependence)) (rw c at (S .consistency)) in
+      (rw d at D) (rw c at (C d)) in
       (rw e, rw e);
   one = λ d c.
       let e = answer-one _ (our-field q) _ _ checks target v marks k _ _ M P fit G hole seen refl refl x z
-      (rw d at (S .dependence)) (rw c at (S .consistency)) in
+      (rw d at D) (rw c at (C d)) in
       (rw e, rw e);
 }
   where

@@ -1,50 +1,38 @@
--- The steps around the solver: hiding what is marked, gathering the marked columns, writing them back. Assumes nothing.
-use Prim.Native.Nat.{ℕ, zero, suc, _+_, _*_, _/_, _^_, _≤_, _<_}
+-- The steps around the solver: showing what is unmarked, gathering the marked columns, writing them back. Assumes nothing.
+use Prim.Native.Nat.{ℕ, zero, suc, _+_, _*_, _≤_, _<_}
 use mathlib.Core.Path.{_≡_, refl, sym, ap, _∙_}
 use mathlib.Core.Logic.{_≢_, inl, inr, ⊎-elim}
 use mathlib.Core.List.{List}
-use native.Mathlib.Nat.{div-one}
 use native.Mathlib.Numerals.{add-one}
 use native.Mathlib.Decide.{ℕ-discrete}
 use native.Mathlib.Omega.{arith}
 use borrow.Author.Count.{below-more}
 use borrow.Author.Tests.{eq-eqb, ne-eqb}
-use lib.Pow.{shr-shr}
 use lib.ListN.{length, set, length-set}
 use lib.Seq.{getD-set-same, getD-set-other}
 use Rattle.field.specs.Lists.{if_then_else_}
 use Rattle.field.specs.Field.{Field, _⊕_, size, mul}
 use Rattle.linear.specs.System.{vec, Matrix, ent, inner}
-use Rattle.linear.specs.Marks.{bitAt, hidden, Copied, Gathered, scattered}
+use Rattle.linear.specs.Marks.{bitAt, Places, hidden, Copied, Gathered, scattered}
 use Rattle.linear.proofs.Rows.{row-fits}
 use Rattle.linear.proofs.Inner.{inner-same}
 
--- ---- `hide`, at column c
+-- ---- `copy`, at column c
 
-pub hidden-marked : (marks : ℕ) (v : List ℕ) (c : ℕ) → bitAt marks c ≡ 1 → hidden marks v c ≡ 0
-unfolding hidden if_then_else_
-hidden-marked marks v c e = ap (λ b. if b then 0 else vec v c) (eq-eqb _ _ e)
-
-pub hidden-unmarked : (marks : ℕ) (v : List ℕ) (c : ℕ) → bitAt marks c ≢ 1 → hidden marks v c ≡ vec v c
-unfolding hidden if_then_else_
-hidden-unmarked marks v c ne = ap (λ b. if b then 0 else vec v c) (ne-eqb _ _ ne)
-
-pub record Hiding (marks rest : ℕ) (v shown₀ shown : List ℕ) (c : ℕ) : Type 0 where
+pub record Copying (v shown₀ shown : List ℕ) (c : ℕ) : Type 0 where
   pub upto : c ≤ length v
   pub size : length shown ≡ length shown₀
-  pub shifted : rest ≡ marks / 2 ^ c
-  pub done : (x : ℕ) → x < c → vec shown x ≡ hidden marks v x
+  pub done : (x : ℕ) → x < c → vec shown x ≡ vec v x
 
-pub hiding-start : (marks : ℕ) (v shown : List ℕ) → Hiding marks marks v shown shown 0
-hiding-start marks v shown = record { upto = omega arith; size = refl; shifted = sym (div-one marks); done = λ x l. absurd (omega arith) }
+pub copying-start : (v shown : List ℕ) → Copying v shown shown 0
+copying-start v shown = record { upto = omega arith; size = refl; done = λ x l. absurd (omega arith) }
 
-pub hiding-turn : (marks rest : ℕ) (v shown₀ shown : List ℕ) (c y : ℕ) → Hiding marks rest v shown₀ shown c → c < length v
-    → length v ≤ length shown₀ → y ≡ hidden marks v c → Hiding marks (rest / 2) v shown₀ (set shown c y) (c + 1)
-hiding-turn marks rest v shown₀ shown c y H l fit e = record {
+pub copying-turn : (v shown₀ shown : List ℕ) (c : ℕ) → Copying v shown₀ shown c → c < length v → length v ≤ length shown₀
+    → Copying v shown₀ (set shown c (vec v c)) (c + 1)
+copying-turn v shown₀ shown c C l fit = record {
   upto = omega arith;
-  size = simp length-set (H .size);
-  shifted = ap (λ x. x / 2) (H .shifted) ∙ shr-shr marks c 1;
-  done = below-more _ _ (λ x b. getD-set-other shown c x y 0 (omega arith) ∙ H .done x b) (getD-set-same shown c y 0 (omega (arith, H .size)) ∙ e);
+  size = simp length-set (C .size);
+  done = below-more _ _ (λ x b. getD-set-other shown c x _ 0 (omega arith) ∙ C .done x b) (getD-set-same shown c _ 0 (omega (arith, C .size)));
 }
 
 -- ---- `gather_row`, at place t
@@ -115,3 +103,22 @@ unfolding scattered
 scattered-off v at x zero c off = refl
 scattered-off v at x (suc k) c off =
     getD-set-other (scattered v at x k) (at k) c (x k) 0 (λ e. off k (omega arith) (sym e)) ∙ scattered-off v at x k c (λ t b. off t (omega arith))
+
+-- ---- `show`: zeros at the marked places hide what is marked
+
+pub hidden-marked : (marks : ℕ) (v : List ℕ) (c : ℕ) → bitAt marks c ≡ 1 → hidden marks v c ≡ 0
+unfolding hidden if_then_else_
+hidden-marked marks v c e = ap (λ b. if b then 0 else vec v c) (eq-eqb _ _ e)
+
+pub hidden-unmarked : (marks : ℕ) (v : List ℕ) (c : ℕ) → bitAt marks c ≢ 1 → hidden marks v c ≡ vec v c
+unfolding hidden if_then_else_
+hidden-unmarked marks v c ne = ap (λ b. if b then 0 else vec v c) (ne-eqb _ _ ne)
+
+pub scattered-hides : (marks k : ℕ) (v copy : List ℕ) (at x : ℕ → ℕ) → Places marks k at → ((t : ℕ) → t < k → at t < length copy)
+    → ((t : ℕ) → t < k → x t ≡ 0) → (c : ℕ) → vec copy c ≡ vec v c → vec (scattered copy at x k) c ≡ hidden marks v c
+scattered-hides marks k v copy at x P within zero-x c e = elim (ℕ-discrete (bitAt marks c) 1) [
+  | yes g ↦
+      let r = P .every c g in
+      rw (← r .2) (scattered-at copy at x k within (P .apart) (r .0) (r .1) ∙ zero-x (r .0) (r .1) ∙ sym (hidden-marked marks v (at (r .0)) (P .marked (r .0) (r .1))))
+  | no ne ↦ scattered-off copy at x k c (λ t l g. ne (ap (bitAt marks) (sym g) ∙ P .marked t l)) ∙ e ∙ sym (hidden-unmarked marks v c ne)
+]

@@ -12,4 +12,5 @@ pub mod Words
 pub mod Columns
 pub mod Marked
 pub mod Wide
+pub mod Packed
 pub mod Answers

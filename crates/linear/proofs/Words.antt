@@ -18,10 +18,10 @@ use Rattle.linear.proofs.Inner.{put, put-same, put-other}
 bit-shifted : (w c d : ℕ) → bitAt (w / 2 ^ c) d ≡ bitAt w (c + d)
 bit-shifted w c d = ap (λ x. x % 2) (shr-shr w c d)
 
-bit-half : (w d : ℕ) → bitAt (w / 2) d ≡ bitAt w (suc d)
+pub bit-half : (w d : ℕ) → bitAt (w / 2) d ≡ bitAt w (suc d)
 bit-half w d = bit-shifted w 1 d ∙ ap (bitAt w) (one-add d)
 
-bit-zero : (w : ℕ) → bitAt w 0 ≡ w % 2
+pub bit-zero : (w : ℕ) → bitAt w 0 ≡ w % 2
 bit-zero w = ap (λ x. x % 2) (div-one w)
 
 -- a set bit stands below any power of two that the word is below

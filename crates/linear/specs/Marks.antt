@@ -88,6 +88,10 @@ pub record Gathered (F : Field) (checks target : List ℕ) (b : ℕ → ℕ) (n 
   pub coefficient : (i : ℕ) → i < m → (t : ℕ) → t < k → M i t ≡ ent checks n i (at t)
   pub remainder : (i : ℕ) → i < m → M i k ≡ vec target i ⊕ inner F (ent checks n i) b n
 
+-- words as rows of bits: bit j of a word is the entry in column j
+abbrev pub wordRows : List ℕ → Matrix
+wordRows l i j = bitAt (vec l i) j
+
 -- x written to the first k places of `at`
 unfoldable pub scattered : List ℕ → (ℕ → ℕ) → (ℕ → ℕ) → ℕ → List ℕ
 scattered v at x zero = v

@@ -1,15 +1,18 @@
 // Systems of equations over our fields, and filling the marked places of a vector.
+pub mod binary;
 pub mod system;
 
 ghost use mathlib.Core.Path.{_≡_};
 ghost use Prim.Native.Nat.{ℕ, _+_, _*_, _^_, _<_, _≤_};
 ghost use lib.ListN.{length};
+ghost use lib.Count.{ones};
+ghost use Rattle.field.specs.Field.{size};
 ghost use Rattle.field.specs.Ours.{fieldOf, products};
 ghost use Rattle.linear.specs.Lists.{same};
 ghost use Rattle.linear.specs.Fill.{sumsOf};
 ghost use Rattle.linear.specs.System.{vec, ent, inner, Elements};
 ghost use Rattle.linear.specs.Marks.{Fit, rowsOf, fillOf, answerOf, vectorOf};
-ghost use Rattle.linear.specs.Marks.{mostColumns, room, Places, hidden, Copied, Gathered, scattered};
+ghost use Rattle.linear.specs.Marks.{mostChecks, mostColumns, room, bitAt, wordRows, Places, hidden, Copied, Gathered, scattered};
 
 // How many checks and columns `fill` takes at most, and the room that its system takes.
 pub const CHECKS: usize = 16;
@@ -28,7 +31,7 @@ pub enum Outcome {
 // Lists the marked columns, ascending, and gives how many there are.
 fn list_places(marks: u32, n: usize, places: &mut [usize]) -> usize
     requires { ⌜ (marks < 2 ^ n) × (n ≤ length (now places)) ⌝ }
-    ensures { λ k. ⌜ (k ≤ n) × Places marks k (vec (now (places .exit))) ⌝ }
+    ensures { λ k. ⌜ (k ≤ n) × (k ≡ ones marks) × Places marks k (vec (now (places .exit))) ⌝ }
 {
     let k = u32::count_ones(marks) as usize;
     let mut rest = marks;
@@ -45,22 +48,43 @@ fn list_places(marks: u32, n: usize, places: &mut [usize]) -> usize
     k
 }
 
-// Copies v to `shown`, with 0 under the marks.
-fn hide(marks: u32, v: &[u8], shown: &mut [u8])
+// Copies v to the head of `shown`.
+fn copy(v: &[u8], shown: &mut [u8])
     requires { ⌜ length (now v) ≤ length (now shown) ⌝ }
-    ensures { λ _. ⌜ ((c : ℕ) → c < length (now (v .entry)) → vec (now (shown .exit)) c ≡ hidden marks (now (v .entry)) c) ⌝ }
+    ensures { λ _. ⌜ ((c : ℕ) → c < length (now (v .entry)) → vec (now (shown .exit)) c ≡ vec (now (v .entry)) c) ⌝ }
 {
-    let mut rest = marks;
     let mut c = 0;
     while c < v.len() {
-        if rest % 2 == 1 {
-            shown[c] = 0;
-        } else {
-            shown[c] = v[c];
-        }
-        rest = rest / 2;
+        shown[c] = v[c];
         c += 1;
     }
+}
+
+// Writes x to the first k places.
+fn scatter(v: &mut [u8], places: &[usize], k: usize, x: &[u8])
+    requires { ⌜ (k ≤ length (now places)) × (k ≤ length (now x)) × ((t : ℕ) → t < k → vec (now places) t < length (now v)) ⌝ }
+    ensures { λ _. ⌜ now (v .exit) ≡ scattered (now (v .entry)) (vec (now (places .entry))) (vec (now (x .entry))) k ⌝ }
+{
+    let mut t = 0;
+    while t < k {
+        let p = places[t];
+        v[p] = x[t];
+        t += 1;
+    }
+}
+
+// Lists the marked columns and gives how many there are; copies v to `shown`, with 0 under the marks.
+fn show(marks: u32, v: &[u8], places: &mut [usize], shown: &mut [u8]) -> usize
+    requires { ⌜ (length (now v) ≤ mostColumns) × (marks < 2 ^ length (now v)) ⌝ }
+    requires { ⌜ (length (now places) ≡ mostColumns) × (length (now shown) ≡ mostColumns) ⌝ }
+    ensures { λ k. ⌜ (k ≤ length (now (v .entry))) × (k ≡ ones marks) × Places marks k (vec (now (places .exit))) ⌝ }
+    ensures { λ _. ⌜ ((c : ℕ) → c < length (now (v .entry)) → vec (now (shown .exit)) c ≡ hidden marks (now (v .entry)) c) ⌝ }
+{
+    let none: [u8; COLUMNS] = [0; COLUMNS];
+    let k = list_places(marks, v.len(), places);
+    copy(v, shown);
+    scatter(shown, &places[..], k, &none[..]);
+    k
 }
 
 // The sum of check i over v: row i of the coefficients times v.
@@ -145,19 +169,6 @@ fn has_sums(q: usize, table: &[u8; 256], checks: &[u8], target: &[u8], v: &[u8])
     true
 }
 
-// Writes x to the first k places.
-fn scatter(v: &mut [u8], places: &[usize], k: usize, x: &[u8])
-    requires { ⌜ (k ≤ length (now places)) × (k ≤ length (now x)) × ((t : ℕ) → t < k → vec (now places) t < length (now v)) ⌝ }
-    ensures { λ _. ⌜ now (v .exit) ≡ scattered (now (v .entry)) (vec (now (places .entry))) (vec (now (x .entry))) k ⌝ }
-{
-    let mut t = 0;
-    while t < k {
-        let p = places[t];
-        v[p] = x[t];
-        t += 1;
-    }
-}
-
 // Gathers the system of the marked columns, lists these, and gives how many there are.
 fn gather_marked(
     q: usize,
@@ -179,8 +190,7 @@ fn gather_marked(
 {
     let n = v.len();
     let mut shown: [u8; COLUMNS] = [0; COLUMNS];
-    let k = list_places(marks, n, places);
-    hide(marks, v, &mut shown[..]);
+    let k = show(marks, v, places, &mut shown[..]);
     gather(q, table, checks, target, &shown[..], n, &places[..], k, a);
     k
 }
@@ -234,6 +244,96 @@ fn fill_marked(
     Outcome::One
 }
 
+// The coefficients of check i at the k places as the low bits of a word, and `last` above them.
+fn gather_word(checks: &[u8], n: usize, i: usize, places: &[usize], k: usize, last: u8) -> u32
+    requires { ⌜ (i * n + n ≤ length (now checks)) × (k ≤ length (now places)) × (k ≤ mostChecks) ⌝ }
+    requires { ⌜ ((t : ℕ) → t < k → vec (now places) t < n) ⌝ }
+    requires { ⌜ Elements (fieldOf 2) (vec (now checks)) × (last < size (fieldOf 2)) ⌝ }
+    ensures { λ w. ⌜ ((t : ℕ) → t < k → bitAt w t ≡ ent (now (checks .entry)) n i (vec (now (places .entry)) t)) × (bitAt w k ≡ last) ⌝ }
+{
+    let r = i * n;
+    let mut word = last as u32;
+    let mut t = k;
+    while 0 < t {
+        t -= 1;
+        let p = places[t];
+        word = word * 2 + checks[r + p] as u32;
+    }
+    word
+}
+
+// Gathers the system of the k places over GF(2), a row to a word.
+fn gather_words(
+    table: &[u8; 256],
+    checks: &[u8],
+    target: &[u8],
+    shown: &[u8],
+    n: usize,
+    places: &[usize],
+    k: usize,
+    rows: &mut [u32],
+)
+    requires { ⌜ now table ≡ products ⌝ }
+    requires { ⌜ (length (now target) * n ≤ length (now checks)) × (length (now target) ≤ length (now rows)) × (k ≤ mostChecks) ⌝ }
+    requires { ⌜ (n ≤ length (now shown)) × (k ≤ length (now places)) × ((t : ℕ) → t < k → vec (now places) t < n) ⌝ }
+    requires { ⌜ Elements (fieldOf 2) (vec (now checks)) × Elements (fieldOf 2) (vec (now target)) ⌝ }
+    ensures { λ _. ⌜ Gathered (fieldOf 2) (now (checks .entry)) (now (target .entry)) (vec (now (shown .entry))) n k (vec (now (places .entry)))
+        (wordRows (now (rows .exit))) (length (now (target .entry))) ⌝ }
+{
+    let mut i = 0;
+    while i < target.len() {
+        let sum = row_sum(2, table, checks, i, shown, n);
+        let word = gather_word(checks, n, i, places, k, target[i] ^ sum);
+        rows[i] = word;
+        i += 1;
+    }
+}
+
+// Writes bit k of the first k rows to the k places.
+fn scatter_bits(v: &mut [u8], places: &[usize], k: usize, rows: &[u32])
+    requires { ⌜ (k ≤ length (now places)) × (k ≤ length (now rows)) × (k ≤ mostChecks) × ((t : ℕ) → t < k → vec (now places) t < length (now v)) ⌝ }
+    ensures { λ _. ⌜ now (v .exit) ≡ scattered (now (v .entry)) (vec (now (places .entry))) (λ t. wordRows (now (rows .entry)) t k) k ⌝ }
+{
+    let mut t = 0;
+    while t < k {
+        let p = places[t];
+        v[p] = ((rows[t] >> k) % 2) as u8;
+        t += 1;
+    }
+}
+
+// Fills the marked places over GF(2), by the system of the marked columns with a row to a word.
+fn fill_binary(table: &[u8; 256], checks: &[u8], target: &[u8], v: &mut [u8], marks: u32) -> Outcome
+    requires { ⌜ now table ≡ products ⌝ }
+    requires { ⌜ Fit 2 (now checks) (now target) (now v) marks × (ones marks ≤ length (now target)) ⌝ }
+    ensures { λ r. ⌜ r ≡ answerOf (fillOf 2 (now (checks .entry)) (now (target .entry)) (now (v .entry)) marks) ⌝ }
+    ensures { λ _. ⌜ now (v .exit) ≡ vectorOf (fillOf 2 (now (checks .entry)) (now (target .entry)) (now (v .entry)) marks) (now (v .entry)) ⌝ }
+{
+    let m = target.len();
+    let mut places: [usize; COLUMNS] = [0; COLUMNS];
+    let mut shown: [u8; COLUMNS] = [0; COLUMNS];
+    let mut rows: [u32; CHECKS] = [0; CHECKS];
+    let k = show(marks, &v[..], &mut places[..], &mut shown[..]);
+    gather_words(
+        table,
+        checks,
+        target,
+        &shown[..],
+        v.len(),
+        &places[..],
+        k,
+        &mut rows[..],
+    );
+    if binary::reduce(&mut rows[..], m, k) < k {
+        return Outcome::Tied;
+    }
+    if binary::find_row(&rows[..], m, k) < m {
+        return Outcome::None;
+    }
+    scatter_bits(v, &places[..], k, &rows[..]);
+    Outcome::One
+}
+
 // Fills the marked places of v, in field `q`, so that its sums are the target: for each sum `checks` has a row of coefficients, as
 // many as v has symbols, and bit c of `marks` marks column c. v changes only where the answer is `One`, and no answer depends on
 // what stands under a mark. More columns than checks are dependent. Where nothing is marked the sums are compared; else the system of
@@ -255,6 +355,9 @@ pub fn fill(
         return Outcome::Tied;
     }
     if marks != 0 {
+        if q == 2 {
+            return fill_binary(table, checks, target, v, marks);
+        }
         return fill_marked(q, table, checks, target, v, marks);
     }
     if has_sums(q, table, checks, target, &v[..]) {

@@ -6,6 +6,7 @@ ghost use mathlib.Core.Path.{_≡_};
 ghost use mathlib.Core.Logic.{_≢_};
 ghost use Prim.Native.Nat.{ℕ, _+_, _*_, _<_, _≤_};
 ghost use lib.ListN.{length};
+ghost use Rattle.field.specs.Field.{_⊕_, mul, inverse};
 ghost use Rattle.field.specs.Ours.{fieldOf, products};
 ghost use Rattle.linear.specs.System.{vec, ent, Elements, Consistency, Dependence, Solved};
 ghost use Rattle.linear.specs.System.{Same, Found, Added, Cleared, Pivoted, Form, Free, ReadOff};
@@ -68,6 +69,17 @@ fn clear_column(q: usize, table: &[u8; 256], a: &mut [u8], m: usize, w: usize, p
     }
 }
 
+// What to add a row with entry y times to one with entry x, to make that entry 1.
+fn factor(q: usize, table: &[u8; 256], x: u8, y: u8) -> u8
+    requires { ⌜ now table ≡ products ⌝ }
+    ensures { λ f. ⌜ f ≡ mul (fieldOf q) (x ⊕ 1) (inverse (fieldOf q) y) ⌝ }
+{
+    if x == 1 {
+        return 0;
+    }
+    field::product(q, table, x ^ 1, field::inverse(q, table, y))
+}
+
 // Makes column c the unit vector of row r, by row i, whose entry there is not 0. i is r or a row below it; the rows from r on are
 // 0 before column c.
 fn pivot(
@@ -90,7 +102,7 @@ fn pivot(
 {
     let x = a[r * w + c];
     let y = a[i * w + c];
-    let f = field::product(q, table, x ^ 1, field::inverse(q, table, y));
+    let f = factor(q, table, x, y);
     add_row(q, table, a, w, r, i, c, f);
     clear_column(q, table, a, m, w, r, c);
 }

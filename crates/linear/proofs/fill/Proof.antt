@@ -17,30 +17,39 @@ returns : tie.Need-returns
 returns c = let s = c .before .before .before .before in
     wide-tied (s .args .q) (s .args .checks .now) (s .args .target .now) (s .args .v .now) (s .args .marks) (s .pre .1) (search needs)
 
+fill-binary-requires : tie.Need-fill-binary-requires
+fill-binary-requires c κs = let s = c .before .before .before .before .before .before .before in (s .pre .0, (rw (c .before .if3 .taken) at (s .pre .1), c .before .before .before .if1 .left))
+
+returns-2 : tie.Need-returns-2
+returns-2 c = rw (c .before .before .before .before .if3 .taken) (c .before .before .fill-binary .ensures)
+
 fill-marked-requires : tie.Need-fill-marked-requires
 fill-marked-requires c κs = search needs
 
-returns-2 : tie.Need-returns-2
-returns-2 c = search needs
+returns-3 : tie.Need-returns-3
+returns-3 c = search needs
 
 has-sums-requires : tie.Need-has-sums-requires
 has-sums-requires c κs = search needs
 
 same-length-2 : tie.Need-same-length-2
-same-length-2 c = refl
-
-returns-3 : tie.Need-returns-3
-returns-3 c = let s = c .before .before .before .before .before .before .before .before in
-    unmarked-one (s .args .q) (s .args .checks .now) (s .args .target .now) (s .args .v .now) (s .args .marks) (search needs)
-    (sym (c .if3 .taken) ∙ c .before .has-sums .ensures)
+same-length-2 c = search needs
 
 same-length-3 : tie.Need-same-length-3
 same-length-3 c = refl
 
 returns-4 : tie.Need-returns-4
 returns-4 c = let s = c .before .before .before .before .before .before .before .before in
+    unmarked-one (s .args .q) (s .args .checks .now) (s .args .target .now) (s .args .v .now) (s .args .marks) (search needs)
+    (sym (c .if4 .taken) ∙ c .before .has-sums .ensures)
+
+same-length-4 : tie.Need-same-length-4
+same-length-4 c = refl
+
+returns-5 : tie.Need-returns-5
+returns-5 c = let s = c .before .before .before .before .before .before .before .before in
     unmarked-none (s .args .q) (s .args .checks .now) (s .args .target .now) (s .args .v .now) (s .args .marks) (search needs)
-    (sym (c .if3 .left) ∙ c .before .has-sums .ensures)
+    (sym (c .if4 .left) ∙ c .before .has-sums .ensures)
 
 pub fill-spec : {M : Type 1} → statement M
 fill-spec =
@@ -48,11 +57,14 @@ fill-spec =
     (tie.spec
     cast-if1
     returns
-    fill-marked-requires
+    fill-binary-requires
     same-length
     returns-2
-    has-sums-requires
+    fill-marked-requires
     same-length-2
     returns-3
+    has-sums-requires
     same-length-3
-    returns-4)
+    returns-4
+    same-length-4
+    returns-5)

@@ -29,7 +29,8 @@ answers c =
     let gathered = gathered-at c .gather-marked in
     outcomes (s .args .q) (s .args .checks .now) (s .args .target .now) (s .args .v .now) (s .args .marks) (gathered .result)
     (gathered .last .1 .1 .1 .1 .1 .1 .0) _ _ _ (vec (c .solve .last .1 .1 .1 .1 .1 .1 .0)) _
-    (gathered .ensures .0 .1) (s .pre .1 .within) (gathered .ensures .1 .0) (c .solve .ensures)
+    (gathered .ensures .0 .1) (s .pre .1 .within) (gathered .ensures .1 .0)
+    (c .solve .ensures .dependence) (λ _. c .solve .ensures .consistency)
 
 slice-aggregate-gather-marked : tie.Need-slice-aggregate-gather-marked
 slice-aggregate-gather-marked c = refl

@@ -69,7 +69,7 @@ same-length c = search needs
 
 returns : tie.Need-returns Inv-loop μ-loop
 returns c = let s = c .before .before in
-    (ones-le _ _ (s .pre .0), placing-end _ _ _ _ _ _ _ (c .before .loop .inv .1) (s .fits .marks .fits) (search needs))
+    (ones-le _ _ (s .pre .0), refl, placing-end _ _ _ _ _ _ _ (c .before .loop .inv .1) (s .fits .marks .fits) (search needs))
 
 pub list-places-spec : {M : Type 1} → statement M
 list-places-spec =

@@ -1,10 +1,8 @@
 -- `system::pivot` meets its contract. Assumes nothing.
-use mathlib.Core.Path.{_∙_, ap}
 use Prim.Native.Nat.{_+_, _*_, _≤_}
 use native.Mathlib.Omega.{arith}
 use borrow.Author.Needs.{needs}
 use lib.ListN.{length}
-use Rattle.field.specs.Field.{_⊕_, mul}
 use Rattle.field.proofs.Fields.{our-field}
 use Rattle.linear.proofs.Elimination.{added-zero, pivoted}
 use Rattle.linear.proofs.Rows.{row-fits}
@@ -36,19 +34,16 @@ add-y c = omega (arith, row-i (c .before .before))
 slice-read-y : tie.Need-slice-read-y
 slice-read-y c = omega (arith, row-i (c .before .before .before))
 
-inverse-requires : tie.Need-inverse-requires
-inverse-requires c κs = search needs
-
-product-requires : tie.Need-product-requires
-product-requires c κs = search needs
+factor-requires : tie.Need-factor-requires
+factor-requires c κs = search needs
 
 add-row-requires : tie.Need-add-row-requires
-add-row-requires c κs = let s = c .before .before .before .before .before .before in
+add-row-requires c κs = let s = c .before .before .before .before .before in
     let pre = s .pre .1 .1 in
     (s .pre .0, ((row-r s, row-i s, omega arith), (pre .0, pre .1 .1 (s .args .i) (omega arith) (omega arith))))
 
 clear-column-requires : tie.Need-clear-column-requires
-clear-column-requires c κs = let s = c .before .before .before .before .before .before .before .before .before .before in
+clear-column-requires c κs = let s = c .before .before .before .before .before .before .before .before .before in
     let pre = s .pre .1 in
     let added = c .before .before .before .add-row in (
       s .pre .0,
@@ -66,11 +61,9 @@ same-length : tie.Need-same-length
 same-length c = search needs
 
 returns : tie.Need-returns
-unfolding _⊕_
-returns c = let s = c .before .before .before .before .before .before .before .before .before .before .before .before .before in
+returns c = let s = c .before .before .before .before .before .before .before .before .before .before .before .before in
     let pre = s .pre .1 in
-    let inverse = c .before .before .before .before .before .before .before .before .before .inverse .ensures in
-    let factor = c .before .before .before .before .before .before .before .before .product .ensures ∙ ap (mul _ _) inverse in
+    let factor = c .before .before .before .before .before .before .before .before .factor .ensures in
     let added = c .before .before .before .before .before .before .add-row .ensures in
     let cleared = c .before .before .clear-column .ensures in (
       pivoted _ (our-field (s .args .q)) _ _ _ _ _ _ _ _ _ (omega arith) (omega arith) (omega arith) (omega arith) (λ x l. pre .1 .0 _)
@@ -88,8 +81,7 @@ pivot-spec =
     mul-y
     add-y
     slice-read-y
-    inverse-requires
-    product-requires
+    factor-requires
     add-row-requires
     clear-column-requires
     same-length

@@ -1,0 +1,84 @@
+-- `binary::add_to_rows` meets its contract. Assumes nothing.
+use Prim.Native.Nat.{_-_, _/_, _^_, _≤_}
+use native.Mathlib.Omega.{arith}
+use borrow.Author.Needs.{needs}
+use Rattle.field.specs.Field.{_⊕_}
+use Rattle.field.proofs.Sum.{bit}
+use Rattle.linear.specs.System.{vec}
+use Rattle.linear.proofs.Packed.{AddingWords, adding-words-start, adding-words-turn, times-le}
+use Rattle.linear.proofs.binary.add_to_rows.Statement.{statement}
+use Rattle.linear.proofs.binary.add_to_rows.Tie as tie
+
+abbrev Inv-loop : tie.InvT-loop
+Inv-loop rows₀ m own c x₀ rows x = (x ≤ m) × AddingWords rows₀ rows own c x
+
+abbrev μ-loop : tie.MeasureT-loop
+μ-loop rows₀ m own c x₀ rows x = m - x
+
+loop-holds : tie.Need-loop-holds Inv-loop μ-loop
+loop-holds c = (omega arith, adding-words-start _ _ _)
+
+mul-rows : tie.Need-mul-rows Inv-loop μ-loop
+mul-rows c = search needs
+
+slice-read-rows : tie.Need-slice-read-rows Inv-loop μ-loop
+slice-read-rows c = search needs
+
+mul-rows-2 : tie.Need-mul-rows-2 Inv-loop μ-loop
+mul-rows-2 c = search needs
+
+slice-read-rows-2 : tie.Need-slice-read-rows-2 Inv-loop μ-loop
+slice-read-rows-2 c = search needs
+
+cast-rows : tie.Need-cast-rows Inv-loop μ-loop
+cast-rows c = search needs
+
+shr-rows : tie.Need-shr-rows Inv-loop μ-loop
+shr-rows c = search needs
+
+mul-rows-3 : tie.Need-mul-rows-3 Inv-loop μ-loop
+mul-rows-3 c = omega (arith, c .before .before .before .before .fits .own .fits, times-le (c .before .before .before .before .args .own) _ (bit (vec (c .before .before .before .loop .rows) (c .before .before .before .loop .x) / 2 ^ c .before .before .before .before .args .c)))
+
+mul-rows-4 : tie.Need-mul-rows-4 Inv-loop μ-loop
+mul-rows-4 c = search needs
+
+slice-write-rows : tie.Need-slice-write-rows Inv-loop μ-loop
+slice-write-rows c = search needs
+
+add-x : tie.Need-add-x Inv-loop μ-loop
+add-x c = search needs
+
+loop-less : tie.Need-loop-less Inv-loop μ-loop
+loop-less c = search needs
+
+loop-again : tie.Need-loop-again Inv-loop μ-loop
+unfolding _⊕_
+loop-again c = (omega arith, adding-words-turn _ _ _ _ _ (c .before .before .before .loop .inv .1) (omega arith))
+
+same-length : tie.Need-same-length Inv-loop μ-loop
+same-length c = search needs
+
+returns : tie.Need-returns Inv-loop μ-loop
+returns c = λ x l. c .before .loop .inv .1 .done x (omega arith)
+
+pub add-to-rows-spec : {M : Type 1} → statement M
+add-to-rows-spec =
+    tie.close
+    (tie.spec
+    Inv-loop
+    μ-loop
+    loop-holds
+    mul-rows
+    slice-read-rows
+    mul-rows-2
+    slice-read-rows-2
+    cast-rows
+    shr-rows
+    mul-rows-3
+    mul-rows-4
+    slice-write-rows
+    add-x
+    loop-less
+    loop-again
+    same-length
+    returns)
