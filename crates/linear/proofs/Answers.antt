@@ -19,17 +19,17 @@ use Rattle.field.proofs.Laws.{IsField, mul-zero}
 use Rattle.field.proofs.Fields.{our-field}
 use Rattle.linear.specs.Lists.{same, zeros, vanish}
 use Rattle.linear.specs.Fill.{sumsOf, tied, none, one, fill}
-use Rattle.linear.specs.System.{vec, Matrix, ent, inner, Elements, Ker, Solves, Consistency, Dependence}
+use Rattle.systems.specs.System.{vec, Matrix, ent, inner, Elements, Ker, Solves, Consistency, Dependence}
 use Rattle.linear.specs.Marks.{Fit, rowsOf, bitAt, bitsOf, fillOf, answerOf, vectorOf, Places, hidden, Gathered, scattered}
 use Rattle.linear.specs.declared.Outcome.{Outcome}
 use Rattle.linear.specs.declared.Outcome.the-variants.{Tied, None, One}
 use Rattle.linear.proofs.Tests.{same→eq, same-refl}
 use Rattle.linear.proofs.Filling.{Dependency, Independent, independent-of, Filling, fill-tied, fill-none, fill-one}
 use Rattle.linear.proofs.Choices.{Agrees}
-use Rattle.linear.proofs.Inner.{put, put-same, put-other, inner-same, inner-zero, inner-lt, inner-split}
+use Rattle.systems.proofs.Inner.{put, put-same, put-other, inner-same, inner-zero, inner-lt, inner-split}
 use Rattle.linear.proofs.Flat.{length-sums, sums-at, sums-are}
 use Rattle.linear.proofs.Words.{bit-bound, bit-of-none, places-of}
-use Rattle.linear.proofs.Wide.{Loose, wide-loose}
+use Rattle.systems.proofs.Wide.{Loose, wide-loose}
 use Rattle.linear.proofs.Columns.{hidden-marked, hidden-unmarked, length-scattered, scattered-at, scattered-off}
 use Rattle.linear.proofs.Marked.{zeros-at, length-zeros, vanish-at, vanish-of, length-bits, agrees-size, agrees-marked, agrees-unmarked, agrees-bits}
 

@@ -12,10 +12,10 @@ use lib.ListN.{length, set, length-set}
 use lib.Seq.{getD-set-same, getD-set-other}
 use Rattle.field.specs.Lists.{if_then_else_}
 use Rattle.field.specs.Field.{Field, _⊕_, size, mul}
-use Rattle.linear.specs.System.{vec, Matrix, ent, inner}
+use Rattle.systems.specs.System.{vec, Matrix, ent, inner}
 use Rattle.linear.specs.Marks.{bitAt, Places, hidden, Copied, Gathered, scattered}
-use Rattle.linear.proofs.Rows.{row-fits}
-use Rattle.linear.proofs.Inner.{inner-same}
+use Rattle.systems.proofs.Rows.{row-fits}
+use Rattle.systems.proofs.Inner.{inner-same}
 
 -- ---- `copy`, at column c
 

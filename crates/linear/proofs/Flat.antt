@@ -13,10 +13,10 @@ use Rattle.field.specs.Field.{Field, _⊕_, mul, dot}
 use Rattle.field.proofs.Laws.{IsField}
 use Rattle.linear.specs.Lists.{same}
 use Rattle.linear.specs.Fill.{sumsOf}
-use Rattle.linear.specs.System.{vec, ent, inner}
+use Rattle.systems.specs.System.{vec, ent, inner}
 use Rattle.linear.specs.Marks.{rowsOf}
 use Rattle.linear.proofs.Tests.{same→eq, same-refl}
-use Rattle.linear.proofs.Inner.{inner-first, inner-same, inner-zero}
+use Rattle.systems.proofs.Inner.{inner-first, inner-same, inner-zero}
 use Rattle.field.proofs.Laws as laws
 
 -- the test of two lists, from what is known of them

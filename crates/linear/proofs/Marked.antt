@@ -16,7 +16,7 @@ use Rattle.field.proofs.Ring.{size-pos}
 use Rattle.field.proofs.Test.{both-left, both-right, both}
 use Rattle.field.proofs.Lists.{length-up, getD-map-below}
 use Rattle.linear.specs.Lists.{all, zeros, vanish, first, rest}
-use Rattle.linear.specs.System.{vec, Elements}
+use Rattle.systems.specs.System.{vec, Elements}
 use Rattle.linear.specs.Marks.{bitAt, bitsOf}
 use Rattle.linear.proofs.Choices.{Allowed, Agrees, areSymbols, agrees-length}
 

@@ -21,12 +21,12 @@ use Rattle.field.proofs.Laws.{IsField}
 use Rattle.field.proofs.Laws as laws
 use Rattle.field.proofs.Table.{inverse-1}
 use Rattle.field.proofs.Fields.{field-2, our-field}
-use Rattle.linear.specs.System.{vec, Matrix, ent, inner, Elements, Ker, Solves, Consistency, Dependence, Same, Found, Added, Cleared, Pivoted, Form}
+use Rattle.systems.specs.System.{vec, Matrix, ent, inner, Elements, Ker, Solves, Consistency, Dependence, Same, Found, Added, Cleared, Pivoted, Form}
 use Rattle.linear.specs.Marks.{bitAt, wordRows, Gathered}
 use Rattle.linear.proofs.Words.{bit-zero, bit-half}
-use Rattle.linear.proofs.Inner.{inner-same, inner-zero, inner-one}
-use Rattle.linear.proofs.Elimination.{form-start, form-skip, form-step, pivoted, dependent-no, consistent-no, same-dependence, same-consistency}
-use Rattle.linear.proofs.Wide.{Loose, wide-loose}
+use Rattle.systems.proofs.Inner.{inner-same, inner-zero, inner-one}
+use Rattle.systems.proofs.Elimination.{form-start, form-skip, form-step, pivoted, dependent-no, consistent-no, same-dependence, same-consistency}
+use Rattle.systems.proofs.Wide.{Loose, wide-loose}
 
 -- ---- bits and the field
 

@@ -12,7 +12,7 @@ use lib.Count.{ones, ones-step, ones-le, trailingZeros, under}
 use lib.Pow.{pow-mono, shr-shr, shr-lt, shr-le}
 use Rattle.field.proofs.Sum.{of-bits, bit}
 use Rattle.linear.specs.Marks.{bitAt, Places}
-use Rattle.linear.proofs.Inner.{put, put-same, put-other}
+use Rattle.systems.proofs.Inner.{put, put-same, put-other}
 
 -- bit d of a word that was shifted by c
 bit-shifted : (w c d : ℕ) → bitAt (w / 2 ^ c) d ≡ bitAt w (c + d)

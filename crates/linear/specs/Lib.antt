@@ -1,5 +1,4 @@
--- What the crate `linear` means: filling the marked places of a vector, and answering a system of equations.
+-- What the crate `linear` means: filling the marked places of a vector.
 pub mod Lists
 pub mod Fill
-pub mod System
 pub mod Marks

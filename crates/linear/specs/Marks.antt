@@ -11,7 +11,7 @@ use Rattle.field.specs.Lists.{if_then_else_, upFrom}
 use Rattle.field.specs.Field.{Field, _⊕_}
 use Rattle.field.specs.Ours.{fieldOf}
 use Rattle.linear.specs.Fill.{Fill, tied, none, one, fill}
-use Rattle.linear.specs.System.{vec, Matrix, ent, inner, Elements}
+use Rattle.systems.specs.System.{vec, Matrix, ent, inner, Elements}
 use Rattle.linear.specs.declared.Outcome.{Outcome}
 use Rattle.linear.specs.declared.Outcome.the-variants.{Tied, None, One}
 

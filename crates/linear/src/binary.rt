@@ -4,7 +4,7 @@ ghost use Prim.Native.Nat.{ℕ, _+_, _*_, _<_, _≤_};
 ghost use lib.ListN.{length};
 ghost use Rattle.field.specs.Field.{_⊕_};
 ghost use Rattle.field.specs.Ours.{fieldOf};
-ghost use Rattle.linear.specs.System.{vec, Same, Found, Form};
+ghost use Rattle.systems.specs.System.{vec, Same, Found, Form};
 ghost use Rattle.linear.specs.Marks.{mostChecks, bitAt, wordRows};
 
 // The first row from c on whose bit c is 1, or m.

@@ -1,6 +1,5 @@
-// Systems of equations over our fields, and filling the marked places of a vector.
+// Filling the marked places of a vector so that its sums are the target.
 pub mod binary;
-pub mod system;
 
 ghost use mathlib.Core.Path.{_≡_};
 ghost use Prim.Native.Nat.{ℕ, _+_, _*_, _^_, _<_, _≤_};
@@ -10,7 +9,7 @@ ghost use Rattle.field.specs.Field.{size};
 ghost use Rattle.field.specs.Ours.{fieldOf, products};
 ghost use Rattle.linear.specs.Lists.{same};
 ghost use Rattle.linear.specs.Fill.{sumsOf};
-ghost use Rattle.linear.specs.System.{vec, ent, inner, Elements};
+ghost use Rattle.systems.specs.System.{vec, ent, inner, Elements};
 ghost use Rattle.linear.specs.Marks.{Fit, rowsOf, fillOf, answerOf, vectorOf};
 ghost use Rattle.linear.specs.Marks.{mostChecks, mostColumns, room, bitAt, wordRows, Places, hidden, Copied, Gathered, scattered};
 
@@ -224,7 +223,7 @@ fn fill_marked(
     let mut pivots: [usize; COLUMNS] = [0; COLUMNS];
     let mut solution: [u8; COLUMNS] = [0; COLUMNS];
     let mut dependency: [u8; COLUMNS] = [0; COLUMNS];
-    let s = system::solve(
+    let s = systems::solve(
         q,
         table,
         &mut a[..],

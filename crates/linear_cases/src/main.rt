@@ -32,7 +32,7 @@ fn answer(q: usize, system: [u8; 12], m: usize, k: usize)
     let mut pivots: [usize; 5] = [0; 5];
     let mut x: [u8; 5] = [0; 5];
     let mut z: [u8; 5] = [0; 5];
-    let s = linear::system::solve(
+    let s = systems::solve(
         q,
         &table,
         &mut a[..],

@@ -13,7 +13,7 @@ use Rattle.field.specs.Field.{Field, size}
 use Rattle.field.specs.Ours.{fieldOf}
 use Rattle.field.proofs.Ring.{size-pos}
 use Rattle.linear.specs.Lists.{all}
-use Rattle.linear.specs.System.{vec, Elements}
+use Rattle.systems.specs.System.{vec, Elements}
 use Rattle.linear.specs.Marks.{rowsOf, bitsOf, fillOf}
 use Rattle.linear.specs.Fill.{fill}
 use Rattle.plans.specs.Plan.{Plan, planOf, known, checksTo, rowAt}

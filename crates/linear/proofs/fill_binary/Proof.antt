@@ -8,7 +8,7 @@ use lib.ListN.{length}
 use Rattle.field.specs.Ours.{fieldOf}
 use Rattle.field.proofs.Fields.{our-field}
 use Rattle.linear.specs.Marks.{scattered, wordRows}
-use Rattle.linear.specs.System.{vec, Matrix, Consistency, Dependence, Form}
+use Rattle.systems.specs.System.{vec, Matrix, Consistency, Dependence, Form}
 use Rattle.linear.proofs.Answers.{Outcomes, outcomes}
 use Rattle.linear.proofs.Columns.{gathered-same}
 use Rattle.linear.proofs.Packed.{bit-small, reduced-tied, reduced-free, reduced-none, reduced-one}

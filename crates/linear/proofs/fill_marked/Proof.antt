@@ -5,11 +5,11 @@ use borrow.Author.Tests.{not-true, not-false}
 use lib.ListN.{length}
 use Rattle.field.proofs.Fields.{our-field}
 use Rattle.linear.specs.Marks.{scattered}
-use Rattle.linear.specs.System.{vec}
+use Rattle.systems.specs.System.{vec}
 use Rattle.linear.proofs.Answers.{Outcomes, outcomes}
-use Rattle.linear.proofs.Turns.{zero-elements}
+use Rattle.systems.proofs.Turns.{zero-elements}
 use Rattle.linear.proofs.Words.{bit-bound}
-use Rattle.linear.proofs.Rows.{system-fits}
+use Rattle.systems.proofs.Rows.{system-fits}
 use Rattle.linear.proofs.fill_marked.Statement.{statement}
 use Rattle.linear.proofs.fill_marked.Tie as tie
 

@@ -8,11 +8,11 @@ use Rattle.field.specs.Ours.{fieldOf}
 use Rattle.field.specs.Field.{_⊕_}
 use Rattle.field.proofs.Fields.{our-field}
 use Rattle.linear.specs.Marks.{Gathered}
-use Rattle.linear.specs.System.{vec, ent, Elements}
-use Rattle.linear.proofs.Turns.{set-elements}
+use Rattle.systems.specs.System.{vec, ent, Elements}
+use Rattle.systems.proofs.Turns.{set-elements}
 use Rattle.linear.proofs.Columns.{gathered-start, gathered-turn}
-use Rattle.linear.proofs.Inner.{inner-lt}
-use Rattle.linear.proofs.Rows.{row-fits}
+use Rattle.systems.proofs.Inner.{inner-lt}
+use Rattle.systems.proofs.Rows.{row-fits}
 use Rattle.linear.proofs.gather.Statement.{statement}
 use Rattle.linear.proofs.gather.Tie as tie
 

@@ -4,7 +4,7 @@ use borrow.Author.Needs.{needs}
 use lib.ListN.{length}
 use Rattle.linear.proofs.Columns.{gathered-same}
 use Rattle.linear.proofs.Words.{bit-bound}
-use Rattle.linear.proofs.Rows.{system-fits}
+use Rattle.systems.proofs.Rows.{system-fits}
 use Rattle.linear.proofs.gather_marked.Statement.{statement}
 use Rattle.linear.proofs.gather_marked.Tie as tie
 

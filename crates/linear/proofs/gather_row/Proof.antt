@@ -6,8 +6,8 @@ use borrow.Author.Needs.{needs}
 use lib.ListN.{length, length-set}
 use Rattle.field.specs.Ours.{fieldOf}
 use Rattle.linear.specs.Marks.{Copied}
-use Rattle.linear.specs.System.{vec, Elements}
-use Rattle.linear.proofs.Turns.{set-elements}
+use Rattle.systems.specs.System.{vec, Elements}
+use Rattle.systems.proofs.Turns.{set-elements}
 use Rattle.linear.proofs.Columns.{copied-start, copied-turn}
 use Rattle.linear.proofs.gather_row.Statement.{statement}
 use Rattle.linear.proofs.gather_row.Tie as tie

@@ -3,7 +3,7 @@ use mathlib.Core.Path.{_≡_}
 use Prim.Native.Nat.{_-_, _^_, _<_}
 use native.Mathlib.Omega.{arith}
 use borrow.Author.Needs.{needs}
-use Rattle.linear.specs.System.{vec, ent}
+use Rattle.systems.specs.System.{vec, ent}
 use Rattle.linear.proofs.Packed.{below-2, Wording, wording-start, wording-turn, wording-fits, wording-at, wording-last}
 use Rattle.linear.proofs.gather_word.Statement.{statement}
 use Rattle.linear.proofs.gather_word.Tie as tie

@@ -8,9 +8,9 @@ use borrow.Author.Needs.{needs}
 use lib.ListN.{length}
 use Rattle.field.specs.Ours.{fieldOf}
 use Rattle.field.proofs.Fields.{our-field}
-use Rattle.linear.specs.System.{vec, ent, inner}
+use Rattle.systems.specs.System.{vec, ent, inner}
 use Rattle.linear.proofs.Flat.{sums-at, sums-are, eq-same, ne-same}
-use Rattle.linear.proofs.Rows.{row-fits}
+use Rattle.systems.proofs.Rows.{row-fits}
 use Rattle.linear.proofs.has_sums.Statement.{statement}
 use Rattle.linear.proofs.has_sums.Tie as tie
 

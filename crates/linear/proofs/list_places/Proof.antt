@@ -6,7 +6,7 @@ use borrow.Author.Needs.{needs}
 use lib.Seq.{getD-set-same, getD-set-other}
 use lib.ListN.{length-set, length}
 use lib.Count.{ones-le, trailingZeros, trailing-le}
-use Rattle.linear.specs.System.{vec}
+use Rattle.systems.specs.System.{vec}
 use Rattle.linear.proofs.Words.{Lowest, Placing, placing-start, placing-next, placing-shift, placing-fits, placing-turn, placing-end}
 use Rattle.linear.proofs.list_places.Statement.{statement}
 use Rattle.linear.proofs.list_places.Tie as tie

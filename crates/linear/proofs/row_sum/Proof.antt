@@ -5,8 +5,8 @@ use native.Mathlib.Omega.{arith}
 use borrow.Author.Needs.{needs}
 use Rattle.field.specs.Ours.{fieldOf}
 use Rattle.field.specs.Field.{_⊕_}
-use Rattle.linear.specs.System.{vec, ent, inner}
-use Rattle.linear.proofs.Inner.{inner-more}
+use Rattle.systems.specs.System.{vec, ent, inner}
+use Rattle.systems.proofs.Inner.{inner-more}
 use Rattle.linear.proofs.row_sum.Statement.{statement}
 use Rattle.linear.proofs.row_sum.Tie as tie
 

@@ -5,7 +5,7 @@ use native.Mathlib.Omega.{arith}
 use borrow.Author.Needs.{needs}
 use lib.ListN.{length}
 use Rattle.linear.specs.Marks.{wordRows, scattered}
-use Rattle.linear.specs.System.{vec}
+use Rattle.systems.specs.System.{vec}
 use Rattle.linear.proofs.Columns.{scattered-more, length-scattered}
 use Rattle.linear.proofs.scatter_bits.Statement.{statement}
 use Rattle.linear.proofs.scatter_bits.Tie as tie

@@ -3,7 +3,7 @@ use mathlib.Core.Path.{_∙_, ap}
 use native.Mathlib.Omega.{arith}
 use borrow.Author.Needs.{needs}
 use lib.ListN.{getD-replicate}
-use Rattle.linear.specs.System.{vec}
+use Rattle.systems.specs.System.{vec}
 use Rattle.linear.proofs.Columns.{scattered-hides}
 use Rattle.linear.proofs.Words.{bit-bound}
 use Rattle.linear.proofs.show.Statement.{statement}

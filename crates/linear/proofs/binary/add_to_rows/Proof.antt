@@ -4,7 +4,7 @@ use native.Mathlib.Omega.{arith}
 use borrow.Author.Needs.{needs}
 use Rattle.field.specs.Field.{_⊕_}
 use Rattle.field.proofs.Sum.{bit}
-use Rattle.linear.specs.System.{vec}
+use Rattle.systems.specs.System.{vec}
 use Rattle.linear.proofs.Packed.{AddingWords, adding-words-start, adding-words-turn, times-le}
 use Rattle.linear.proofs.binary.add_to_rows.Statement.{statement}
 use Rattle.linear.proofs.binary.add_to_rows.Tie as tie

@@ -4,7 +4,7 @@ use Prim.Native.Nat.{_-_}
 use native.Mathlib.Omega.{arith}
 use borrow.Author.Needs.{needs}
 use Rattle.field.specs.Field.{_⊕_}
-use Rattle.linear.specs.System.{vec}
+use Rattle.systems.specs.System.{vec}
 use Rattle.linear.specs.Marks.{bitAt}
 use Rattle.linear.proofs.Packed.{Packing, packing-start, packing-turn, times-le}
 use Rattle.linear.proofs.binary.reduce.Statement.{statement}
