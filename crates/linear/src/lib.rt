@@ -1,5 +1,5 @@
 // Systems of equations over our fields, and filling the marked places of a vector.
-pub mod binary;
+mod binary;
 pub mod system;
 
 ghost use mathlib.Core.Path.{_≡_};
