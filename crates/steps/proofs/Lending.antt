@@ -5,6 +5,7 @@ use mathlib.Core.List.{List, [], _∷_, _++_, map}
 use Prim.Native.Nat.{ℕ, zero, suc, _+_, _*_, _-_, _^_, _<_, _≤_}
 use native.Mathlib.Nat.{suc-mul, zero-mul, add-comm, add-zero, add-suc}
 use native.Mathlib.Omega.{arith}
+use lib.Count.{ones}
 use lib.Dec.{T, ltb, ltb→lt, lt→ltb}
 use lib.ListN.{length, take, drop, getD, length-append}
 use lib.Seq.{sets, take-take, drop-drop, take-nil, length-take-le, getD-take, getD-drop}
@@ -14,7 +15,9 @@ use Rattle.field.specs.Ours.{fieldOf}
 use Rattle.field.proofs.Ring.{size-pos}
 use Rattle.linear.specs.Lists.{all}
 use Rattle.systems.specs.System.{vec, Elements}
-use Rattle.linear.specs.Marks.{rowsOf, bitsOf, fillOf}
+use Rattle.linear.specs.Marks.{rowsOf, bitsOf, Fit, fillOf, answerOf, vectorOf}
+use Rattle.linear.specs.declared.Outcome.the-variants.{Tied}
+use Rattle.linear.proofs.Answers.{wide-tied}
 use Rattle.linear.specs.Fill.{fill}
 use Rattle.plans.specs.Plan.{Plan, planOf, known, checksTo, rowAt}
 use Rattle.plans.specs.Refusal.{room, sumsAt, allBelow, sumsFit}
@@ -22,7 +25,7 @@ use Rattle.plans.specs.Tables.{checkTable, FactsOf}
 use Rattle.plans.specs.declared.plan.Facts.{Facts}
 use Rattle.plans.proofs.Flat.{rowIn, all-getD}
 use Rattle.plans.proofs.Tables.{checks-before, checks-in, checks-lt}
-use Rattle.plans.proofs.Rows.{row-length}
+use Rattle.plans.proofs.Rows.{row-length, row-again}
 use Rattle.plans.proofs.Shape.{Shape, shape}
 use Rattle.steps.proofs.Fit.{sums-fit}
 use Rattle.steps.proofs.Levels.{sums-length}
@@ -150,3 +153,26 @@ module _ {p t : ℕ} {f : Facts} {m : ℕ} {checks sums symbols : List ℕ} {r :
       ≡ sets symbols (r * P .columns) v
   put-back v e =
       part-back (r * f .columns) (r * f .columns + f .columns - r * f .columns) symbols v (omega (arith, row-end)) (omega (arith, e, row-count)) ∙ ap (λ j. sets symbols (r * j) v) (is .columns)
+
+  -- what `fill` asks
+  pub fits : (word : ℕ) → word < 2 ^ P .columns → Fit (f .field) lentChecks lentSums lentRow word
+  fits word h = record {
+    few = omega (arith, sums-count, few);
+    narrow = narrow;
+    shape = checks-count;
+    within = word-fits word h;
+    coefficients = checks-elements;
+    sums = sums-elements;
+  }
+
+  -- more marks than sums: the row is tied, and the symbols are as they were
+  pub too-many : (word : ℕ) → word < 2 ^ P .columns → m < ones word
+      → let row = fill (P .field) (checksTo P t) (sumsAt P t sums r) (bitsOf (P .columns) word) (rowAt P symbols r) in
+      (Tied ≡ answerOf row) × (symbols ≡ sets symbols (r * P .columns) (vectorOf row (rowAt P symbols r)))
+  too-many word h more =
+      let tied = wide-tied (f .field) lentChecks lentSums lentRow word (fits word h) (rw sums-count more) in
+      let place : r * P .columns + P .columns ≤ length symbols = rw (← is .columns, long) row-end in (
+        tied .0 ∙ ap answerOf (fill-is word),
+        sym (ap (sets symbols (r * P .columns)) (sym (sym row-is ∙ tied .1 ∙ ap₂ vectorOf (fill-is word) row-is))
+            ∙ row-again P r (rowAt P symbols r) symbols (row-length P symbols r place) place refl),
+      )

@@ -71,6 +71,9 @@ fn fill_row(
     let q = facts.field;
     let n = facts.columns;
     let m = plan::sums_to(plan, level);
+    if m < u32::count_ones(word) as usize {
+        return linear::Outcome::Tied;
+    }
     let size = m * n;
     let start = row * n;
     let end = start + n;

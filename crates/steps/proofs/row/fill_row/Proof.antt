@@ -1,9 +1,11 @@
 -- `row::fill_row` meets its contract. Assumes nothing.
 use mathlib.Core.Path.{sym, ap, ap₂, _∙_}
 use denote.Ref.{now}
+use lib.Count.{ones-le}
 use lib.Seq.{sets}
 use Rattle.linear.specs.Marks.{answerOf, vectorOf}
-use Rattle.steps.proofs.Lending.{Lent, row-is, few, checks-end, sums-end, row-end, sums-count, checks-long, checks-count, fill-is, checks-elements, sums-elements, word-fits, narrow, put-back}
+use Rattle.plans.proofs.Plans.{columns-most}
+use Rattle.steps.proofs.Lending.{Lent, row-is, checks-end, sums-end, row-end, checks-long, fill-is, put-back, fits, too-many}
 use native.Mathlib.Omega.{arith}
 use borrow.Author.Needs.{needs}
 use Rattle.steps.proofs.row.fill_row.Statement.{statement}
@@ -33,23 +35,29 @@ facts-of-requires c κs = search needs
 sums-to-requires : tie.Need-sums-to-requires
 sums-to-requires c κs = search needs
 
+cast-if1 : tie.Need-cast-if1
+cast-if1 c = let start = c .before .before .before .before .before in omega (arith, ones-le _ (start .args .word) (start .pre .1 .1 .0 .2), columns-most (start .args .plan))
+
+returns : tie.Need-returns
+returns c = too-many (lent (c .before)) _ (c .before .before .before .before .before .before .pre .1 .1 .0 .2) (c .if1 .taken)
+
 mul-size : tie.Need-mul-size
-mul-size c = record { fits = omega (arith, checks-end (lent c)) }
+mul-size c = record { fits = omega (arith, checks-end (lent (c .before))) }
 
 mul-start : tie.Need-mul-start
-mul-start c = record { fits = omega (arith, row-end (lent c)) }
+mul-start c = record { fits = omega (arith, row-end (lent (c .before))) }
 
 add-end : tie.Need-add-end
-add-end c = record { fits = omega (arith, row-end (lent c)) }
+add-end c = record { fits = omega (arith, row-end (lent (c .before))) }
 
 mul-first : tie.Need-mul-first
-mul-first c = record { fits = omega (arith, sums-end (lent c)) }
+mul-first c = record { fits = omega (arith, sums-end (lent (c .before))) }
 
 add-last : tie.Need-add-last
-add-last c = record { fits = omega (arith, sums-end (lent c)) }
+add-last c = record { fits = omega (arith, sums-end (lent (c .before))) }
 
 slice-aggregate-fill : tie.Need-slice-aggregate-fill
-slice-aggregate-fill c = sym (checks-long (lent (c .before)))
+slice-aggregate-fill c = sym (checks-long (lent (c .before .before)))
 
 sub-fill : tie.Need-sub-fill
 sub-fill c = search needs
@@ -58,7 +66,7 @@ part-fill-start : tie.Need-part-fill-start
 part-fill-start c = search needs
 
 part-fill-end : tie.Need-part-fill-end
-part-fill-end c = omega (arith, sums-end (lent (c .before)), c .before .before .before .before .before .before .pre .1 .1 .1 .1)
+part-fill-end c = omega (arith, sums-end (lent (c .before .before)), c .before .before .before .before .before .before .before .pre .1 .1 .1 .1)
 
 sub-fill-2 : tie.Need-sub-fill-2
 sub-fill-2 c = search needs
@@ -67,28 +75,17 @@ part-fill-start-2 : tie.Need-part-fill-start-2
 part-fill-start-2 c = search needs
 
 part-fill-end-2 : tie.Need-part-fill-end-2
-part-fill-end-2 c = omega (arith, row-end (lent (c .before .before)), c .before .before .before .before .before .before .before .pre .1 .1 .1 .0)
+part-fill-end-2 c = omega (arith, row-end (lent (c .before .before .before)), c .before .before .before .before .before .before .before .before .pre .1 .1 .1 .0)
 
 fill-requires : tie.Need-fill-requires
-fill-requires c κs =
-    let l = lent (c .before .before .before) in (
-      c .before .before .before .before .before .before .before .before .pre .0,
-      record {
-        few = omega (arith, sums-count l, few l);
-        narrow = narrow l;
-        shape = checks-count l;
-        within = word-fits l _ (c .before .before .before .before .before .before .before .before .pre .1 .1 .0 .2);
-        coefficients = checks-elements l;
-        sums = sums-elements l;
-      },
-    )
+fill-requires c κs = let start = c .before .before .before .before .before .before .before .before .before in (start .pre .0, fits (lent (c .before .before .before .before)) _ (start .pre .1 .1 .0 .2))
 
 same-length : tie.Need-same-length
 same-length c = search needs
 
-returns : tie.Need-returns
-returns c =
-    let l = lent (c .before .before .before .before .before .before) in (
+returns-2 : tie.Need-returns-2
+returns-2 c =
+    let l = lent (c .before .before .before .before .before .before .before) in (
       c .before .before .fill .ensures .0 ∙ ap answerOf (fill-is l _),
       put-back l (c .before .before .fill .last .1 .1 .1 .1 .0) (c .before .before .fill .kept .1 .1 .1 .1 .0) ∙ ap (sets _ _) (c .before .before .fill .ensures .1 ∙ ap₂ vectorOf (fill-is l _) (row-is l)),
     )
@@ -99,6 +96,8 @@ fill-row-spec =
     (tie.spec
     facts-of-requires
     sums-to-requires
+    cast-if1
+    returns
     mul-size
     mul-start
     add-end
@@ -113,4 +112,4 @@ fill-row-spec =
     part-fill-end-2
     fill-requires
     same-length
-    returns)
+    returns-2)
