@@ -1,5 +1,5 @@
 // Filling the marked places of a vector so that its sums are the target.
-pub mod binary;
+mod binary;
 
 ghost use mathlib.Core.Path.{_≡_};
 ghost use Prim.Native.Nat.{ℕ, _+_, _*_, _^_, _<_, _≤_};

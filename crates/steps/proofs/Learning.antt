@@ -6,6 +6,7 @@ use Prim.Native.Nat.{ℕ, zero, suc, _+_, _*_, _^_, _≤_, _<_}
 use native.Mathlib.Numerals.{add-one}
 use native.Mathlib.Omega.{arith}
 use borrow.Author.Tests.{le-ltb, lt-ltb}
+use lib.Count.{ones}
 use lib.Dec.{ltb}
 use lib.ListN.{length, getD, take}
 use lib.Seq.{length-take-le}
@@ -14,10 +15,11 @@ use Rattle.field.specs.Field.{size}
 use Rattle.field.specs.Ours.{fieldOf}
 use Rattle.field.proofs.Ring.{size-pos}
 use Rattle.linear.specs.Lists.{zeros}
-use Rattle.linear.specs.Marks.{rowsOf, bitsOf, fillOf, answerOf, vectorOf}
+use Rattle.linear.specs.Marks.{rowsOf, bitsOf, Fit, fillOf, answerOf, vectorOf}
 use Rattle.linear.specs.Fill.{Fill, tied, none, one, fill}
 use Rattle.linear.specs.declared.Outcome.{Outcome}
 use Rattle.linear.specs.declared.Outcome.the-variants.{Tied, None, One}
+use Rattle.linear.proofs.Answers.{wide-tied}
 use Rattle.plans.specs.Plan.{planOf, levelOf, checksTo}
 use Rattle.steps.specs.Steps.{lossy, Learned, blocked, failing, learned, levelFill, keepSums, raise, stepped, unlessRefused, levelStepBy, levelStep}
 use Rattle.plans.specs.Refusal.{unasked, benchRefusal}
@@ -29,6 +31,7 @@ use Rattle.plans.specs.declared.Step.the-variants.{Blocked as StepBlocked, Rais
 use Rattle.steps.specs.declared.level.Learning.{Learning}
 use Rattle.steps.specs.declared.level.Learning.the-variants.{Blocked, Failing, Learned as AllLearned}
 use Rattle.plans.proofs.Parts.{part, rows-front}
+use Rattle.plans.proofs.Plans.{rows-most}
 use Rattle.plans.proofs.Sizes.{totals-most}
 use Rattle.plans.proofs.Tables.{weights-lt, sums-more, sums-most}
 use Rattle.steps.proofs.Keeping.{keep-none, keep-last}
@@ -103,6 +106,26 @@ module _ {p t q rows n totals : ℕ} {weights : List ℕ} (w : Weighing p t q ro
         ∙ ap₂ (λ z k. fill (fieldOf q) W z (bitsOf k lossy) (take rows made))
         (ap (λ m. take m lentZeros) (w .count) ∙ zeros-few W (totals-most p (suc t))) (w .is .high)
         ∙ ap₂ (λ F v. fill F W (zeros W) (bitsOf (P .rows) lossy) v) (w .is .field) made-is
+
+    -- what `fill` asks
+    pub column-fits : (lossy : ℕ) → lossy < 2 ^ planOf p .rows → Fit q (take (totals * rows) weights) (take totals lentZeros) (take rows made) lossy
+    column-fits lossy small =
+        let long = column-rows (w .is) lent (suc t) more symbols e in
+        record {
+          few = rw target-length (omega (arith, few-totals));
+          narrow = rw (long, w .is .high) (omega (arith, rows-most p));
+          shape = front-length ∙ sym (ap₂ _*_ target-length long);
+          within = rw (long, w .is .high) small;
+          coefficients = front-lt;
+          sums = target-lt;
+        }
+
+    -- more rows with marks than totals
+    pub too-lossy : (lossy : ℕ) → lossy < 2 ^ planOf p .rows → totals < ones lossy
+        → Tied ≡ answerOf (columnFill (planOf p) t symbols (bitsOf (planOf p .rows) lossy) j)
+    too-lossy lossy small many =
+        wide-tied q (take (totals * rows) weights) (take totals lentZeros) (take rows made) lossy (column-fits lossy small) (rw target-length many) .0
+        ∙ ap answerOf (filled-is lossy)
 
 -- ---- the checks of level t + 1, one after the other
 

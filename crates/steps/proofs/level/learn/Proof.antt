@@ -1,49 +1,75 @@
 -- `level::learn` meets its contract: the invariant is that the sums under the checks passed are learned. Assumes nothing.
 use Prim.Native.Nat.{suc, _-_}
+use mathlib.Core.Path.{refl, sym, ap}
 use native.Mathlib.Numerals.{add-one}
 use native.Mathlib.Omega.{arith}
 use borrow.Author.Needs.{needs}
+use lib.Count.{ones-le}
 use Rattle.plans.proofs.Plans.{levels-most, rows-most, symbols-most}
 use Rattle.plans.proofs.Tables.{sums-most}
-use Rattle.steps.proofs.Learning.{LearnedTo, learned-starts, learned-here, learned-blocked, learned-failing, learned-more, learned-ends}
+use Rattle.plans.specs.Plan.{planOf}
+use Rattle.plans.specs.Tables.{weightTable}
+use Rattle.plans.proofs.Numbers.{Weighing, weighing}
+use Rattle.steps.proofs.Learning.{LearnedTo, too-lossy, learned-starts, learned-here, learned-blocked, learned-failing, learned-more, learned-ends}
 use Rattle.steps.proofs.level.learn.Statement.{statement}
 use Rattle.steps.proofs.level.learn.Tie as tie
 
 abbrev Inv-loop : tie.InvT-loop
-Inv-loop plan level table checks symbols marks sums rows first last lossy column₀ kept₀ j₀ column kept j =
+Inv-loop plan level table checks symbols marks sums rows totals first last lossy column₀ kept₀ j₀ column kept j =
     LearnedTo plan level rows last lossy symbols marks sums j kept
 
 abbrev μ-loop : tie.MeasureT-loop
-μ-loop plan level table checks symbols marks sums rows first last lossy column₀ kept₀ j₀ column kept j =
+μ-loop plan level table checks symbols marks sums rows totals first last lossy column₀ kept₀ j₀ column kept j =
     last - j
 
-rows-requires : tie.Need-rows-requires Inv-loop μ-loop
-rows-requires c κs = search needs
+-- the weights and totals of level + 1
+weighed : (c : tie.After-totals Inv-loop μ-loop) → let args = c .before .before .before .args in
+    Weighing (args .plan) (args .level) (c .before .facts-of .result .field) (c .before .facts-of .result .rows)
+    (c .before .facts-of .result .columns) (weightTable (planOf (args .plan)) (suc (args .level))) (c .totals .result)
+weighed c = weighing _ _ (c .before .facts-of .ensures) (ap (weightTable _) (sym (add-one _))) (c .totals .ensures)
+
+facts-of-requires : tie.Need-facts-of-requires Inv-loop μ-loop
+facts-of-requires c κs = search needs
+
+add-totals : tie.Need-add-totals Inv-loop μ-loop
+add-totals c = omega (arith, levels-most (c .before .before .args .plan), c .before .before .pre)
+
+totals-requires : tie.Need-totals-requires Inv-loop μ-loop
+totals-requires c κs = search needs
 
 sums-to-requires : tie.Need-sums-to-requires Inv-loop μ-loop
 sums-to-requires c κs = search needs
 
 add-sums-to : tie.Need-add-sums-to Inv-loop μ-loop
-add-sums-to c = omega (arith, levels-most (c .before .before .before .args .plan), c .before .before .before .pre)
+add-sums-to c = omega (arith, levels-most (c .before .before .before .before .args .plan), c .before .before .before .before .pre)
 
 sums-to-requires-2 : tie.Need-sums-to-requires-2 Inv-loop μ-loop
 sums-to-requires-2 c κs = search needs
 
 lossy-word-requires : tie.Need-lossy-word-requires Inv-loop μ-loop
-lossy-word-requires c κs = rw (c .before .before .rows .ensures) (rows-most (c .before .before .before .before .args .plan))
+lossy-word-requires c κs = rw (c .before .before .before .facts-of .ensures .rows) (rows-most (c .before .before .before .before .before .args .plan))
 
 loop-holds : tie.Need-loop-holds Inv-loop μ-loop
 loop-holds c =
-    let rows = c .before .before .before .before .rows in
     let sums-to = c .before .before .before .sums-to in
     let sums-to2 = c .before .before .sums-to2 in
-    learned-starts _ _ _ _ (rows .ensures) (sums-to .ensures) (rw add-one at (sums-to2 .ensures)) (c .before .lossy-word .ensures)
+    learned-starts _ _ _ _ (c .before .before .before .before .before .facts-of .ensures .rows) (sums-to .ensures) (rw add-one at (sums-to2 .ensures)) (c .before .lossy-word .ensures)
+
+cast-if1 : tie.Need-cast-if1 Inv-loop μ-loop
+cast-if1 c = omega (arith, ones-le _ (c .before .before .before .lossy-word .result) (c .before .loop .inv .small), rows-most (c .before .before .before .before .before .before .before .before .before .args .plan))
+
+returns : tie.Need-returns Inv-loop μ-loop
+returns c =
+    let head = c .before .before .loop in
+    let turn = c .before .loop-test in
+    let more = learned-here (head .inv) (turn .taken) in
+    learned-blocked (head .inv) (turn .taken) (too-lossy (weighed (c .before .before .before .before .before .before .before)) refl more _ refl _ (head .inv .small) (c .if1 .taken)) refl
 
 learn-column-requires : tie.Need-learn-column-requires Inv-loop μ-loop
 learn-column-requires c κs =
-    let head = c .before .before .before .loop in
-    let turn = c .before .before .loop-test in
-    let start = c .before .before .before .before .before .before .before .before .before .before in
+    let head = c .before .before .before .before .loop in
+    let turn = c .before .before .before .loop-test in
+    let start = c .before .before .before .before .before .before .before .before .before .before .before .before in
     let s = head .inv in (
       start .pre .0,
       (
@@ -55,20 +81,20 @@ learn-column-requires c κs =
 enum-told : tie.Need-enum-told Inv-loop μ-loop
 enum-told c = search needs
 
-returns : tie.Need-returns Inv-loop μ-loop
-returns c =
-    let head = c .before .before .before .before .before .before .loop in
-    let turn = c .before .before .before .before .before .loop-test in
+returns-2 : tie.Need-returns-2 Inv-loop μ-loop
+returns-2 c =
+    let head = c .before .before .before .before .before .before .before .loop in
+    let turn = c .before .before .before .before .before .before .loop-test in
     let learn-column = c .before .before .learn-column in
     learned-blocked (head .inv) (turn .taken) (learn-column .ensures .0) (c .enum-told .given .1)
 
 enum-told-2 : tie.Need-enum-told-2 Inv-loop μ-loop
 enum-told-2 c = search needs
 
-returns-2 : tie.Need-returns-2 Inv-loop μ-loop
-returns-2 c =
-    let head = c .before .before .before .before .before .before .loop in
-    let turn = c .before .before .before .before .before .loop-test in
+returns-3 : tie.Need-returns-3 Inv-loop μ-loop
+returns-3 c =
+    let head = c .before .before .before .before .before .before .before .loop in
+    let turn = c .before .before .before .before .before .before .loop-test in
     let learn-column = c .before .before .learn-column in
     learned-failing (head .inv) (turn .taken) (learn-column .ensures .0) (c .enum-told2 .given .1)
 
@@ -77,9 +103,9 @@ enum-told-3 c = search needs
 
 keep-column-requires : tie.Need-keep-column-requires Inv-loop μ-loop
 keep-column-requires c κs =
-    let head = c .before .before .before .before .before .before .before .before .loop in
-    let turn = c .before .before .before .before .before .before .before .loop-test in
-    let start = c .before .before .before .before .before .before .before .before .before .before .before .before .before .before .before in
+    let head = c .before .before .before .before .before .before .before .before .before .loop in
+    let turn = c .before .before .before .before .before .before .before .before .loop-test in
+    let start = c .before .before .before .before .before .before .before .before .before .before .before .before .before .before .before .before .before in
     let s = head .inv in (
       rw (s .high) (rows-most (start .args .plan)),
       omega (arith, learned-here s (turn .taken), sums-most (start .args .plan) (suc (start .args .level))),
@@ -87,9 +113,9 @@ keep-column-requires c κs =
 
 add-j : tie.Need-add-j Inv-loop μ-loop
 add-j c =
-    let head = c .before .before .before .before .before .before .before .before .before .loop in
-    let turn = c .before .before .before .before .before .before .before .before .loop-test in
-    let start = c .before .before .before .before .before .before .before .before .before .before .before .before .before .before .before .before in
+    let head = c .before .before .before .before .before .before .before .before .before .before .loop in
+    let turn = c .before .before .before .before .before .before .before .before .before .loop-test in
+    let start = c .before .before .before .before .before .before .before .before .before .before .before .before .before .before .before .before .before .before in
     omega (arith, learned-here (head .inv) (turn .taken), sums-most (start .args .plan) (suc (start .args .level)))
 
 loop-less : tie.Need-loop-less Inv-loop μ-loop
@@ -97,16 +123,16 @@ loop-less c = search needs
 
 loop-again : tie.Need-loop-again Inv-loop μ-loop
 loop-again c =
-    let head = c .before .before .before .before .before .before .before .before .before .loop in
-    let turn = c .before .before .before .before .before .before .before .before .loop-test in
+    let head = c .before .before .before .before .before .before .before .before .before .before .loop in
+    let turn = c .before .before .before .before .before .before .before .before .before .loop-test in
     let learn-column = c .before .before .before .before .before .learn-column in
     let enum-told3 = c .before .before .before .enum-told3 in
     let column = learn-column .last .1 .1 .1 .1 .1 .1 .1 .0 in
     learned-more (head .inv) (turn .taken) (learn-column .ensures .0) column (enum-told3 .given .1)
     (learn-column .ensures .1) (c .keep-column .ensures)
 
-returns-3 : tie.Need-returns-3 Inv-loop μ-loop
-returns-3 c = learned-ends (c .before .loop .inv) (c .loop-test .left)
+returns-4 : tie.Need-returns-4 Inv-loop μ-loop
+returns-4 c = learned-ends (c .before .loop .inv) (c .loop-test .left)
 
 pub learn-spec : {M : Type 1} → statement M
 learn-spec =
@@ -114,20 +140,24 @@ learn-spec =
     (tie.spec
     Inv-loop
     μ-loop
-    rows-requires
+    facts-of-requires
+    add-totals
+    totals-requires
     sums-to-requires
     add-sums-to
     sums-to-requires-2
     lossy-word-requires
     loop-holds
+    cast-if1
+    returns
     learn-column-requires
     enum-told
-    returns
-    enum-told-2
     returns-2
+    enum-told-2
+    returns-3
     enum-told-3
     keep-column-requires
     add-j
     loop-less
     loop-again
-    returns-3)
+    returns-4)

@@ -10,7 +10,7 @@ use Rattle.plans.specs.Plan.{planOf}
 use Rattle.plans.proofs.Plans.{rows-most}
 use Rattle.plans.proofs.Sizes.{checks-length, weights-length}
 use Rattle.plans.proofs.Numbers.{Weighing, weighing, check-within, check-rows, column-room, column-rows}
-use Rattle.steps.proofs.Learning.{few-totals, weights-within, front-length, target-length, front-lt, target-lt, made-is, filled-is}
+use Rattle.steps.proofs.Learning.{few-totals, weights-within, front-length, target-length, front-lt, target-lt, made-is, filled-is, column-fits}
 use Rattle.steps.proofs.level.learn_column.Statement.{statement}
 use Rattle.steps.proofs.level.learn_column.Tie as tie
 
@@ -108,19 +108,9 @@ slice-aggregate-fill-3 c =
 fill-requires : tie.Need-fill-requires
 fill-requires c κs =
     let start = c .before .before .before .before .before .before .before .before .before .before in
-    let across = c .before .before .before .across in
-    let w = weighed (c .before .before .before .before .before) in
-    let long =
-    column-rows (w .is) (start .pre .0 .1) (suc (start .args .level)) (start .pre .1 .1 .1) (start .args .symbols .now) (across .ensures) in (
+    let w = weighed (c .before .before .before .before .before) in (
       start .pre .0 .0,
-      record {
-        few = rw (target-length w) (omega (arith, few-totals w));
-        narrow = rw (long, w .is .high) (omega (arith, rows-most (start .args .plan)));
-        shape = front-length w ∙ sym (ap₂ _*_ (target-length w) long);
-        within = rw (long, w .is .high) (start .pre .1 .1 .2);
-        coefficients = front-lt w;
-        sums = target-lt w;
-      },
+      column-fits w (start .pre .0 .1) (start .pre .1 .1 .1) (start .args .symbols .now) (c .before .before .before .across .ensures) _ (start .pre .1 .1 .2),
     )
 
 returns : tie.Need-returns
