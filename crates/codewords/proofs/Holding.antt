@@ -1,12 +1,14 @@
--- The tests of the codeword test, each as a walk over rows, checks or levels. Assumes nothing.
+-- The tests of the codeword test, each as a walk over sums, checks or levels. Assumes nothing.
 use mathlib.Core.Path.{_≡_, refl, sym, ap, ap₂, _∙_, subst}
 use mathlib.Core.Bool.{Bool, true, false, _&&_}
-use mathlib.Core.List.{List, [], _∷_, map, map-map, flatMap}
-use Prim.Native.Nat.{ℕ, suc, _+_, _*_, _-_, _≤_, _<_}
+use mathlib.Core.List.{List, [], _∷_, _++_, map, map-map, flatMap}
+use Prim.Native.Nat.{ℕ, zero, suc, _+_, _*_, _-_, _≤_, _<_}
+use native.Mathlib.Numerals.{add-one}
 use native.Mathlib.Omega.{arith}
 use borrow.Author.Tests.{eqb-true, eq-eqb, ne-eqb}
 use lib.Dec.{T, eqb}
-use lib.ListN.{length, getD, take, drop}
+use lib.ListN.{length, getD, take, drop, replicate, drop-of-length-le}
+use lib.Seq.{take-at, drop-cons}
 use Rattle.field.specs.Lists.{if_then_else_, upFrom}
 use Rattle.field.specs.Field.{Field, dot}
 use Rattle.field.specs.Ours.{fieldOf}
@@ -19,11 +21,13 @@ use Rattle.codewords.specs.Codeword.{rowsHold, totalsHold, isCodeword, t
 use Rattle.plans.specs.declared.Verdict.the-variants.{Yes, No, Refused}
 use Rattle.plans.specs.Tables.{padded, checkTable, weightTable, rowSums}
 use Rattle.plans.proofs.Refusals.{passed}
+use Rattle.plans.proofs.Plans.{rows-most}
+use Rattle.plans.proofs.Padded.{length-padded}
 use Rattle.plans.proofs.Flat.{rowIn}
 use Rattle.plans.proofs.Tables.{checks-in, level-checks-in, checks-more, sums-more}
-use Rattle.plans.proofs.Sizes.{checks-room, checks-length}
-use Rattle.plans.proofs.Parts.{part, part-of, part-length, rows-of, map-up-shift}
-use Rattle.plans.proofs.Numbers.{Numbers, Weighing, row-within, row-part, column-rows, column-is, weights-are, weights-suffice}
+use Rattle.plans.proofs.Parts.{part, part-of, rows-of, map-up-shift}
+use Rattle.plans.proofs.Numbers.{Numbers, Weighing, column-rows, column-is, weights-are, weights-suffice}
+use Rattle.plans.proofs.Summing.{row-sums-length}
 use Rattle.codewords.proofs.Walk.{all-map, Walking, walking-turns, walking-fails, walking-ends}
 
 -- ---- checks that give 0
@@ -54,58 +58,134 @@ module _ (F : Field) (checks : List ℕ) (m : ℕ) (v : List ℕ) where
   pub vanish-ends : {i : ℕ} → m ≤ i → Walking (gives0 F checks v) 0 m i → true ≡ vanish (sumsOf F (rowsOf m (length v) checks) v)
   vanish-ends end w = sym (vanish-walk ∙ walking-ends (gives0 F checks v) 0 m (omega arith) w)
 
--- ---- rows
+-- ---- a column of zeros
 
--- the level-1 sums of row r are zero
-unfoldable pub rowHolds : Plan → List ℕ → ℕ → Bool
-rowHolds P stripe r = vanish (sumsOf (P .field) (levelOf P 1 .checks) (rowAt P stripe r))
+-- what is left of the test when the sums before i are looked at
+pub record Zeroing (column : List ℕ) (zero : Bool) (i : ℕ) : Type 0 where
+  pub left : zero && vanish (drop i column) ≡ vanish column
 
-first-checks : (p : ℕ) → rowsOf (length (checksTo (planOf p) 1)) (planOf p .columns) (checkTable (planOf p)) ≡ levelOf (planOf p) 1 .checks
-unfolding checksTo flatMap
-first-checks p = rows-of _ _ _ ∙ checks-in p 1 ∙ checks-more (planOf p) 0
+pub zeroing-starts : (column : List ℕ) → Zeroing column true 0
+zeroing-starts column = record { left = refl }
 
--- the rows before r hold
-pub record RowsHolding (p q rows n m : ℕ) (stripe : List ℕ) (r : ℕ) : Type 0 where
+module _ {column : List ℕ} {zero : Bool} {i : ℕ} (s : Zeroing column zero i) where
+  zeroing-next : i < length column → vanish (drop i column) ≡ eqb (getD column i 0) 0 && vanish (drop (i + 1) column)
+  unfolding vanish all
+  zeroing-next h = ap vanish (drop-cons column i 0 h) ∙ ap (λ k. eqb (getD column i 0) 0 && vanish (drop k column)) (sym (add-one i))
+
+  pub zeroing-keeps : i < length column → getD column i 0 ≡ 0 → Zeroing column zero (i + 1)
+  zeroing-keeps h z = record {
+    left =
+        ap (λ b. zero && (b && vanish (drop (i + 1) column))) (sym (eq-eqb _ 0 z))
+        ∙ ap (λ b. zero && b) (sym (zeroing-next h)) ∙ s .left;
+  }
+
+  pub zeroing-drops : i < length column → (getD column i 0 ≡ 0 → ⊥) → Zeroing column false (i + 1)
+  zeroing-drops h nz = record {
+    left =
+        sym (and-false zero)
+        ∙ ap (λ b. zero && (b && vanish (drop (i + 1) column))) (sym (ne-eqb _ 0 nz))
+        ∙ ap (λ b. zero && b) (sym (zeroing-next h)) ∙ s .left;
+  }
+    where
+      and-false : (b : Bool) → b && false ≡ false
+      and-false true = refl
+      and-false false = refl
+
+  pub zeroing-ends : length column ≤ i → zero ≡ vanish column
+  unfolding vanish all
+  zeroing-ends end = sym (and-true zero) ∙ ap (λ l. zero && vanish l) (sym (drop-of-length-le column end)) ∙ s .left
+    where
+      and-true : (b : Bool) → b && true ≡ b
+      and-true true = refl
+      and-true false = refl
+
+-- zeros behind a list change nothing
+vanish-padded : (n : ℕ) (xs : List ℕ) → vanish (padded n xs) ≡ vanish xs
+unfolding vanish all padded
+vanish-padded n xs = go xs (n - length xs)
+  where
+    zeros : (k : ℕ) → vanish (replicate k 0) ≡ true
+    zeros zero = refl
+    zeros (suc k) = zeros k
+
+    go : (xs : List ℕ) (k : ℕ) → vanish (xs ++ replicate k 0) ≡ vanish xs
+    go [] k = zeros k
+    go (x ∷ xs) k = ap (λ b. eqb x 0 && b) (go xs k)
+
+-- ---- rows, check by check
+
+all-both : {A : Type 0} (p q : A → Bool) (l : List A) → all p l && all q l ≡ all (λ x. p x && q x) l
+unfolding all
+all-both p q [] = refl
+all-both p q (x ∷ l) = four (p x) (all p l) (q x) (all q l) ∙ ap (λ b. p x && q x && b) (all-both p q l)
+  where
+    four : (a b c d : Bool) → (a && b) && (c && d) ≡ a && c && (b && d)
+    four false b c d = refl
+    four true false false d = refl
+    four true false true d = refl
+    four true true c d = refl
+
+all-true : {A : Type 0} (l : List A) → all (λ x. true) l ≡ true
+unfolding all
+all-true [] = refl
+all-true (x ∷ l) = all-true l
+
+-- each row of a matrix is zero where each column is
+vanish-turned : {A B : Type 0} (f : A → B → ℕ) (xs : List A) (ys : List B) → all (λ x. vanish (map (f x) ys)) xs ≡ all (λ y. vanish (map (λ x. f x y) xs)) ys
+unfolding vanish all
+vanish-turned f [] ys = sym (all-true ys)
+vanish-turned f (x ∷ xs) ys =
+    ap₂ _&&_ (all-map (λ z. eqb z 0) (f x) ys) (vanish-turned f xs ys)
+    ∙ all-both (λ y. eqb (f x y) 0) (λ y. vanish (map (λ x. f x y) xs)) ys
+
+-- the rows' sums under check j are zero
+unfoldable pub sumsHold : Plan → List ℕ → ℕ → Bool
+sumsHold P stripe j = vanish (across P stripe (rowIn (P .columns) (checkTable P) j))
+
+rows-walk : (p : ℕ) (stripe : List ℕ) → let P = planOf p in rowsHold P stripe ≡ all (sumsHold P stripe) (upFrom 0 (length (checksTo P 1)))
+unfolding sumsHold rowsHold sumsOf across checksTo flatMap
+rows-walk p stripe =
+    let P = planOf p in
+    vanish-turned (λ r c. dot (P .field) c (rowAt P stripe r)) (upFrom 0 (P .rows)) (levelOf P 1 .checks)
+    ∙ ap (all (λ c. vanish (across P stripe c))) (sym (checks-in p 1 ∙ checks-more P 0))
+    ∙ all-map (λ c. vanish (across P stripe c)) (rowIn (P .columns) (checkTable P)) _
+
+-- the rows' sums under the checks before j are zero
+pub record RowsHolding (p q rows n m : ℕ) (stripe : List ℕ) (j : ℕ) : Type 0 where
   pub is : Numbers p q rows n
   pub count : m ≡ length (checksTo (planOf p) 1)
-  pub walk : Walking (rowHolds (planOf p) stripe) 0 rows r
+  pub walk : Walking (sumsHold (planOf p) stripe) 0 (length (checksTo (planOf p) 1)) j
 
-module _ {p q rows n m r : ℕ} {checks stripe : List ℕ} (long : planOf p .rows * planOf p .columns ≤ length stripe)
-    (lent : checks ≡ checkTable (planOf p)) (more : r < rows) (s : RowsHolding p q rows n m stripe r) where
-  pub rows-within : r * n + n ≤ length stripe
-  rows-within = row-within (s .is) long more
+module _ {p q rows n m j : ℕ} {checks stripe : List ℕ} (lent : checks ≡ checkTable (planOf p)) (more : j < m)
+    (s : RowsHolding p q rows n m stripe j) where
+  pub rows-here : j < length (checksTo (planOf p) 1)
+  rows-here = rw (← s .count) more
 
-  abbrev row : List ℕ
-  row = part (r * n) n stripe
+  module _ {column : List ℕ} (made : column ≡ padded 8 (rowSums (fieldOf q) rows stripe (part (j * n) n checks))) where
+    abbrev sums : List ℕ
+    sums = rowSums (fieldOf q) rows stripe (part (j * n) n checks)
 
-  row-length : length row ≡ planOf p .columns
-  row-length = part-length (r * n) n stripe rows-within ∙ s .is .wide
+    sums-rows : length sums ≡ rows
+    sums-rows = row-sums-length (fieldOf q) rows stripe (part (j * n) n checks)
 
-  pub rows-checks : m * length row ≤ length checks
-  rows-checks = rw (s .count, row-length, lent, checks-length p) (checks-room p 1)
+    pub rows-long : length column ≡ 8
+    rows-long = ap length made ∙ length-padded 8 sums (rw (sums-rows, s .is .high) (rows-most p))
 
-  module _ {b : Bool} (e : b ≡ vanish (sumsOf (fieldOf q) (rowsOf m (length row) checks) row)) where
-    its-row : b ≡ rowHolds (planOf p) stripe r
-    unfolding rowHolds
-    its-row =
-        e ∙ ap₂ (λ cs w. vanish (sumsOf (fieldOf q) cs w))
-        (ap₂ (λ k l. rowsOf k (length row) l) (s .count) lent
-        ∙ ap (λ k. rowsOf (length (checksTo (planOf p) 1)) k (checkTable (planOf p))) row-length ∙ first-checks p)
-        (row-part (s .is) stripe r)
-        ∙ ap (λ F. vanish (sumsOf F (levelOf (planOf p) 1 .checks) (rowAt (planOf p) stripe r))) (s .is .field)
+    module _ {b : Bool} (e : b ≡ vanish column) where
+      its-sums : b ≡ sumsHold (planOf p) stripe j
+      unfolding sumsHold padded
+      its-sums =
+          e ∙ ap vanish made ∙ vanish-padded 8 sums
+          ∙ ap vanish (sym (ap (take rows) made ∙ take-at sums _ rows sums-rows) ∙ column-is (s .is) lent 1 rows-here stripe made)
 
-    pub rows-turn : b ≡ true → RowsHolding p q rows n m stripe (r + 1)
-    rows-turn t = record { is = s .is; count = s .count; walk = walking-turns _ 0 rows (omega arith) (sym its-row ∙ t) (s .walk) }
+      pub rows-turn : b ≡ true → RowsHolding p q rows n m stripe (j + 1)
+      rows-turn t = record { is = s .is; count = s .count; walk = walking-turns _ 0 _ (omega (arith, rows-here)) (sym its-sums ∙ t) (s .walk) }
 
-    pub rows-fail : b ≡ false → false ≡ rowsHold (planOf p) stripe
-    unfolding rowHolds rowsHold
-    rows-fail f =
-        sym (walking-fails _ 0 rows (omega arith) (sym its-row ∙ f) (s .walk)) ∙ ap (λ k. all (rowHolds (planOf p) stripe) (upFrom 0 k)) (s .is .high)
+      pub rows-fail : b ≡ false → false ≡ rowsHold (planOf p) stripe
+      rows-fail f = sym (rows-walk p stripe ∙ walking-fails _ 0 _ (omega (arith, rows-here)) (sym its-sums ∙ f) (s .walk))
 
-pub rows-end : {p q rows n m r : ℕ} {stripe : List ℕ} → rows ≤ r → RowsHolding p q rows n m stripe r → true ≡ rowsHold (planOf p) stripe
-unfolding rowHolds rowsHold
-rows-end {p} {q} {rows} {n} {m} {r} {stripe} end s =
-    sym (walking-ends _ 0 rows (omega arith) (s .walk)) ∙ ap (λ k. all (rowHolds (planOf p) stripe) (upFrom 0 k)) (s .is .high)
+pub rows-end : {p q rows n m j : ℕ} {stripe : List ℕ} → m ≤ j → RowsHolding p q rows n m stripe j → true ≡ rowsHold (planOf p) stripe
+rows-end {p} {q} {rows} {n} {m} {j} {stripe} end s = sym (rows-walk p stripe ∙ walking-ends _ 0 _ (omega (arith, s .count)) (s .walk))
 
 -- ---- totals
 
