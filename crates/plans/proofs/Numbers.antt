@@ -15,7 +15,7 @@ use Rattle.plans.specs.Tables.{FactsOf, padded, checkTable, weightTable,
 use Rattle.plans.specs.declared.plan.Facts.{Facts}
 use Rattle.plans.proofs.Rows.{row-end}
 use Rattle.plans.proofs.Plans.{rows-most}
-use Rattle.plans.proofs.Sizes.{checks-room, checks-length, weights-room, weights-length}
+use Rattle.plans.proofs.Sizes.{checks-room, weights-room, weights-length}
 use Rattle.plans.proofs.Padded.{length-padded}
 use Rattle.plans.proofs.Flat.{rowIn}
 use Rattle.plans.proofs.Tables.{weights-in}
@@ -43,7 +43,7 @@ module _ {p q rows n : ℕ} (is : Numbers p q rows n) where
 
   module _ {checks : List ℕ} (lent : checks ≡ checkTable (planOf p)) (t : ℕ) {j : ℕ} (more : j < length (checksTo (planOf p) t)) where
     pub check-within : j * n + n ≤ length checks
-    check-within = rw (lent, checks-length p) (le-trans (row-end n more) (rw (is .wide) (checks-room p t)))
+    check-within = rw lent (le-trans (row-end n more) (rw (is .wide) (checks-room p t)))
 
     pub check-length : length (part (j * n) n checks) ≡ n
     check-length = part-length (j * n) n checks check-within

@@ -1,10 +1,11 @@
 -- The plans' rows, checks and weights fit the code's arrays, for every plan number. Assumes nothing.
-use mathlib.Core.Path.{_≡_, refl}
+use mathlib.Core.Path.{_≡_, refl, ap, _∙_}
 use mathlib.Core.List.{flatMap}
 use Prim.Native.Nat.{ℕ, pred, _*_, _≤_}
-use native.Mathlib.Nat.{mul-le-mul}
+use native.Mathlib.Nat.{mul-le-mul, le-refl}
+use native.Mathlib.Omega.{arith}
 use lib.Dec.{T, eqb, leb, eqb→eq, leb→le}
-use lib.ListN.{length}
+use lib.ListN.{length, length-append}
 use Rattle.field.specs.Lists.{upFrom}
 use Rattle.field.specs.Field.{_⊕_, size, double, times, mul, gf16, gf32}
 use Rattle.field.specs.Power.{power}
@@ -13,17 +14,22 @@ use Rattle.plans.specs.Plan.{Level, ones, bitChecks, locations1, plan1, 
 use Rattle.plans.specs.Tables.{padded, flat, checkTable, weightTable}
 use Rattle.plans.proofs.Plans.{of-plans, rows-most, columns-most}
 use Rattle.plans.proofs.Flat.{all-getD}
-use Rattle.plans.proofs.Tables.{sums-most}
+use Rattle.plans.proofs.Tables.{checks-before, sums-most}
 
 -- ---- checks
 
-pub checks-room : (p t : ℕ) → length (checksTo (planOf p) t) * planOf p .columns ≤ 512
-checks-room p t = mul-le-mul (sums-most p t) (columns-most p)
-
-pub checks-length : (p : ℕ) → length (checkTable (planOf p)) ≡ 512
+checks-all : (p : ℕ) → length (checkTable (planOf p)) ≡ length (checksTo (planOf p) (length (planOf p .levels))) * planOf p .columns
 unfolding upFrom flatMap _⊕_ size double times mul gf16 gf32 power
     ones bitChecks locations1 plan1 locations2 powers2 plan2 locations3 powers3 plan3 noPlan checksTo padded flat checkTable
-checks-length = of-plans (λ P. length (checkTable P) ≡ 512) refl refl refl refl
+checks-all = of-plans (λ P. length (checkTable P) ≡ length (checksTo P (length (P .levels))) * P .columns) refl refl refl refl
+
+pub checks-room : (p t : ℕ) → length (checksTo (planOf p) t) * planOf p .columns ≤ length (checkTable (planOf p))
+checks-room p t =
+    let all = ap length (checks-before (planOf p) t) ∙ length-append (checksTo (planOf p) t) _ in
+    rw (checks-all p) (mul-le-mul (omega (arith, all)) (le-refl (planOf p .columns)))
+
+pub checks-length : (p : ℕ) → length (checkTable (planOf p)) ≤ 512
+checks-length p = rw (checks-all p) (mul-le-mul (sums-most p (length (planOf p .levels))) (columns-most p))
 
 -- ---- weights
 

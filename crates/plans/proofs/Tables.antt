@@ -80,7 +80,7 @@ unfolding checkTable
 checks-in p t =
     let P = planOf p in
     let before = checks-before P t in
-    rows-in (P .columns) 512 _ (wide-checks p) 0 (length (checksTo P t)) (rw (before, length-append) (omega arith))
+    rows-in (P .columns) 0 _ (wide-checks p) 0 (length (checksTo P t)) (rw (before, length-append) (omega arith))
     ∙ ap (take (length (checksTo P t))) before ∙ take-append-seam (checksTo P t) _
 
 -- then those of level t + 1
@@ -90,7 +90,7 @@ unfolding checkTable
 level-checks-in p t =
     let P = planOf p in
     let before = checks-before P (suc t) ∙ ap (λ cs. cs ++ checksIn (drop (suc t) (P .levels))) (checks-more P t) in
-    rows-in (P .columns) 512 _ (wide-checks p) (length (checksTo P t)) (length (levelOf P (suc t) .checks))
+    rows-in (P .columns) 0 _ (wide-checks p) (length (checksTo P t)) (length (levelOf P (suc t) .checks))
     (rw (before, length-append, length-append) (omega arith))
     ∙ ap (λ cs. take (length (levelOf P (suc t) .checks)) (drop (length (checksTo P t)) cs)) before
     ∙ between (checksTo P t) (levelOf P (suc t) .checks) _
@@ -117,7 +117,7 @@ table-lt p n rows t i =
 
 pub checks-lt : (p i : ℕ) → getD (checkTable (planOf p)) i 0 < size (planOf p .field)
 unfolding checkTable
-checks-lt p i = table-lt p 512 _ (small-checks p) i
+checks-lt p i = table-lt p 0 _ (small-checks p) i
 
 pub weights-lt : (p t i : ℕ) → getD (weightTable (planOf p) t) i 0 < size (planOf p .field)
 unfolding flatMap all noLevel levelOf allBelow weightTable

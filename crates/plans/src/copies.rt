@@ -4,18 +4,6 @@ ghost use Prim.Native.Nat.{_≤_};
 ghost use lib.ListN.{length, take};
 ghost use Rattle.plans.specs.Tables.{padded};
 
-// A table of coefficients.
-pub fn table_of(coefficients: &[u8]) -> [u8; 512]
-    requires { ⌜ length (now coefficients) ≤ 512 ⌝ }
-    ensures { λ r. ⌜ r ≡ padded 512 (now (coefficients .entry)) ⌝ }
-{
-    let mut table = [0u8; 512];
-    for i in 0..coefficients.len() {
-        table[i] = coefficients[i];
-    }
-    table
-}
-
 // A bench's symbols.
 pub fn symbols_of(stripe: &[u8]) -> [u8; 256]
     requires { ⌜ length (now stripe) ≤ 256 ⌝ }

@@ -1,5 +1,4 @@
 // Facts of a plan by its number, and the tables of its checks. A number that is no plan's has the plan with nothing in it.
-use crate::copies;
 ghost use mathlib.Core.Path.{_≡_};
 ghost use lib.ListN.{length};
 ghost use Rattle.plans.specs.Plan.{planOf, known, levelOf, checksTo, «carried» as carriedBy, fileLength};
@@ -187,12 +186,12 @@ const CHECKS_3: [u8; 105] = *b"\
     \x01\x06\x07\x01\x06\x07\x01\x06\x07\x01\x06\x07\x01\x06\x07\
     \x01\x0c\x0f\x08\x0a\x01\x0c\x0f\x08\x0a\x01\x0c\x0f\x08\x0a";
 
-// The row checks of all levels, one behind the other, and zeros behind them: a function for each plan, so that the caller's code is
-// compiled for that plan's table.
-pub fn row_checks_1() -> [u8; 512]
+// The row checks of all levels, one behind the other: a function for each plan, so that the caller's code is compiled for that plan's
+// table.
+pub fn row_checks_1() -> [u8; 28]
     ensures { λ r. ⌜ r ≡ checkTable (planOf 1) ⌝ }
 {
-    copies::table_of(&CHECKS_1)
+    CHECKS_1
 }
 
 pub fn row_checks_2() -> [u8; 512]
@@ -201,10 +200,10 @@ pub fn row_checks_2() -> [u8; 512]
     CHECKS_2
 }
 
-pub fn row_checks_3() -> [u8; 512]
+pub fn row_checks_3() -> [u8; 105]
     ensures { λ r. ⌜ r ≡ checkTable (planOf 3) ⌝ }
 {
-    copies::table_of(&CHECKS_3)
+    CHECKS_3
 }
 
 // The weights of a level, one total behind the other, and zeros behind them.

@@ -18,7 +18,7 @@ use Rattle.plans.proofs.Flat.{rowIn}
 use Rattle.plans.proofs.Tables.{checks-in}
 use Rattle.plans.proofs.Rows.{row-end}
 use Rattle.plans.proofs.Shape.{shape}
-use Rattle.plans.proofs.Sizes.{checks-room, checks-length}
+use Rattle.plans.proofs.Sizes.{checks-room}
 use Rattle.plans.proofs.Parts.{part, part-of, part-length}
 
 module _ (p t j : ℕ) (h : j < length (checksTo (planOf p) t)) where
@@ -37,7 +37,7 @@ module _ (p t j : ℕ) (h : j < length (checksTo (planOf p) t)) where
 -- ---- by the code's numbers
 
 module _ (p : ℕ) (f : Facts) (is : FactsOf (planOf p) f) where
-  pub check-place : (t j : ℕ) → j < length (checksTo (planOf p) t) → j * f .columns + f .columns ≤ 512
+  pub check-place : (t j : ℕ) → j < length (checksTo (planOf p) t) → j * f .columns + f .columns ≤ length (checkTable (planOf p))
   check-place t j h = rw (is .columns) (le-trans (row-end (planOf p .columns) h) (checks-room p t))
 
   pub row-places : T (known p) → (r : ℕ) → r < planOf p .rows → r * f .columns + f .columns ≤ 256
@@ -56,5 +56,5 @@ module _ (p : ℕ) (f : Facts) (is : FactsOf (planOf p) f) where
       → checks ≡ checkTable (planOf p) → length symbols ≡ 256
       → length (part (j * f .columns) (f .columns) checks) ≡ length (part (r * f .columns) (f .columns) symbols)
   parts-alike t j r checks symbols h k inside e l =
-      part-length (j * f .columns) (f .columns) checks (rw (e, checks-length p) (check-place t j h))
+      part-length (j * f .columns) (f .columns) checks (rw e (check-place t j h))
       ∙ sym (part-length (r * f .columns) (f .columns) symbols (rw l (row-places k r inside)))

@@ -3,7 +3,7 @@ use mathlib.Core.Path.{_≡_, refl, sym, ap, ap₂, _∙_, subst}
 use mathlib.Core.Bool.{Bool}
 use mathlib.Core.List.{List, [], _∷_, _++_, map}
 use Prim.Native.Nat.{ℕ, zero, suc, _+_, _*_, _-_, _^_, _<_, _≤_}
-use native.Mathlib.Nat.{suc-mul, zero-mul, add-comm, add-zero, add-suc}
+use native.Mathlib.Nat.{le-trans, suc-mul, zero-mul, add-comm, add-zero, add-suc}
 use native.Mathlib.Omega.{arith}
 use lib.Count.{ones}
 use lib.Dec.{T, ltb, ltb→lt, lt→ltb}
@@ -96,8 +96,11 @@ module _ {p t : ℕ} {f : Facts} {m : ℕ} {checks sums symbols : List ℕ} {r :
   pub few : m ≤ 16
   few = omega (arith, count, shape p k .sums-le, ap length (checks-before P t) ∙ length-append (checksTo P t) _)
 
+  checks-fit : m * f .columns ≤ length (checkTable P)
+  checks-fit = rw (count, is .columns) (checks-room p t)
+
   pub checks-end : m * f .columns ≤ 512
-  checks-end = rw (count, is .columns) (checks-room p t)
+  checks-end = le-trans checks-fit (checks-length p)
 
   pub sums-end : r * 16 + m ≤ 128
   sums-end = omega (arith, few, shape p k .rows-le)
@@ -120,7 +123,7 @@ module _ {p t : ℕ} {f : Facts} {m : ℕ} {checks sums symbols : List ℕ} {r :
   row-count = part-length (r * f .columns) (f .columns) symbols (omega (arith, row-end))
 
   pub checks-long : length lentChecks ≡ m * f .columns
-  checks-long = length-take-le (m * f .columns) checks (rw (table, checks-length p) checks-end)
+  checks-long = length-take-le (m * f .columns) checks (rw table checks-fit)
 
   pub checks-count : length lentChecks ≡ length lentSums * length lentRow
   checks-count = checks-long ∙ sym (ap₂ _*_ sums-count row-count)

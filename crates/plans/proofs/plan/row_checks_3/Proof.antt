@@ -1,6 +1,6 @@
 -- `plan::row_checks_3` meets its contract: one test, coefficient by coefficient. Assumes nothing.
+use mathlib.Core.Path.{refl}
 use mathlib.Core.List.{flatMap}
-use borrow.Author.Needs.{needs}
 use Rattle.field.specs.Lists.{upFrom}
 use Rattle.field.specs.Field.{_⊕_, size, double, times, mul, gf16}
 use Rattle.field.specs.Power.{power}
@@ -9,15 +9,9 @@ use Rattle.plans.specs.Tables.{padded, flat, checkTable}
 use Rattle.plans.proofs.plan.row_checks_3.Statement.{statement}
 use Rattle.plans.proofs.plan.row_checks_3.Tie as tie
 
-slice-aggregate-table-of : tie.Need-slice-aggregate-table-of
-slice-aggregate-table-of c = search needs
-
-table-of-requires : tie.Need-table-of-requires
-table-of-requires c κs = search needs
-
 returns : tie.Need-returns
 unfolding upFrom flatMap _⊕_ size double times mul gf16 power locations3 powers3 plan3 planOf checksTo padded flat checkTable
-returns c = c .table-of .ensures
+returns c = refl
 
 pub row-checks-3-spec : {M : Type 1} → statement M
-row-checks-3-spec = tie.close (tie.spec slice-aggregate-table-of table-of-requires returns)
+row-checks-3-spec = tie.close (tie.spec returns)

@@ -16,10 +16,10 @@ facts-of-requires : tie.Need-facts-of-requires
 facts-of-requires c κs = search needs
 
 mul-first : tie.Need-mul-first
-mul-first c = record { fits = omega (arith, check-place _ _ (c .facts-of .ensures) _ _ (c .before .before .before .pre .1 .1 .2)) }
+mul-first c = record { fits = omega (arith, check-place _ _ (c .facts-of .ensures) _ _ (c .before .before .before .pre .1 .1 .2), checks-length (c .before .before .before .args .plan)) }
 
 add-last : tie.Need-add-last
-add-last c = record { fits = omega (arith, check-place _ _ (c .facts-of .ensures) _ _ (c .before .before .before .pre .1 .1 .2)) }
+add-last c = record { fits = omega (arith, check-place _ _ (c .facts-of .ensures) _ _ (c .before .before .before .pre .1 .1 .2), checks-length (c .before .before .before .args .plan)) }
 
 mul-start : tie.Need-mul-start
 mul-start c = record { fits = omega (arith, row-places _ _ (c .facts-of .ensures) (c .before .before .before .pre .1 .1 .0) _ (c .before .before .before .pre .1 .1 .1)) }
