@@ -2,3 +2,4 @@
 pub mod Writing
 pub mod Stripes
 pub mod Files
+pub mod Laws

@@ -31,6 +31,7 @@ use Rattle.plans.proofs.Rows.{row-length, row-again, marks-length}
 use Rattle.steps.proofs.Fit.{Sized, BenchFit, bench-fit}
 use Rattle.steps.proofs.Sound.{row-place}
 use Rattle.steps.proofs.Unmarked.{Clear, bits-clear, clear-one, clear-none}
+use Rattle.files.proofs.Laws.{bytes-fit}
 use Rattle.files.proofs.Files.{word-behind, words-bytes, words-at, length-bytes}
 use Rattle.shelf.specs.Layout.{benchSize, benchBytes, benchIn}
 use Rattle.shelf.specs.Calls.{stepAnswer, stepBuffer}
@@ -80,11 +81,6 @@ written-is-read b c =
     ∙ ap₂ (λ m s. benchOf (b .plan) (b .level) (b .symbols) m s) (marks-read b c) (sums-read b c)
 
 -- ---- what was read is written
-
-bytes-fit : (l : List ℕ) → T (allBelow 256 l) → Fit 256 l
-unfolding all allBelow
-bytes-fit [] t = tt
-bytes-fit (x ∷ l) t = (ltb→lt x 256 (both-left (ltb x 256) (allBelow 256 l) t), bytes-fit l (both-right (ltb x 256) (allBelow 256 l) t))
 
 first-two : (l : List ℕ) → 2 ≤ length l → take 2 l ≡ getD l 0 0 ∷ getD l 1 0 ∷ []
 first-two [] h = absurd (omega arith)
