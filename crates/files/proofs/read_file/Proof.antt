@@ -1,4 +1,4 @@
--- `repair::read_file` meets its contract: refused, stripe and marks stay; else both are read. Assumes nothing.
+-- `read_file` meets its contract: refused, stripe and marks stay; else both are read. Assumes nothing.
 use mathlib.Core.Bool.{_&&_}
 use mathlib.Core.Path.{_≡_, sym, ap, _∙_}
 use native.Mathlib.Nat.{le-of-eq}

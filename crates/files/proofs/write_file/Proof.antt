@@ -1,4 +1,4 @@
--- `repair::write_file` meets its contract: refused, the file stays; else it is written whole. Assumes nothing.
+-- `write_file` meets its contract: refused, the file stays; else it is written whole. Assumes nothing.
 use mathlib.Core.Path.{_∙_}
 use borrow.Author.Needs.{needs}
 use Rattle.repair.specs.File.{writeFile}

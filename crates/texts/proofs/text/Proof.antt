@@ -1,4 +1,4 @@
--- `repair::text` meets its contract: the text fits, and the rest of the room is zeros. Assumes nothing.
+-- `text` meets its contract: the text fits, and the rest of the room is zeros. Assumes nothing.
 use mathlib.Core.Path.{_∙_}
 use native.Mathlib.Nat.{zero-add}
 use borrow.Author.Needs.{needs}

@@ -1,4 +1,4 @@
--- `repair::buffer::put` meets its contract: after i turns the first i bytes are copied. Assumes nothing.
+-- `buffer::put` meets its contract: after i turns the first i bytes are copied. Assumes nothing.
 use mathlib.Core.Path.{_≡_, refl}
 use Prim.Native.Nat.{_-_}
 use native.Mathlib.Omega.{arith}

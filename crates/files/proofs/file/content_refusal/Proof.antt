@@ -1,4 +1,4 @@
--- `files::file::content_refusal` meets its contract: the first test that fails gives its number. Assumes nothing.
+-- `file::content_refusal` meets its contract: the first test that fails gives its number. Assumes nothing.
 use mathlib.Core.Path.{_≡_, sym, _∙_}
 use mathlib.Core.Bool.{true}
 use borrow.Author.Tests.{not-true, not-false}

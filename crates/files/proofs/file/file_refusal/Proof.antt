@@ -1,4 +1,4 @@
--- `files::file::file_refusal` meets its contract: the first test that fails gives its number. Assumes nothing.
+-- `file::file_refusal` meets its contract: the first test that fails gives its number. Assumes nothing.
 use mathlib.Core.Bool.{true}
 use mathlib.Core.Path.{_≡_, sym, ap, subst, _∙_}
 use borrow.Author.Tests.{le-leb, lt-leb, eq-eqb, ne-eqb, not-true, not-false}

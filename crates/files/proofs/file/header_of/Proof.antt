@@ -1,4 +1,4 @@
--- `files::file::header_of` meets its contract: the bytes are those of the definition, and fit bytes by the plans' sizes. Assumes nothing.
+-- `file::header_of` meets its contract: the bytes are those of the definition, and fit bytes by the plans' sizes. Assumes nothing.
 use native.Mathlib.Omega.{arith}
 use borrow.Author.Needs.{needs}
 use Rattle.repair.specs.File.{bytes2, headerOf}

@@ -1,4 +1,4 @@
--- `repair::file::is_blank` meets its contract: the symbols are compared with themselves blanked. Assumes nothing.
+-- `file::is_blank` meets its contract: the symbols are compared with themselves blanked. Assumes nothing.
 use mathlib.Core.Path.{_≡_, sym, ap, _∙_}
 use Prim.Native.Nat.{_≤_}
 use native.Mathlib.Omega.{arith}

@@ -1,4 +1,4 @@
--- `repair::file::kept` meets its contract: by the mark. Assumes nothing.
+-- `file::kept` meets its contract: by the mark. Assumes nothing.
 use mathlib.Core.Path.{sym, _∙_}
 use borrow.Author.Needs.{needs}
 use Rattle.field.specs.Lists.{if_then_else_}

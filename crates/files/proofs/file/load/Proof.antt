@@ -1,4 +1,4 @@
--- `repair::file::load` meets its contract: the symbols stand behind the marks. Assumes nothing.
+-- `file::load` meets its contract: the symbols stand behind the marks. Assumes nothing.
 use mathlib.Core.Path.{ap, _∙_}
 use Prim.Native.Nat.{_*_}
 use native.Mathlib.Omega.{arith}

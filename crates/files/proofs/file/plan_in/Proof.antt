@@ -1,4 +1,4 @@
--- `repair::file::plan_in` meets its contract: an empty file has plan number 0. Assumes nothing.
+-- `file::plan_in` meets its contract: an empty file has plan number 0. Assumes nothing.
 use mathlib.Core.Path.{sym}
 use native.Mathlib.Nat.{le-of-eq}
 use native.Mathlib.Omega.{arith}

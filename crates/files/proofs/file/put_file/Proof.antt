@@ -1,4 +1,4 @@
--- `files::file::put_file` meets its contract: header, marks and symbols stand one behind the other, and fill the file. Assumes nothing.
+-- `file::put_file` meets its contract: header, marks and symbols stand one behind the other, and fill the file. Assumes nothing.
 use mathlib.Core.Path.{_≡_, sym, ap, _∙_}
 use native.Mathlib.Omega.{arith}
 use borrow.Author.Needs.{needs}

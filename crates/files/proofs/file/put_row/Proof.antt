@@ -1,4 +1,4 @@
--- `repair::file::put_row` meets its contract: after c turns the first c symbols are written, 0 under marks. Assumes nothing.
+-- `file::put_row` meets its contract: after c turns the first c symbols are written, 0 under marks. Assumes nothing.
 use mathlib.Core.Path.{_≡_, refl, sym, ap, _∙_}
 use Prim.Native.Nat.{_+_, _-_}
 use native.Mathlib.Omega.{arith}

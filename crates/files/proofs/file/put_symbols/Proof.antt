@@ -1,4 +1,4 @@
--- `repair::file::put_symbols` meets its contract: after r turns the first r rows are written. Assumes nothing.
+-- `file::put_symbols` meets its contract: after r turns the first r rows are written. Assumes nothing.
 use mathlib.Core.Path.{ap₂, _≡_, refl}
 use Prim.Native.Nat.{_+_, _*_, _-_}
 use native.Mathlib.Nat.{add-mul}

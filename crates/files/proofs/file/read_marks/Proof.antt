@@ -1,4 +1,4 @@
--- `repair::file::read_marks` meets its contract: after r turns the first r words are read. Assumes nothing.
+-- `file::read_marks` meets its contract: after r turns the first r words are read. Assumes nothing.
 use mathlib.Core.Path.{sym, _∙_}
 use Prim.Native.Nat.{_-_}
 use native.Mathlib.Omega.{arith}

@@ -1,4 +1,4 @@
--- `repair::file::same` meets its contract: the bytes passed are equal; one that differs tells the lists apart. Assumes nothing.
+-- `file::same` meets its contract: the bytes passed are equal; one that differs tells the lists apart. Assumes nothing.
 use mathlib.Core.Path.{ap, _≡_, refl}
 use Prim.Native.Nat.{ℕ, _-_, _<_, _≤_}
 use native.Mathlib.Omega.{arith}

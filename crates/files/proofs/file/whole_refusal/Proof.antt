@@ -1,4 +1,4 @@
--- `files::file::whole_refusal` meets its contract: the marks and the symbols are cut out of the file. Assumes nothing.
+-- `file::whole_refusal` meets its contract: the marks and the symbols are cut out of the file. Assumes nothing.
 use mathlib.Core.Path.{_≡_, sym, ap, ap₂, _∙_}
 use native.Mathlib.Omega.{arith}
 use borrow.Author.Needs.{needs}

@@ -1,4 +1,4 @@
--- `repair::file::write_refusal` meets its contract: an unknown plan, then a buffer of another length, then what is refused in memory. Assumes nothing.
+-- `file::write_refusal` meets its contract: an unknown plan, then a buffer of another length, then what is refused in memory. Assumes nothing.
 use mathlib.Core.Path.{sym, _∙_}
 use borrow.Author.Tests.{not-true, not-false}
 use borrow.Author.Needs.{needs}

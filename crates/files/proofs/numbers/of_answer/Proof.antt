@@ -1,4 +1,4 @@
--- `files::numbers::of_answer` meets its contract: by the answer. Assumes nothing.
+-- `numbers::of_answer` meets its contract: by the answer. Assumes nothing.
 use mathlib.Core.Path.{sym, ap}
 use borrow.Author.Needs.{needs}
 use Rattle.plans.specs.Answers.{answerNumber}

@@ -1,4 +1,4 @@
--- `files::words::put_words` meets its contract: after r turns the first r words are written. Assumes nothing.
+-- `words::put_words` meets its contract: after r turns the first r words are written. Assumes nothing.
 use mathlib.Core.Path.{ap, _≡_, refl}
 use Prim.Native.Nat.{_+_, _*_, _-_}
 use native.Mathlib.Omega.{arith}

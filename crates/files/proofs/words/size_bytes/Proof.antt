@@ -1,4 +1,4 @@
--- `files::words::size_bytes` meets its contract. Assumes nothing.
+-- `words::size_bytes` meets its contract. Assumes nothing.
 use Rattle.repair.specs.File.{bytes2}
 use borrow.Author.Needs.{needs}
 use Rattle.files.proofs.words.size_bytes.Statement.{statement}

@@ -1,4 +1,4 @@
--- `files::words::word_at` meets its contract: the four bytes make the word of the definition. Assumes nothing.
+-- `words::word_at` meets its contract: the four bytes make the word of the definition. Assumes nothing.
 use borrow.Author.Needs.{needs}
 use Rattle.repair.specs.File.{wordAt}
 use Rattle.files.proofs.words.word_at.Statement.{statement}

@@ -1,4 +1,4 @@
--- `files::words::word_bytes` meets its contract: the bytes are those of the definition. Assumes nothing.
+-- `words::word_bytes` meets its contract: the bytes are those of the definition. Assumes nothing.
 use borrow.Author.Needs.{needs}
 use Rattle.repair.specs.File.{bytes4}
 use Rattle.files.proofs.words.word_bytes.Statement.{statement}
