@@ -35,10 +35,6 @@ module _ {p q rows n : ℕ} (is : Numbers p q rows n) where
   pub row-within : {stripe : ℕ} → planOf p .rows * planOf p .columns ≤ stripe → {r : ℕ} → r < rows → r * n + n ≤ stripe
   row-within long more = le-trans (row-end n more) (rw (is .high, is .wide) long)
 
-  pub row-part : (stripe : List ℕ) (r : ℕ) → part (r * n) n stripe ≡ rowAt (planOf p) stripe r
-  unfolding rowAt
-  row-part stripe r = part-of (r * n) n stripe ∙ ap (λ k. take k (drop (r * k) stripe)) (is .wide)
-
   -- ---- check j, and the rows' sums under it
 
   module _ {checks : List ℕ} (lent : checks ≡ checkTable (planOf p)) (t : ℕ) {j : ℕ} (more : j < length (checksTo (planOf p) t)) where

@@ -3,12 +3,12 @@ use mathlib.Core.Path.{_≡_, refl, sym, ap, ap₂, _∙_, subst}
 use mathlib.Core.Bool.{Bool}
 use mathlib.Core.List.{List, [], _∷_, _++_, map}
 use Prim.Native.Nat.{ℕ, zero, suc, _+_, _*_, _-_, _^_, _<_, _≤_}
-use native.Mathlib.Nat.{le-trans, suc-mul, zero-mul, add-comm, add-zero, add-suc}
+use native.Mathlib.Nat.{le-trans}
 use native.Mathlib.Omega.{arith}
 use lib.Count.{ones}
 use lib.Dec.{T, ltb, ltb→lt, lt→ltb}
 use lib.ListN.{length, take, drop, getD, length-append}
-use lib.Seq.{sets, take-take, drop-drop, take-nil, length-take-le, getD-take, getD-drop}
+use lib.Seq.{sets, length-take-le}
 use Rattle.field.specs.Lists.{upFrom}
 use Rattle.field.specs.Field.{Field, size}
 use Rattle.field.specs.Ours.{fieldOf}
@@ -30,28 +30,8 @@ use Rattle.plans.proofs.Shape.{Shape, shape}
 use Rattle.steps.proofs.Fit.{sums-fit}
 use Rattle.steps.proofs.Levels.{sums-length}
 use Rattle.plans.proofs.Sizes.{checks-room, checks-length}
-use Rattle.plans.proofs.Parts.{part, part-of, part-length, part-back}
+use Rattle.plans.proofs.Parts.{part, part-of, part-length, part-back, rows-of, rows-front}
 use Rattle.steps.proofs.Checks.{row-places}
-
--- ---- rows of a flat list
-
-drop-take : (n m : ℕ) (l : List ℕ) → drop n (take (n + m) l) ≡ take m (drop n l)
-drop-take zero m l = ap (λ k. take k l) (native.Mathlib.Nat.zero-add m)
-drop-take (suc n) m [] = ap (drop (suc n)) (take-nil (suc n + m)) ∙ sym (take-nil m)
-drop-take (suc n) m (x ∷ l) = ap (λ k. drop (suc n) (take k (x ∷ l))) (native.Mathlib.Nat.suc-add n m) ∙ drop-take n m l
-
-rows-from : (n : ℕ) (l : List ℕ) (k m : ℕ) → rowsOf m n (take (m * n) (drop (k * n) l)) ≡ map (rowIn n l) (upFrom k m)
-unfolding rowsOf upFrom
-rows-from n l k zero = refl
-rows-from n l k (suc m) =
-    let d = drop (k * n) l in
-    let e : suc m * n ≡ n + m * n = suc-mul m n ∙ add-comm (m * n) n in
-    ap₂ _∷_ (take-take n (suc m * n) d (omega (arith, e)))
-    (ap (rowsOf m n) (ap (λ j. drop n (take j d)) e ∙ drop-take n (m * n) d ∙ ap (take (m * n)) (drop-drop n (k * n) l ∙ ap (λ j. drop j l) (sym (suc-mul k n))))
-    ∙ rows-from n l (suc k) m)
-
-pub rows-of : (n m : ℕ) (l : List ℕ) → rowsOf m n (take (m * n) l) ≡ map (rowIn n l) (upFrom 0 m)
-rows-of n m l = ap (λ j. rowsOf m n (take (m * n) (drop j l))) (sym (zero-mul n)) ∙ rows-from n l 0 m
 
 -- ---- elements
 
@@ -134,7 +114,7 @@ module _ {p t : ℕ} {f : Facts} {m : ℕ} {checks sums symbols : List ℕ} {r :
   unfolding fillOf
   fill-is word =
       ap₂ (λ a b. fill (fieldOf (f .field)) (rowsOf a b lentChecks) lentSums (bitsOf b word) lentRow) sums-count row-count
-      ∙ ap (λ l. fill (fieldOf (f .field)) l lentSums (bitsOf (f .columns) word) lentRow) (rows-of (f .columns) m checks)
+      ∙ ap (λ l. fill (fieldOf (f .field)) l lentSums (bitsOf (f .columns) word) lentRow) (rows-front m (f .columns) checks ∙ rows-of m (f .columns) checks)
       ∙ ap₂ (λ s v. fill (fieldOf (f .field)) (map (rowIn (f .columns) checks) (upFrom 0 m)) s (bitsOf (f .columns) word) v) sums-are row-is
       ∙ rw (is .columns, is .field .names, count, table) (ap (λ l. fill (P .field) l (sumsAt P t sums r) (bitsOf (P .columns) word) (rowAt P symbols r)) (checks-in p t))
 
