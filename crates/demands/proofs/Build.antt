@@ -23,7 +23,8 @@ use Rattle.linear.proofs.Vectors.{sums-append}
 use Rattle.linear.proofs.Filling.{Filling}
 use Rattle.plans.specs.Plan.{Plan, Level, planOf, levelOf, checksTo, marksAt}
 use Rattle.steps.proofs.Levels.{checks-suc}
-use Rattle.demands.proofs.Lists.{map-in, all-map, all-getD, append-same}
+use Rattle.plans.proofs.Flat.{all-getD}
+use Rattle.demands.proofs.Lists.{map-in, all-map, append-same}
 use Rattle.demands.proofs.Alike.{alike-at}
 use Rattle.demands.proofs.Codewords.{sums-count}
 use Rattle.demands.proofs.Square.{Square, zeros-symbols, zeros-length}

@@ -11,7 +11,7 @@ use lib.Dec.{T}
 use lib.ListN.{length, take, drop, getD}
 use lib.Seq.{take-at, drop-append-add}
 use Rattle.field.specs.Lists.{upFrom}
-use Rattle.field.proofs.Test.{both-left, both-right, both}
+use Rattle.field.proofs.Test.{both}
 use Rattle.field.proofs.Words.{Each}
 use Rattle.linear.specs.Lists.{all, first, rest}
 use Rattle.linear.proofs.Tests.{In, all-append, in-up}
@@ -46,13 +46,6 @@ pub all-map : {A B : Type 0} (q : B → Bool) (f : A → B) → ((x : A) → T (
 unfolding all
 all-map q f h [] = tt
 all-map q f h (x ∷ l) = both (q (f x)) (all q (map f l)) (h x) (all-map q f h l)
-
--- what all pass, and the default too, passes wherever it is read
-pub all-getD : {A : Type 0} (q : A → Bool) (d : A) → T (q d) → (l : List A) → T (all q l) → (i : ℕ) → T (q (getD l i d))
-unfolding all
-all-getD q d z [] t i = z
-all-getD q d z (x ∷ l) t zero = both-left (q x) (all q l) t
-all-getD q d z (x ∷ l) t (suc i) = all-getD q d z l (both-right (q x) (all q l) t) i
 
 -- what passes at every place passes as a whole
 pub at-all : {A : Type 0} (q : A → Bool) (d : A) (l : List A) → ((i : ℕ) → i < length l → T (q (getD l i d))) → T (all q l)
