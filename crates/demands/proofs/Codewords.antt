@@ -19,6 +19,7 @@ use Rattle.linear.proofs.Tests.{In, all-in, vanish→zeros}
 use Rattle.plans.specs.Plan.{Plan, noLevel, planOf, levelOf, rowAt, across}
 use Rattle.plans.specs.Refusal.{allBelow}
 use Rattle.codewords.specs.Codeword.{rowsHold, totalsHold, isCodeword}
+use Rattle.plans.proofs.Flat.{all-at}
 use Rattle.plans.proofs.Rows.{row-end, row-length}
 use Rattle.steps.proofs.Sums.{learnedAt}
 use Rattle.steps.proofs.Fit.{all-rows, all-take, all-drop}
@@ -40,12 +41,6 @@ vanish-same (x ∷ a) [] l s t = absurd (omega arith)
 vanish-same (x ∷ a) (y ∷ b) l s t =
     ap₂ _∷_ (eqb→eq x 0 (both-left (eqb x 0) (vanish a) s) ∙ sym (eqb→eq y 0 (both-left (eqb y 0) (vanish b) t)))
     (vanish-same a b (suc-inj l) (both-right (eqb x 0) (vanish a) s) (both-right (eqb y 0) (vanish b) t))
-
-pub all-at : {A : Type 0} (p : A → Bool) (d : A) (l : List A) → T (all p l) → (i : ℕ) → i < length l → T (p (getD l i d))
-unfolding all
-all-at p d [] t i h = absurd (not-suc-le-zero h)
-all-at p d (x ∷ l) t zero h = both-left (p x) (all p l) t
-all-at p d (x ∷ l) t (suc i) h = all-at p d l (both-right (p x) (all p l) t) i (le-of-suc-le-suc h)
 
 -- ---- sums of rows
 

@@ -27,12 +27,12 @@ use Rattle.plans.specs.declared.Stepped.{Stepped}
 use Rattle.plans.specs.declared.Step.the-variants.{Top}
 use Rattle.plans.proofs.Rows.{of-rows, row-end, row-length, marks-length}
 use Rattle.steps.proofs.Levels.{checks-first, checks-suc, checks-le, sums-length}
-use Rattle.plans.proofs.Shape.{shape, plan-field}
+use Rattle.plans.proofs.Shape.{shape, some-check, plan-field}
 use Rattle.steps.proofs.Fit.{if-true, if-false, lent-fit, fresh-mark, fresh-row, fresh-sums}
 use Rattle.steps.proofs.Sound.{Sound, sound-fresh, across-below, totalFill, row-outside, sized-put, sized-raise, row-step, level-step, row-place, put-mark-other, put-row, put-row-other, fit-put, raise-sums, fit-raise}
 use Rattle.demands.specs.Words.{Codeword, Agree, Fit, Move, onRow, onLevel, after, walk}
 use Rattle.demands.proofs.Alike.{alike-refl, alike-sym, alike-unmarked, agree-rows, clear-unmarked}
-use Rattle.demands.proofs.Codewords.{vanish-same, all-at, sums-count, sums-below, across-row, word-row, word-below, word-sums, word-totals}
+use Rattle.demands.proofs.Codewords.{vanish-same, sums-count, sums-below, across-row, word-row, word-below, word-sums, word-totals}
 
 -- the stripe Y has the learned sums
 abbrev pub Has : ℕ → Bench → (Y : List ℕ) → Type 0
@@ -158,9 +158,7 @@ module _ (X : List ℕ) (b : Bench) (h : Held (b .plan) X b) where
   unfolding levelFill across lossy allBelow levelOf
   own-level-finds low =
       joined-same (levelTied (b .plan) (b .level) (b .marks)) (totalFill b L) (across P X) (L .checks) finds
-      (ltb→lt 0 (length (L .checks))
-      (all-at (λ (L : Level). ltb 0 (length (L .checks))) noLevel (P .levels)
-      (shape (b .plan) (h .sound .fit .plan-known) .some-checks) (b .level) low))
+      (some-check (b .plan) (b .level) low)
     where
       finds : (c : List ℕ) → In c (L .checks)
           → totalFill b L c ≡ (if levelTied (b .plan) (b .level) (b .marks) then tied else one (across P X c))

@@ -22,6 +22,13 @@ all-getD p d td [] t i = td
 all-getD p d td (x ∷ xs) t zero = both-left (p x) (all p xs) t
 all-getD p d td (x ∷ xs) t (suc i) = all-getD p d td xs (both-right (p x) (all p xs) t) i
 
+-- what all pass, each passes
+pub all-at : {A : Type 0} (p : A → Bool) (d : A) (l : List A) → T (all p l) → (i : ℕ) → i < length l → T (p (getD l i d))
+unfolding all
+all-at p d [] t i h = absurd (not-suc-le-zero h)
+all-at p d (x ∷ l) t zero h = both-left (p x) (all p l) t
+all-at p d (x ∷ l) t (suc i) h = all-at p d l (both-right (p x) (all p l) t) i (le-of-suc-le-suc h)
+
 -- what all pass, and 0 too, all pass with zeros behind them
 pub all-padded : (p : ℕ → Bool) → T (p 0) → (n : ℕ) (xs : List ℕ) → T (all p xs) → T (all p (padded n xs))
 unfolding all padded

@@ -11,8 +11,9 @@ use Rattle.field.proofs.Test.{both-right}
 use Rattle.field.proofs.Laws.{IsField}
 use Rattle.field.proofs.Fields.{gf2-field, gf16-field}
 use Rattle.linear.specs.Lists.{all}
-use Rattle.plans.specs.Plan.{Plan, Level, ones, bitChecks, locations1, plan1, locations2, powers2, plan2, locations3, powers3, plan3, noPlan, known, planOf, checksTo}
+use Rattle.plans.specs.Plan.{Plan, Level, ones, bitChecks, locations1, plan1, locations2, powers2, plan2, locations3, powers3, plan3, noPlan, known, planOf, noLevel, levelOf, checksTo}
 use Rattle.plans.specs.Refusal.{room}
+use Rattle.plans.proofs.Flat.{all-at}
 
 -- what holds of 1, 2 and 3 holds of every known number
 pub of-known {ℓ} : (Q : ℕ → Type ℓ) → Q 1 → Q 2 → Q 3 → (p : ℕ) → T (known p) → Q p
@@ -53,6 +54,12 @@ pub record Shape (P : Plan) : Type 0 where
 pub shape : (p : ℕ) → T (known p) → Shape (planOf p)
 unfolding upFrom flatMap all ones bitChecks locations1 plan1 locations2 powers2 plan2 locations3 powers3 plan3 planOf checksTo
 shape = of-known (λ p. Shape (planOf p)) (omega arith) (omega arith) (omega arith)
+
+-- every level has a check
+pub some-check : (p t : ℕ) → t < length (planOf p .levels) → 0 < length (levelOf (planOf p) (suc t) .checks)
+unfolding levelOf
+some-check p t low =
+    ltb→lt 0 _ (all-at (λ (L : Level). ltb 0 (length (L .checks))) noLevel (planOf p .levels) (shape p (levels-known p t low) .some-checks) t low)
 
 -- and their symbols are of fields
 pub plan-field : (p : ℕ) → T (known p) → IsField (planOf p .field)

@@ -1,19 +1,34 @@
 -- Mending in one call, by how its rounds ended. Assumes nothing.
-use mathlib.Core.Path.{_≡_, refl, ap, _∙_}
-use mathlib.Core.Bool.{Bool, true, false}
-use mathlib.Core.List.{List}
-use Prim.Native.Nat.{ℕ}
+use mathlib.Core.Path.{_≡_, refl, sym, ap, _∙_, subst, subst₂}
+use mathlib.Core.Bool.{Bool, true, false, not}
+use mathlib.Core.List.{List, []}
+use Prim.Native.Nat.{ℕ, suc, _+_, _*_, _-_, _<_}
+use native.Mathlib.Nat.{suc-mul}
 use native.Mathlib.Omega.{arith}
-use borrow.Author.Tests.{eq-eqb, ne-eqb}
+use borrow.Author.Tests.{ltb-true, eq-eqb, ne-eqb}
+use lib.Count.{ones}
 use lib.Dec.{eqb}
-use lib.ListN.{length, take}
+use lib.ListN.{length, getD, take, replicate}
+use lib.Seq.{take-append-seam}
 use Rattle.field.specs.Lists.{if_then_else_}
-use Rattle.plans.specs.Refusal.{lentRefusal}
-use Rattle.steps.specs.Rounds.{Turn, on, end, clash}
+use Rattle.field.proofs.Lists.{map-up-same}
+use Rattle.linear.specs.Lists.{only}
+use Rattle.plans.specs.Plan.{Plan, planOf, checksTo}
+use Rattle.plans.specs.Refusal.{unasked, lentRefusal, benchRefusal}
+use Rattle.plans.specs.Tables.{padded}
+use Rattle.steps.specs.Steps.{fresh, lossy}
+use Rattle.steps.specs.Learned.{benchOf}
+use Rattle.steps.specs.Rounds.{Turn, on, end, clash, turns}
+use Rattle.steps.specs.Walk.{Arrays, standingOf, overMarked}
 use Rattle.repair.specs.Mending.{mended, rowsLeft, endReport, bare, turnReport, turnStripe, turnMarks, mendReport, mendStripe, mendMarks}
-use Rattle.repair.specs.Ended.{Ended, clashes}
+use Rattle.repair.specs.Ended.{startOf, roundsOn, Ended, clashes}
 use Rattle.plans.specs.declared.Report.{Report}
 use Rattle.plans.specs.declared.Answer.the-variants.{Restored, Stuck, Refused as Unmended}
+use Rattle.plans.proofs.Scan.{up-each}
+use Rattle.plans.proofs.Shape.{shape}
+use Rattle.steps.proofs.Fit.{LentFit, lent-fit, fit-bench, fresh-mark}
+use Rattle.steps.proofs.Sound.{Sound, sound-fresh}
+use Rattle.steps.proofs.Over.{over-ends}
 
 module _ (p : ℕ) (stripe marks : List ℕ) (n : ℕ) (e : n ≡ lentRefusal p stripe marks) where
   -- what is left behind: the report, the stripe, the marks
@@ -29,6 +44,67 @@ module _ (p : ℕ) (stripe marks : List ℕ) (n : ℕ) (e : n ≡ lentRefusal p 
       → r ≡ turnReport t → s ≡ turnStripe t stripe → m ≡ turnMarks t marks → Mends r s m
   unfolding mendReport mendStripe mendMarks if_then_else_
   mends-by z t q r s m er es em = rw (← e, eq-eqb n 0 z, q) (er, (es, em))
+
+  -- ---- every row has more marks than sums
+
+  module _ (z : n ≡ 0) (over : overMarked (planOf p) marks ≡ true) where
+    abbrev P : Plan
+    P = planOf p
+
+    lent : LentFit p stripe marks
+    lent = lent-fit p stripe marks (sym e ∙ z)
+
+    -- the turns behind the first level step
+    abbrev rest : ℕ
+    rest = (length (P .levels) - 1) * suc (P .rows)
+
+    enough : length (P .levels) * suc (P .rows) ≡ P .rows + suc rest
+    enough =
+        let one : length (P .levels) ≡ suc (length (P .levels) - 1) = omega (arith, shape p (lent .plan-known) .levels-pos) in
+        ap (λ k. k * suc (P .rows)) one ∙ suc-mul (length (P .levels) - 1) (suc (P .rows)) ∙ omega arith
+
+    ended : mended p stripe marks ≡ end (standingOf (fresh p stripe marks) (P .rows) (replicate 3 0))
+    unfolding mended fresh overMarked
+    ended =
+        ap (λ k. turns k (standingOf (fresh p stripe marks) 0 (replicate 3 0))) enough
+        ∙ over-ends p _ _ _ (sound-fresh p stripe marks (sym e ∙ z))
+        (λ r h. subst (λ w. length (checksTo P 1) < ones w) (sym (fresh-mark p stripe marks lent r h)) (ltb-true _ _ (up-each _ (P .rows) over r h)))
+        rest (replicate 3 0)
+
+    same-lossy : lossy P marks ≡ lossy P (fresh p stripe marks .marks)
+    unfolding lossy
+    same-lossy =
+        map-up-same _ _ 0 (P .rows) (λ r h. ap (λ w. not (eqb w 0)) (sym (fresh-mark p stripe marks lent (0 + r) (omega arith))))
+
+    pub mends-over : (r : Report) → r ≡ endReport (standingOf (benchOf p 1 [] marks []) 0 (replicate 3 0)) → Mends r stripe marks
+    unfolding turnReport turnStripe turnMarks endReport rowsLeft fresh
+    mends-over r q =
+        mends-by z _ ended r stripe marks (q ∙ ap (λ l. reportOf (length (only (λ m. m) l))) same-lossy)
+        (sym (take-append-seam stripe _)) (sym (take-append-seam marks _))
+      where
+        reportOf : (left : ℕ) → Report
+        reportOf left = record { answer = if eqb left 0 then Restored else Stuck; level = 1; rows = replicate 3 0; left = left }
+
+  -- ---- the rounds
+
+  -- they are those on a bench of the code's arrays
+  pub ended-lent : {symbols words : List ℕ} → symbols ≡ padded 256 stripe → words ≡ padded 8 marks
+      → (r : Report) (symbols′ words′ : List ℕ) → Ended (roundsOn (startOf p symbols words)) r symbols′ words′ → Ended (mended p stripe marks) r symbols′ words′
+  unfolding mended fresh padded
+  ended-lent es em r symbols′ words′ = subst₂ (λ s w. Ended (roundsOn (startOf p s w)) r symbols′ words′) es em
+
+  -- the bench that they start from is fit
+  module _ (z : n ≡ 0) {symbols words : List ℕ} (es : symbols ≡ padded 256 stripe) (em : words ≡ padded 8 marks) where
+    start-sound : Sound (startOf p symbols words)
+    unfolding fresh padded
+    start-sound = rw (es, em) (sound-fresh p stripe marks (sym e ∙ z))
+
+    pub start-fit : benchRefusal (startOf p symbols words) unasked ≡ 0
+    unfolding unasked
+    start-fit = fit-bench (startOf p symbols words) unasked (start-sound .fit) tt
+
+    pub start-sized : Arrays (startOf p symbols words)
+    start-sized = let s = start-sound .sized in (s .symbols, s .marks, s .sums)
 
   module _ (z : n ≡ 0) (r : Report) (symbols words : List ℕ) (o : Ended (mended p stripe marks) r symbols words) where
     pub mends-clash : true ≡ clashes (r .answer) → Mends r stripe marks

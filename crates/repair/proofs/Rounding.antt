@@ -13,14 +13,12 @@ use lib.Seq.{getD-set-other}
 use Rattle.field.specs.Lists.{if_then_else_, upFrom}
 use Rattle.linear.specs.Lists.{only}
 use Rattle.plans.specs.Plan.{Plan, planOf}
-use Rattle.plans.specs.Refusal.{unasked, lentRefusal, benchRefusal}
-use Rattle.steps.specs.Steps.{fresh, lossy, Learned, blocked, failing, learned, levelFill, raise}
+use Rattle.steps.specs.Steps.{lossy, Learned, blocked, failing, learned, levelFill, raise}
 use Rattle.steps.specs.Rounds.{Standing, Turn, on, end, clash, turns}
-use Rattle.repair.specs.Mending.{mended, rowsLeft, endReport, bare}
-use Rattle.plans.specs.Tables.{padded}
+use Rattle.repair.specs.Mending.{rowsLeft, endReport, bare}
 use Rattle.steps.specs.Learned.{benchOf, learningOf, sumsAfter}
-use Rattle.steps.specs.Walk.{Arrays, standingOf, more, Walked}
-use Rattle.repair.specs.Ended.{Ended}
+use Rattle.steps.specs.Walk.{standingOf, Settled, more, Walked}
+use Rattle.repair.specs.Ended.{startOf, roundsOn, Ended}
 use Rattle.plans.specs.declared.Bench.{Bench}
 use Rattle.plans.specs.declared.Report.{Report}
 use Rattle.plans.specs.declared.Place.the-variants.{Row, Across}
@@ -29,8 +27,8 @@ use Rattle.steps.specs.declared.level.Learning.{Learning}
 use Rattle.steps.specs.declared.level.Learning.the-variants.{Blocked, Failing, Learned as AllLearned}
 use Rattle.plans.proofs.Shape.{shape}
 use Rattle.repair.proofs.Leaving.{lossyAt}
-use Rattle.steps.proofs.Fit.{BenchFit, fit-bench}
-use Rattle.steps.proofs.Sound.{Sound, sound-fresh, sound-raise}
+use Rattle.steps.proofs.Sound.{Sound, sound-raise}
+use Rattle.steps.proofs.Settled.{settled-raise}
 use Rattle.steps.proofs.Turns.{turn-top, turn-blocked, turn-failing, turn-learned}
 use Rattle.steps.proofs.Walking.{sound-of}
 
@@ -49,48 +47,48 @@ module _ (p t left : ℕ) (marks restored : List ℕ) (e : left ≡ length (only
 
 -- ---- the invariant
 
--- at level t, before its round: the turns of the rounds to come lead where all turns do, and no row was restored at level t or above
-pub record Rounding (p : ℕ) (stripe words symbols marks sums restored : List ℕ) (t : ℕ) : Type 0 where
+-- at level t, before its round: the turns of the rounds to come lead to `whole`, where all turns do; no row was restored at level t or
+-- above; and above level 1 every row without marks has its learned sums
+pub record Rounding (p : ℕ) (whole : Turn) (symbols marks sums restored : List ℕ) (t : ℕ) : Type 0 where
   pub low : 1 ≤ t
   pub high : t ≤ length (planOf p .levels)
   pub sound : Sound (benchOf p t symbols marks sums)
+  pub settled : (t ≡ 1 → ⊥) → Settled (benchOf p t symbols marks sums)
   pub three : length restored ≡ 3
   pub none-yet : (i : ℕ) → t ≤ suc i → getD restored i 0 ≡ 0
-  pub turned : mended p stripe words ≡ turns (suc (length (planOf p .levels) - t) * suc (planOf p .rows)) (standingOf (benchOf p t symbols marks sums) 0 restored)
+  pub turned : whole ≡ turns (suc (length (planOf p .levels) - t) * suc (planOf p .rows)) (standingOf (benchOf p t symbols marks sums) 0 restored)
 
-module _ (p : ℕ) (stripe words : List ℕ) where
-  pub rounding-starts : lentRefusal p stripe words ≡ 0 → (symbols marks : List ℕ) → symbols ≡ padded 256 stripe → marks ≡ padded 8 words
-      → Rounding p stripe words symbols marks (replicate 128 0) (replicate 3 0) 1
-  unfolding mended fresh padded
-  rounding-starts fit symbols marks es em =
-      let s = sound-fresh p stripe words fit in
-      record {
-        low = omega arith;
-        high = s .fit .level-le;
-        sound = rw (es, em) s;
-        three = refl;
-        none-yet = λ i h. zeros i;
-        turned = rw (es, em) (ap (λ n. turns (n * suc (planOf p .rows)) (standingOf (fresh p stripe words) 0 (replicate 3 0))) (all-levels (s .fit .level-le)));
-      }
-    where
-      zeros : (i : ℕ) → getD {A = ℕ} (replicate 3 0) i 0 ≡ 0
-      zeros zero = refl
-      zeros (suc zero) = refl
-      zeros (suc (suc zero)) = refl
-      zeros (suc (suc (suc i))) = refl
+pub rounding-starts : (p : ℕ) (symbols marks : List ℕ) → Sound (startOf p symbols marks)
+    → Rounding p (roundsOn (startOf p symbols marks)) symbols marks (replicate 128 0) (replicate 3 0) 1
+rounding-starts p symbols marks s = record {
+  low = omega arith;
+  high = s .fit .level-le;
+  sound = s;
+  settled = λ above. absurd (above refl);
+  three = refl;
+  none-yet = λ i h. zeros i;
+  turned = ap (λ n. turns (n * suc (planOf p .rows)) (standingOf (startOf p symbols marks) 0 (replicate 3 0))) (all-levels (s .fit .level-le));
+}
+  where
+    zeros : (i : ℕ) → getD {A = ℕ} (replicate 3 0) i 0 ≡ 0
+    zeros zero = refl
+    zeros (suc zero) = refl
+    zeros (suc (suc zero)) = refl
+    zeros (suc (suc (suc i))) = refl
 
-      all-levels : 1 ≤ length (planOf p .levels) → length (planOf p .levels) ≡ suc (length (planOf p .levels) - 1)
-      all-levels h = omega arith
+    all-levels : 1 ≤ length (planOf p .levels) → length (planOf p .levels) ≡ suc (length (planOf p .levels) - 1)
+    all-levels h = omega arith
 
+module _ (p : ℕ) (whole : Turn) where
   -- ---- a round's rows are walked
 
-  module _ (symbols marks sums restored : List ℕ) (t : ℕ) (R : Rounding p stripe words symbols marks sums restored t)
+  module _ (symbols marks sums restored : List ℕ) (t : ℕ) (R : Rounding p whole symbols marks sums restored t)
       (symbols′ marks′ : List ℕ) (row filled : ℕ) (W : Walked (benchOf p t symbols marks sums) (benchOf p t symbols′ marks′ sums) row filled) where
     -- the turns that are left behind the level step
     abbrev rest : ℕ
     rest = (length (planOf p .levels) - t) * suc (planOf p .rows)
 
-    walked : mended p stripe words ≡ (if ltb row (planOf p .rows) then clash (Row row t) else turns (suc rest) (standingOf (benchOf p t symbols′ marks′ sums) (planOf p .rows) (more t filled restored)))
+    walked : whole ≡ (if ltb row (planOf p .rows) then clash (Row row t) else turns (suc rest) (standingOf (benchOf p t symbols′ marks′ sums) (planOf p .rows) (more t filled restored)))
     walked =
         R .turned
         ∙ ap (λ n. turns n (standingOf (benchOf p t symbols marks sums) 0 restored))
@@ -103,7 +101,7 @@ module _ (p : ℕ) (stripe words : List ℕ) where
         levels-few : length (planOf p .levels) ≤ 3
         levels-few = shape p (R .sound .fit .plan-known) .levels-le
 
-    pub rounded-clash : row < planOf p .rows → (r : Report) → r ≡ bare (Clash (Row row t)) → Ended (mended p stripe words) r symbols′ marks′
+    pub rounded-clash : row < planOf p .rows → (r : Report) → r ≡ bare (Clash (Row row t)) → Ended (whole) r symbols′ marks′
     unfolding if_then_else_
     rounded-clash h r e =
         subst (λ m. Ended m r symbols′ marks′)
@@ -120,7 +118,7 @@ module _ (p : ℕ) (stripe words : List ℕ) where
           let e : pred t ≡ t - 1 = sym (sub-one t) in
           ap₂ (λ i n. set restored i (n + filled)) e (R .none-yet (pred t) (omega (arith, R .low))) ∙ ap (set restored (t - 1)) (zero-add filled)
 
-      onward : mended p stripe words ≡ turns (suc rest) (standingOf (benchOf p t symbols′ marks′ sums) (planOf p .rows) (set restored (t - 1) filled))
+      onward : whole ≡ turns (suc rest) (standingOf (benchOf p t symbols′ marks′ sums) (planOf p .rows) (set restored (t - 1) filled))
       unfolding if_then_else_
       onward =
           walked
@@ -131,10 +129,10 @@ module _ (p : ℕ) (stripe words : List ℕ) where
       sound = sound-of (benchOf p t symbols′ marks′ sums) (W .fit) (W .sized)
 
       abbrev Out : Report → Type 0
-      Out r = Ended (mended p stripe words) r symbols′ marks′
+      Out r = Ended (whole) r symbols′ marks′
 
       -- the report of the end, as the code makes it
-      out : mended p stripe words ≡ end (standingOf (benchOf p t symbols′ marks′ sums) (planOf p .rows) (set restored (t - 1) filled))
+      out : whole ≡ end (standingOf (benchOf p t symbols′ marks′ sums) (planOf p .rows) (set restored (t - 1) filled))
           → (r : Report) → r ≡ endReport (standingOf (benchOf p t [] marks′ []) 0 (set restored (t - 1) filled)) → Out r
       unfolding endReport rowsLeft
       out e r q = subst (λ m. Ended m r symbols′ marks′) (sym e) (q, refl, refl)
@@ -169,21 +167,22 @@ module _ (p : ℕ) (stripe words : List ℕ) where
                 (w ∙ ap (λ n. bare (Clash (Across n))) (add-one t))
             go (learned cs) q h = let z : _≡_ {A = ℕ} 0 1 = cc in absurd (omega arith)
 
-        pub rounding-turns : a ≡ AllLearned → Rounding p stripe words symbols′ marks′ sums′ (set restored (t - 1) filled) (t + 1)
+        pub rounding-turns : a ≡ AllLearned → Rounding p whole symbols′ marks′ sums′ (set restored (t - 1) filled) (t + 1)
         unfolding learningOf sumsAfter raise
         rounding-turns k = go (levelFill (benchOf p t symbols′ marks′ sums)) refl (sym ea ∙ k)
           where
             go : (l : Learned) → levelFill (benchOf p t symbols′ marks′ sums) ≡ l → learningOf l ≡ AllLearned
-                → Rounding p stripe words symbols′ marks′ sums′ (set restored (t - 1) filled) (t + 1)
+                → Rounding p whole symbols′ marks′ sums′ (set restored (t - 1) filled) (t + 1)
             go blocked q h = let z : _≡_ {A = ℕ} 0 1 = cc in absurd (omega arith)
             go failing q h = let z : _≡_ {A = ℕ} 0 1 = cc in absurd (omega arith)
-            go (learned cs) q h =
+            go (learned cs) q k =
                 let e : raise (benchOf p t symbols′ marks′ sums) cs ≡ benchOf p (t + 1) symbols′ marks′ sums′ =
                 ap₂ (λ n s. benchOf p n symbols′ marks′ s) (sym (add-one t)) (sym (es ∙ ap (sumsAfter (benchOf p t symbols′ marks′ sums)) q)) in
                 record {
                   low = omega arith;
                   high = omega (arith, below);
                   sound = subst Sound e (sound-raise (benchOf p t symbols′ marks′ sums) sound cs below q);
+                  settled = λ above. subst Settled e (settled-raise (benchOf p t symbols′ marks′ sums) sound below cs q (W .settled h));
                   three = length-set restored (t - 1) filled ∙ R .three;
                   none-yet = λ i g. getD-set-other restored (t - 1) i filled 0 (omega (arith, R .low)) ∙ R .none-yet i (omega arith);
                   turned = onward

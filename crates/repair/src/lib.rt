@@ -17,6 +17,7 @@ use plans::copies;
 pub use plans::plan;
 use plans::refusal;
 pub use steps::level_step;
+use steps::row;
 pub use steps::row_step;
 pub use steps::start;
 ghost use mathlib.Core.Path.{_≡_};
@@ -35,14 +36,16 @@ pub fn mend(plan: usize, stripe: &mut [u8], marks: &mut [u32]) -> Report
     if refused != 0 {
         return mending::bare_report(Answer::Refused(refused));
     }
-    let ended = mending::rounds(plan, &stripe[..], &marks[..]);
-    let report = ended.report;
+    if row::over_marked(plan, &marks[..]) {
+        return mending::end_report(plan, 1, [0; 3], &marks[..]);
+    }
+    let mut symbols = copies::symbols_of(&stripe[..]);
+    let mut words = copies::words_of(&marks[..]);
+    let report = mending::rounds(plan, &mut symbols, &mut words);
     let answer = report.answer;
     if mending::is_clash(answer) {
         return report;
     }
-    let symbols = ended.symbols;
-    let words = ended.marks;
     copies::put_symbols(stripe, &symbols[..]);
     copies::put_words(marks, &words[..]);
     report

@@ -2,7 +2,6 @@
 use plans::Answer;
 use plans::Place;
 use plans::Report;
-use plans::copies;
 use plans::plan;
 use steps::level;
 use steps::level::Learning;
@@ -10,19 +9,19 @@ use steps::row;
 ghost use mathlib.Core.Path.{_≡_};
 ghost use mathlib.Core.Bool.{not};
 ghost use mathlib.Core.List.{[], map};
-ghost use Prim.Native.Nat.{suc, _*_, _≤_};
+ghost use Prim.Native.Nat.{_≤_};
 ghost use lib.Dec.{eqb};
-ghost use lib.ListN.{length, getD, replicate};
+ghost use lib.ListN.{length, getD};
 ghost use Rattle.field.specs.Lists.{upFrom};
 ghost use Rattle.field.specs.Ours.{products};
 ghost use Rattle.linear.specs.Lists.{only};
 ghost use Rattle.plans.specs.Plan.{planOf};
 ghost use Rattle.plans.specs.Tables.{checkTable};
-ghost use Rattle.plans.specs.Refusal.{lentRefusal};
-ghost use Rattle.repair.specs.Mending.{mended, bare, endReport};
+ghost use Rattle.plans.specs.Refusal.{benchRefusal, unasked};
+ghost use Rattle.repair.specs.Mending.{bare, endReport};
 ghost use Rattle.steps.specs.Learned.{benchOf};
-ghost use Rattle.steps.specs.Walk.{standingOf};
-ghost use Rattle.repair.specs.Ended.{Ended, clashes};
+ghost use Rattle.steps.specs.Walk.{Arrays, standingOf};
+ghost use Rattle.repair.specs.Ended.{startOf, roundsOn, Ended, clashes};
 
 // How many of the rows have marks.
 fn rows_left(rows: usize, marks: &[u32]) -> usize
@@ -53,7 +52,7 @@ pub fn bare_report(answer: Answer) -> Report
 }
 
 // What the rounds end in at Blocked or Top: Restored where no mark is left, else Stuck.
-fn end_report(plan: usize, level: usize, restored: [usize; 3], marks: &[u32]) -> Report
+pub fn end_report(plan: usize, level: usize, restored: [usize; 3], marks: &[u32]) -> Report
     requires { ⌜ planOf plan .rows ≤ length (now marks) ⌝ }
     ensures { λ r. ⌜ r ≡ endReport (standingOf (benchOf plan level [] (now (marks .entry)) []) 0 restored) ⌝ }
 {
@@ -74,93 +73,73 @@ fn end_report(plan: usize, level: usize, restored: [usize; 3], marks: &[u32]) ->
     }
 }
 
-// Where the rounds ended: the report, and the bench's symbols and marks.
-pub struct Mended {
-    pub report: Report,
-    pub symbols: [u8; 256],
-    pub marks: [u32; 8],
-}
-
-// Rounds on a fresh bench of what was lent, until they stop, by the plan's table of row checks.
-fn rounds_by(plan: usize, table: &[u8; 256], checks: &[u8], stripe: &[u8], words: &[u32]) -> Mended
+// Rounds on a bench at level 1 of these symbols and marks, until they stop, by the plan's table of row checks. Symbols and marks become
+// those of the bench where the rounds end.
+fn rounds_by(
+    plan: usize,
+    table: &[u8; 256],
+    checks: &[u8],
+    symbols: &mut [u8; 256],
+    marks: &mut [u32; 8],
+) -> Report
     requires { ⌜ (now table ≡ products) × (now checks ≡ checkTable (planOf plan)) ⌝ }
-    requires { ⌜ lentRefusal plan (now stripe) (now words) ≡ 0 ⌝ }
-    ensures { λ m. ⌜ Ended (mended plan (now (stripe .entry)) (now (words .entry))) (m .report) (m .symbols) (m .marks) ⌝ }
+    requires { ⌜ benchRefusal (startOf plan (now symbols) (now marks)) unasked ≡ 0 ⌝ }
+    requires { ⌜ Arrays (startOf plan (now symbols) (now marks)) ⌝ }
+    ensures { λ r. ⌜ Ended (roundsOn (startOf plan (now (symbols .entry)) (now (marks .entry)))) r (now (symbols .exit)) (now (marks .exit)) ⌝ }
+    ensures { λ _. ⌜ (length (now (symbols .exit)) ≡ 256) × (length (now (marks .exit)) ≡ 8) ⌝ }
 {
     let rows = plan::rows(plan);
     let levels = plan::levels(plan);
-    let mut symbols = copies::symbols_of(stripe);
-    let mut marks = copies::words_of(words);
     let mut sums = [0u8; 128];
     let mut restored = [0usize; 3];
     let mut level = 1;
     loop {
-        let walk = row::walk_rows(
-            plan,
-            level,
-            table,
-            checks,
-            &mut symbols[..],
-            &mut marks[..],
-            &sums[..],
-        );
+        let walk = row::walk_rows(plan, level, table, checks, symbols, marks, &sums[..]);
         let row = walk.row;
         if row < rows {
-            let report = bare_report(Answer::Clash(Place::Row {
+            let place = Place::Row {
                 row: row,
                 level: level,
-            }));
-            return Mended {
-                report: report,
-                symbols: symbols,
-                marks: marks,
             };
+            return bare_report(Answer::Clash(place));
         }
         restored[level - 1] = walk.filled;
         if level == levels {
             break;
         }
-        match level::learn(plan, level, table, checks, &symbols, &marks, &mut sums) {
+        match level::learn(plan, level, table, checks, symbols, marks, &mut sums) {
             Learning::Blocked => {
                 break;
             }
             Learning::Failing => {
-                let report = bare_report(Answer::Clash(Place::Across { level: level + 1 }));
-                return Mended {
-                    report: report,
-                    symbols: symbols,
-                    marks: marks,
-                };
+                return bare_report(Answer::Clash(Place::Across { level: level + 1 }));
             }
             Learning::Learned => {
                 level += 1;
             }
         }
     }
-    let report = end_report(plan, level, restored, &marks[..]);
-    Mended {
-        report: report,
-        symbols: symbols,
-        marks: marks,
-    }
+    end_report(plan, level, restored, marks)
 }
 
-// Rounds on a fresh bench of what was lent, until they stop. Each plan has a call of its own, whose loops are compiled for its sizes.
-pub fn rounds(plan: usize, stripe: &[u8], words: &[u32]) -> Mended
-    requires { ⌜ lentRefusal plan (now stripe) (now words) ≡ 0 ⌝ }
-    ensures { λ m. ⌜ Ended (mended plan (now (stripe .entry)) (now (words .entry))) (m .report) (m .symbols) (m .marks) ⌝ }
+// Rounds as `rounds_by` takes them. Each plan has a call of its own, whose loops are compiled for its sizes.
+pub fn rounds(plan: usize, symbols: &mut [u8; 256], marks: &mut [u32; 8]) -> Report
+    requires { ⌜ benchRefusal (startOf plan (now symbols) (now marks)) unasked ≡ 0 ⌝ }
+    requires { ⌜ Arrays (startOf plan (now symbols) (now marks)) ⌝ }
+    ensures { λ r. ⌜ Ended (roundsOn (startOf plan (now (symbols .entry)) (now (marks .entry)))) r (now (symbols .exit)) (now (marks .exit)) ⌝ }
+    ensures { λ _. ⌜ (length (now (symbols .exit)) ≡ 256) × (length (now (marks .exit)) ≡ 8) ⌝ }
 {
     let table = field::products();
     if plan == 1 {
         let checks = plan::row_checks_1();
-        return rounds_by(1, &table, &checks, stripe, words);
+        return rounds_by(1, &table, &checks, symbols, marks);
     }
     if plan == 2 {
         let checks = plan::row_checks_2();
-        return rounds_by(2, &table, &checks, stripe, words);
+        return rounds_by(2, &table, &checks, symbols, marks);
     }
     let checks = plan::row_checks_3();
-    rounds_by(3, &table, &checks, stripe, words)
+    rounds_by(3, &table, &checks, symbols, marks)
 }
 
 // Whether the answer is Clash.

@@ -30,6 +30,7 @@ use Rattle.plans.specs.declared.Stepped.{Stepped}
 use Rattle.plans.specs.declared.Step.the-variants.{Blocked as StepBlocked, Raised, Top, Clash, Refused}
 use Rattle.steps.specs.declared.level.Learning.{Learning}
 use Rattle.steps.specs.declared.level.Learning.the-variants.{Blocked, Failing, Learned as AllLearned}
+use Rattle.plans.proofs.Shape.{some-check}
 use Rattle.plans.proofs.Parts.{part, rows-front}
 use Rattle.plans.proofs.Plans.{rows-most}
 use Rattle.plans.proofs.Sizes.{totals-most}
@@ -145,7 +146,7 @@ abbrev pub Learns : (p t : ℕ) (symbols marks old : List ℕ) → Learning → 
 Learns p t symbols marks old r l =
     let b = benchOf p t symbols marks old in (r ≡ learningOf (levelFill b)) × (l ≡ sumsAfter b (levelFill b))
 
-answer-tied : (f : Fill) → answerOf f ≡ Tied → f ≡ tied
+pub answer-tied : (f : Fill) → answerOf f ≡ Tied → f ≡ tied
 unfolding answerOf
 answer-tied tied e = refl
 answer-tied none e = let z : _≡_ {A = ℕ} 0 1 = cc in absurd (omega arith)
@@ -181,6 +182,29 @@ learned-starts p t {rows} {first} {last} {word} symbols {marks} old high start e
   walk = rw start (joining-starts _ _ _);
   written = sym (keep-none _ old _);
 }
+
+-- more rows with marks than totals block it
+module _ {p t q rows n totals : ℕ} {weights : List ℕ} (w : Weighing p t q rows n weights totals) (low : t < length (planOf p .levels)) where
+  pub lossy-blocked : (symbols marks old : List ℕ) (word : ℕ) → bitsOf (planOf p .rows) word ≡ lossy (planOf p) marks → word < 2 ^ planOf p .rows
+      → totals < ones word → levelFill (benchOf p t symbols marks old) ≡ blocked
+  lossy-blocked symbols marks old word bits small many =
+      let P = planOf p in
+      let k = length (checksTo P t) in
+      let m = length (levelOf P (suc t) .checks) in
+      let more : k < k + m = omega (arith, some-check p t low) in
+      level-fill p t symbols marks old
+      ∙ joining-tied (columnFill P t symbols (lossy P marks)) k m more
+      (answer-tied _
+      (sym (too-lossy w refl (rw (sums-more P t) more) symbols refl word small many ∙ ap (λ ms. answerOf (columnFill P t symbols ms k)) bits)))
+      (joining-starts (columnFill P t symbols (lossy P marks)) k m)
+
+  -- as the code sees it
+  pub learned-lossy : (symbols marks old : List ℕ) {word : ℕ} → rows ≡ planOf p .rows → (bitsOf rows word ≡ lossyFrom marks 0 rows) × (word < 2 ^ rows)
+      → totals < ones word → Learns p t symbols marks old Blocked old
+  unfolding lossy learningOf sumsAfter
+  learned-lossy symbols marks old {word} high told many =
+      learns-by p t symbols marks old
+      (lossy-blocked symbols marks old word (ap (λ r. bitsOf r word) (sym high) ∙ told .0 ∙ ap (lossyFrom marks 0) high) (rw high at (told .1)) many)
 
 module _ {p t rows last word j : ℕ} {symbols marks old kept : List ℕ} (s : LearnedTo p t rows last word symbols marks old j kept) where
   pub learned-ends : last ≤ j → Learns p t symbols marks old AllLearned kept

@@ -25,13 +25,12 @@ use Rattle.plans.specs.Tables.{checkTable, FactsOf}
 use Rattle.plans.specs.declared.plan.Facts.{Facts}
 use Rattle.plans.proofs.Flat.{rowIn, all-getD}
 use Rattle.plans.proofs.Tables.{checks-before, checks-in, checks-lt}
-use Rattle.plans.proofs.Rows.{row-length, row-again}
+use Rattle.plans.proofs.Rows.{row-end as rows-end, row-length, row-again}
 use Rattle.plans.proofs.Shape.{Shape, shape}
 use Rattle.steps.proofs.Fit.{sums-fit}
 use Rattle.steps.proofs.Levels.{sums-length}
 use Rattle.plans.proofs.Sizes.{checks-room, checks-length}
 use Rattle.plans.proofs.Parts.{part, part-of, part-length, part-back, rows-of, rows-front}
-use Rattle.steps.proofs.Checks.{row-places}
 
 -- ---- elements
 
@@ -86,7 +85,7 @@ module _ {p t : ℕ} {f : Facts} {m : ℕ} {checks sums symbols : List ℕ} {r :
   sums-end = omega (arith, few, shape p k .rows-le)
 
   pub row-end : r * f .columns + f .columns ≤ 256
-  row-end = row-places p f is k r inside
+  row-end = rw (is .columns) (le-trans (rows-end (planOf p .columns) inside) (shape p k .symbols-le))
 
   sums-are : lentSums ≡ sumsAt P t sums r
   unfolding sumsAt

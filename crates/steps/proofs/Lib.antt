@@ -9,7 +9,7 @@ pub mod Turns
 -- the start
 pub mod Starts
 -- the rows of a round, and the row step
-pub mod Checks
+pub mod Settled
 pub mod Lending
 pub mod Walking
 pub mod Arms
@@ -18,3 +18,5 @@ pub mod Stepping
 pub mod Keeping
 pub mod Joining
 pub mod Learning
+-- marks beyond all rows' sums
+pub mod Over

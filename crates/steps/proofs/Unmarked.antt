@@ -1,4 +1,4 @@
--- A vector without marks: its fill is the vector itself where its sums are the target, and nothing where they are not. Assumes nothing.
+-- A vector without marks: its fill is never tied, and the vector itself where its sums are the target. Assumes nothing.
 use mathlib.Core.Path.{_≡_, refl, sym, ap, ap₂, _∙_, subst}
 use mathlib.Core.Bool.{Bool, true, false, not}
 use mathlib.Core.List.{List, [], _∷_, map}
@@ -15,7 +15,7 @@ use Rattle.linear.specs.Marks.{bitsOf}
 use Rattle.linear.specs.Fill.{sumsOf, Fill, tied, none, one, fill}
 use Rattle.linear.proofs.Tests.{zeros-vanish}
 use Rattle.linear.proofs.Choices.{Agrees}
-use Rattle.linear.proofs.Filling.{Dependency, Independent, independent-of, Filling, fill-none, fill-one}
+use Rattle.linear.proofs.Filling.{Dependency, Independent, no-dependency, independent-of, Filling, Means, fill-means, fill-none, fill-one}
 
 -- no place is marked
 abbrev pub Clear : List Bool → Type 0
@@ -66,7 +66,12 @@ module _ (F : Field) where
     pub clear-one : sumsOf F checks v ≡ target → fill F checks target ms v ≡ one v
     clear-one e = fill-one F checks target ms v (clear-independent checks ms c) record { agrees = agrees-self ms v c l; meets = e }
 
-    pub clear-none : (sumsOf F checks v ≡ target → ⊥) → fill F checks target ms v ≡ none
-    clear-none ne =
-        fill-none F checks target ms v (clear-independent checks ms c) (λ z f.
-        ne (ap (sumsOf F checks) (sym (clear-agrees ms v z c l (f .agrees))) ∙ f .meets))
+    -- what each answer says
+    pub clear-untied : fill F checks target ms v ≡ tied → ⊥
+    clear-untied e =
+        let m = subst (Means F checks target ms v) e (fill-means F checks target ms v) in
+        no-dependency F checks ms (clear-independent checks ms c) (m .1)
+
+    pub clear-filled : (w : List ℕ) → fill F checks target ms v ≡ one w → w ≡ v
+    clear-filled w e =
+        let m = subst (Means F checks target ms v) e (fill-means F checks target ms v) in clear-agrees ms v w c l (m .1 .agrees)

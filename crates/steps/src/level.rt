@@ -107,13 +107,13 @@ pub fn learn<'a>(
     let first = plan::sums_to(plan, level);
     let last = plan::sums_to(plan, level + 1);
     let lossy = sums::lossy_word(rows, marks);
+    // more columns than totals are dependent, whatever the sums
+    if totals < u32::count_ones(lossy) as usize {
+        return Learning::Blocked;
+    }
     let mut column = [0u8; 8];
     let mut kept = *sums;
     for j in first..last {
-        // more columns than totals are dependent, whatever the sums
-        if totals < u32::count_ones(lossy) as usize {
-            return Learning::Blocked;
-        }
         let outcome = learn_column(plan, level, table, checks, symbols, lossy, j, &mut column);
         match outcome {
             linear::Outcome::Tied => return Learning::Blocked,

@@ -3,46 +3,19 @@ use plans::Bench;
 use plans::Step;
 use plans::Stepped;
 use plans::plan;
-use plans::sums;
 ghost use mathlib.Core.Path.{_≡_};
 ghost use Prim.Native.Nat.{ℕ, _+_, _*_, _^_, _<_, _≤_};
 ghost use lib.Dec.{T};
-ghost use lib.ListN.{length, getD};
+ghost use lib.ListN.{length};
 ghost use lib.Seq.{sets};
 ghost use Rattle.field.specs.Ours.{products};
 ghost use Rattle.linear.specs.Marks.{answerOf, vectorOf};
-ghost use Rattle.linear.specs.Fill.{sumsOf};
-ghost use Rattle.plans.specs.Plan.{planOf, known, checksTo, rowAt};
+ghost use Rattle.plans.specs.Plan.{planOf, known, rowAt};
 ghost use Rattle.plans.specs.Refusal.{sumsFit, benchRefusal, unasked};
 ghost use Rattle.steps.specs.Steps.{stepped, rowFill, rowStepBy};
 ghost use Rattle.plans.specs.Tables.{checkTable};
 ghost use Rattle.steps.specs.Learned.{benchOf};
-ghost use Rattle.steps.specs.Walk.{Arrays, fillAt, Walked};
-
-// The sum of row `row` under check j of levels 1 to t.
-fn check_sum(
-    plan: usize,
-    level: usize,
-    table: &[u8; 256],
-    checks: &[u8],
-    symbols: &[u8],
-    row: usize,
-    j: usize,
-) -> u8
-    requires { ⌜ now table ≡ products ⌝ }
-    requires { ⌜ now checks ≡ checkTable (planOf plan) ⌝ }
-    requires { ⌜ T (known plan) × (row < planOf plan .rows) × (j < length (checksTo (planOf plan) level)) × (length (now symbols) ≡ 256) ⌝ }
-    ensures { λ r. ⌜ r ≡ getD (sumsOf (planOf plan .field) (checksTo (planOf plan) level) (rowAt (planOf plan) (now (symbols .entry)) row)) j 0 ⌝ }
-{
-    let facts = plan::facts_of(plan);
-    let q = facts.field;
-    let n = facts.columns;
-    let first = j * n;
-    let last = first + n;
-    let start = row * n;
-    let end = start + n;
-    sums::row_sum(q, table, &checks[first..last], &symbols[start..end])
-}
+ghost use Rattle.steps.specs.Walk.{Arrays, overMarked, fillAt, Settled, Walked};
 
 // Fills row `row`, whose marks are `word`, by the checks of levels 1 to t and its learned sums; or leaves the symbols as they were.
 fn fill_row(
@@ -89,13 +62,29 @@ fn fill_row(
     )
 }
 
+// Whether every row has more marks than it has sums at level 1: then no step changes anything.
+pub fn over_marked(plan: usize, marks: &[u32]) -> bool
+    requires { ⌜ planOf plan .rows ≤ length (now marks) ⌝ }
+    ensures { λ r. ⌜ r ≡ overMarked (planOf plan) (now (marks .entry)) ⌝ }
+{
+    let rows = plan::rows(plan);
+    let sums = plan::sums_to(plan, 1);
+    for r in 0..rows {
+        if u32::count_ones(marks[r]) as usize <= sums {
+            return false;
+        }
+    }
+    true
+}
+
 // Where the walk over a round's rows came to: the first row whose checks fail, or R; and how many rows it filled.
 pub struct Walk {
     pub row: usize,
     pub filled: usize,
 }
 
-// Row steps on rows 0 to R - 1, up to the first row whose checks fail.
+// Row steps on rows 0 to R - 1, up to the first row whose checks fail. A row without marks is tested at level 1: from there on it has
+// the sums that are learned for it.
 pub fn walk_rows(
     plan: usize,
     level: usize,
@@ -109,6 +98,7 @@ pub fn walk_rows(
     requires { ⌜ now checks ≡ checkTable (planOf plan) ⌝ }
     requires { ⌜ benchRefusal (benchOf plan level (now symbols) (now marks) (now sums)) unasked ≡ 0 ⌝ }
     requires { ⌜ Arrays (benchOf plan level (now symbols) (now marks) (now sums)) ⌝ }
+    requires { ⌜ ((level ≡ 1 → ⊥) → Settled (benchOf plan level (now symbols) (now marks) (now sums))) ⌝ }
     ensures { λ w.
         ⌜
         Walked (benchOf plan level (now (symbols .entry)) (now (marks .entry)) (now (sums .entry)))
@@ -116,39 +106,27 @@ pub fn walk_rows(
         ⌝ }
 {
     let rows = plan::rows(plan);
-    let count = plan::sums_to(plan, level);
     let mut row = 0;
     let mut filled = 0;
-    let clash = 'rows: loop {
-        if row == rows {
-            break 'rows row;
-        }
+    while row < rows {
         let word = marks[row];
-        if word == 0 {
-            let mut j = 0;
-            while j < count {
-                if check_sum(plan, level, table, checks, &symbols[..], row, j)
-                    != sums[row * 16 + j]
-                {
-                    break 'rows row;
-                }
-                j += 1;
-            }
-        } else {
+        if word != 0 || level == 1 {
             match fill_row(plan, level, table, checks, symbols, word, sums, row) {
                 linear::Outcome::Tied => {}
                 linear::Outcome::None => {
-                    break 'rows row;
+                    return Walk { row, filled };
                 }
                 linear::Outcome::One => {
-                    marks[row] = 0;
-                    filled += 1;
+                    if word != 0 {
+                        marks[row] = 0;
+                        filled += 1;
+                    }
                 }
             }
         }
         row += 1;
-    };
-    Walk { row: clash, filled }
+    }
+    Walk { row, filled }
 }
 
 // Fills a row as `fill_row` does, by the plan's own table. Each plan has a call of its own, whose loops are compiled for its sizes.

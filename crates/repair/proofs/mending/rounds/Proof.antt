@@ -3,18 +3,29 @@ use mathlib.Core.Path.{_≡_, sym, subst}
 use mathlib.Core.List.{List}
 use Prim.Native.Nat.{ℕ}
 use borrow.Author.Needs.{needs}
-use Rattle.plans.specs.Refusal.{lentRefusal}
+use denote.Ref.{now}
+use Rattle.plans.specs.Refusal.{benchRefusal, unasked}
+use Rattle.plans.specs.declared.Report.{Report}
 use Rattle.plans.proofs.Shape.{third}
-use Rattle.steps.proofs.Fit.{lent-fit}
-use Rattle.repair.specs.Mending.{mended}
-use Rattle.repair.specs.Ended.{Ended}
-use Rattle.repair.specs.declared.mending.Mended.{Mended}
+use Rattle.steps.specs.Walk.{Arrays}
+use Rattle.steps.proofs.Walking.{sound-of}
+use Rattle.repair.specs.Ended.{startOf, roundsOn, Ended}
 use Rattle.repair.proofs.mending.rounds.Statement.{statement}
 use Rattle.repair.proofs.mending.rounds.Tie as tie
 
-ended-at : {p n : ℕ} → p ≡ n → (stripe words : List ℕ) (m : Mended)
-    → Ended (mended n stripe words) (m .report) (m .symbols) (m .marks) → Ended (mended p stripe words) (m .report) (m .symbols) (m .marks)
-ended-at e stripe words m = subst (λ p. Ended (mended p stripe words) (m .report) (m .symbols) (m .marks)) (sym e)
+-- what is asked for plan p, of plan n
+fit-at : {p n : ℕ} → p ≡ n → (symbols marks : List ℕ) → benchRefusal (startOf p symbols marks) unasked ≡ 0 → benchRefusal (startOf n symbols marks) unasked ≡ 0
+fit-at e symbols marks = subst (λ p. benchRefusal (startOf p symbols marks) unasked ≡ 0) e
+
+-- and what is answered for plan n, of plan p
+ended-at : {p n : ℕ} → p ≡ n → (symbols marks : List ℕ) (r : Report) (symbols′ marks′ : List ℕ)
+    → Ended (roundsOn (startOf n symbols marks)) r symbols′ marks′ → Ended (roundsOn (startOf p symbols marks)) r symbols′ marks′
+ended-at e symbols marks r symbols′ marks′ = subst (λ p. Ended (roundsOn (startOf p symbols marks)) r symbols′ marks′) (sym e)
+
+-- a plan that is neither 1 nor 2
+is-third : (c : tie.Else2) → c .before .before .before .args .plan ≡ 3
+is-third c =
+    let pre = c .before .before .before .pre in third _ (sound-of _ (pre .0) (pre .1) .fit .plan-known) (c .before .if1 .left) (c .if2 .left)
 
 products-requires : tie.Need-products-requires
 products-requires c κs = search needs
@@ -26,14 +37,10 @@ slice-aggregate-rounds-by : tie.Need-slice-aggregate-rounds-by
 slice-aggregate-rounds-by c = search needs
 
 rounds-by-requires : tie.Need-rounds-by-requires
-rounds-by-requires c κs = let s = c .before .before .before .before .before .before .before in (
-  (c .before .before .before .before .products .ensures, c .before .before .row-checks-1 .ensures),
-  subst (λ p. lentRefusal p (s .args .stripe .now) (s .args .words .now) ≡ 0) (c .before .before .before .if1 .taken) (s .pre),
-)
+rounds-by-requires c κs = ((c .before .before .before .before .before .before .products .ensures, c .before .before .before .before .row-checks-1 .ensures), (fit-at (c .before .before .before .before .before .if1 .taken) _ _ (c .before .before .before .before .before .before .before .pre .0), c .before .before .before .before .before .before .before .pre .1))
 
 returns : tie.Need-returns
-returns c = let s = c .before .before .before .before .before .before .before .before in
-    ended-at (c .before .before .before .before .if1 .taken) (s .args .stripe .now) (s .args .words .now) (c .rounds-by .result) (c .rounds-by .ensures)
+returns c = (ended-at (c .before .before .before .before .before .before .if1 .taken) _ _ _ _ _ (c .rounds-by .ensures .0), c .rounds-by .ensures .1)
 
 row-checks-2-requires : tie.Need-row-checks-2-requires
 row-checks-2-requires c κs = search needs
@@ -42,14 +49,10 @@ slice-aggregate-rounds-by-2 : tie.Need-slice-aggregate-rounds-by-2
 slice-aggregate-rounds-by-2 c = search needs
 
 rounds-by-requires-2 : tie.Need-rounds-by-requires-2
-rounds-by-requires-2 c κs = let s = c .before .before .before .before .before .before .before .before in (
-  (c .before .before .before .before .before .products .ensures, c .before .before .row-checks-2 .ensures),
-  subst (λ p. lentRefusal p (s .args .stripe .now) (s .args .words .now) ≡ 0) (c .before .before .before .if2 .taken) (s .pre),
-)
+rounds-by-requires-2 c κs = ((c .before .before .before .before .before .before .before .products .ensures, c .before .before .before .before .row-checks-2 .ensures), (fit-at (c .before .before .before .before .before .if2 .taken) _ _ (c .before .before .before .before .before .before .before .before .pre .0), c .before .before .before .before .before .before .before .before .pre .1))
 
 returns-2 : tie.Need-returns-2
-returns-2 c = let s = c .before .before .before .before .before .before .before .before .before in
-    ended-at (c .before .before .before .before .if2 .taken) (s .args .stripe .now) (s .args .words .now) (c .rounds-by2 .result) (c .rounds-by2 .ensures)
+returns-2 c = (ended-at (c .before .before .before .before .before .before .if2 .taken) _ _ _ _ _ (c .rounds-by2 .ensures .0), c .rounds-by2 .ensures .1)
 
 row-checks-3-requires : tie.Need-row-checks-3-requires
 row-checks-3-requires c κs = search needs
@@ -58,14 +61,10 @@ slice-aggregate-rounds-by-3 : tie.Need-slice-aggregate-rounds-by-3
 slice-aggregate-rounds-by-3 c = search needs
 
 rounds-by-requires-3 : tie.Need-rounds-by-requires-3
-rounds-by-requires-3 c κs = let s = c .before .before .before .before .before .before .before .before in (
-  (c .before .before .before .before .before .products .ensures, c .before .before .row-checks-3 .ensures),
-  subst (λ p. lentRefusal p (s .args .stripe .now) (s .args .words .now) ≡ 0) (third _ (lent-fit _ _ _ (c .before .before .before .before .before .before .before .before .pre) .plan-known) (c .before .before .before .before .if1 .left) (c .before .before .before .if2 .left)) (s .pre),
-)
+rounds-by-requires-3 c κs = ((c .before .before .before .before .before .before .before .products .ensures, c .before .before .before .before .row-checks-3 .ensures), (fit-at (is-third (c .before .before .before .before .before)) _ _ (c .before .before .before .before .before .before .before .before .pre .0), c .before .before .before .before .before .before .before .before .pre .1))
 
 returns-3 : tie.Need-returns-3
-returns-3 c = let s = c .before .before .before .before .before .before .before .before .before in
-    ended-at (third _ (lent-fit _ _ _ (c .before .before .before .before .before .before .before .before .before .pre) .plan-known) (c .before .before .before .before .before .if1 .left) (c .before .before .before .before .if2 .left)) (s .args .stripe .now) (s .args .words .now) (c .rounds-by3 .result) (c .rounds-by3 .ensures)
+returns-3 c = (ended-at (is-third (c .before .before .before .before .before .before)) _ _ _ _ _ (c .rounds-by3 .ensures .0), c .rounds-by3 .ensures .1)
 
 pub rounds-spec : {M : Type 1} → statement M
 rounds-spec =

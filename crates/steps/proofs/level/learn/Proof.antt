@@ -10,7 +10,7 @@ use Rattle.plans.proofs.Tables.{sums-most}
 use Rattle.plans.specs.Plan.{planOf}
 use Rattle.plans.specs.Tables.{weightTable}
 use Rattle.plans.proofs.Numbers.{Weighing, weighing}
-use Rattle.steps.proofs.Learning.{LearnedTo, too-lossy, learned-starts, learned-here, learned-blocked, learned-failing, learned-more, learned-ends}
+use Rattle.steps.proofs.Learning.{LearnedTo, learned-lossy, learned-starts, learned-here, learned-blocked, learned-failing, learned-more, learned-ends}
 use Rattle.steps.proofs.level.learn.Statement.{statement}
 use Rattle.steps.proofs.level.learn.Tie as tie
 
@@ -49,32 +49,28 @@ sums-to-requires-2 c κs = search needs
 lossy-word-requires : tie.Need-lossy-word-requires Inv-loop μ-loop
 lossy-word-requires c κs = rw (c .before .before .before .facts-of .ensures .rows) (rows-most (c .before .before .before .before .before .args .plan))
 
-loop-holds : tie.Need-loop-holds Inv-loop μ-loop
-loop-holds c =
-    let sums-to = c .before .before .before .sums-to in
-    let sums-to2 = c .before .before .sums-to2 in
-    learned-starts _ _ _ _ (c .before .before .before .before .before .facts-of .ensures .rows) (sums-to .ensures) (rw add-one at (sums-to2 .ensures)) (c .before .lossy-word .ensures)
-
 cast-if1 : tie.Need-cast-if1 Inv-loop μ-loop
-cast-if1 c = omega (arith, ones-le _ (c .before .before .before .lossy-word .result) (c .before .loop .inv .small), rows-most (c .before .before .before .before .before .before .before .before .before .args .plan))
+cast-if1 c =
+    let start = c .before .before .before .before .before .before in
+    let rows = c .before .before .before .before .facts-of .ensures .rows in
+    omega (arith, ones-le _ (c .lossy-word .result) (c .lossy-word .ensures .1), rows, rows-most (start .args .plan))
 
 returns : tie.Need-returns Inv-loop μ-loop
 returns c =
-    let head = c .before .before .loop in
-    let turn = c .before .loop-test in
-    let more = learned-here (head .inv) (turn .taken) in
-    learned-blocked (head .inv) (turn .taken) (too-lossy (weighed (c .before .before .before .before .before .before .before)) refl more _ refl _ (head .inv .small) (c .if1 .taken)) refl
+    learned-lossy (weighed (c .before .before .before .before)) (c .before .before .before .before .before .before .before .pre .1) _ _ _ (c .before .before .before .before .before .facts-of .ensures .rows) (c .before .lossy-word .ensures) (c .if1 .taken)
+
+loop-holds : tie.Need-loop-holds Inv-loop μ-loop
+loop-holds c =
+    learned-starts _ _ _ _ (c .before .before .before .before .before .before .facts-of .ensures .rows) (c .before .before .before .before .sums-to .ensures) (rw add-one at (c .before .before .before .sums-to2 .ensures)) (c .before .before .lossy-word .ensures)
 
 learn-column-requires : tie.Need-learn-column-requires Inv-loop μ-loop
 learn-column-requires c κs =
-    let head = c .before .before .before .before .loop in
-    let turn = c .before .before .before .loop-test in
-    let start = c .before .before .before .before .before .before .before .before .before .before .before .before in
-    let s = head .inv in (
+    let s = c .before .before .before .loop .inv in
+    let start = c .before .before .before .before .before .before .before .before .before .before .before .before in (
       start .pre .0,
       (
         omega (arith, symbols-most (start .args .plan)),
-        (omega (arith, levels-most (start .args .plan), start .pre), learned-here s (turn .taken), s .small),
+        (omega (arith, levels-most (start .args .plan), start .pre), learned-here s (c .before .before .loop-test .taken), s .small),
       ),
     )
 
@@ -83,52 +79,39 @@ enum-told c = search needs
 
 returns-2 : tie.Need-returns-2 Inv-loop μ-loop
 returns-2 c =
-    let head = c .before .before .before .before .before .before .before .loop in
-    let turn = c .before .before .before .before .before .before .loop-test in
-    let learn-column = c .before .before .learn-column in
-    learned-blocked (head .inv) (turn .taken) (learn-column .ensures .0) (c .enum-told .given .1)
+    learned-blocked (c .before .before .before .before .before .before .loop .inv) (c .before .before .before .before .before .loop-test .taken) (c .before .before .learn-column .ensures .0) (c .enum-told .given .1)
 
 enum-told-2 : tie.Need-enum-told-2 Inv-loop μ-loop
 enum-told-2 c = search needs
 
 returns-3 : tie.Need-returns-3 Inv-loop μ-loop
 returns-3 c =
-    let head = c .before .before .before .before .before .before .before .loop in
-    let turn = c .before .before .before .before .before .before .loop-test in
-    let learn-column = c .before .before .learn-column in
-    learned-failing (head .inv) (turn .taken) (learn-column .ensures .0) (c .enum-told2 .given .1)
+    learned-failing (c .before .before .before .before .before .before .loop .inv) (c .before .before .before .before .before .loop-test .taken) (c .before .before .learn-column .ensures .0) (c .enum-told2 .given .1)
 
 enum-told-3 : tie.Need-enum-told-3 Inv-loop μ-loop
 enum-told-3 c = search needs
 
 keep-column-requires : tie.Need-keep-column-requires Inv-loop μ-loop
 keep-column-requires c κs =
-    let head = c .before .before .before .before .before .before .before .before .before .loop in
-    let turn = c .before .before .before .before .before .before .before .before .loop-test in
-    let start = c .before .before .before .before .before .before .before .before .before .before .before .before .before .before .before .before .before in
-    let s = head .inv in (
+    let s = c .before .before .before .before .before .before .before .before .loop .inv in
+    let start = c .before .before .before .before .before .before .before .before .before .before .before .before .before .before .before .before .before in (
       rw (s .high) (rows-most (start .args .plan)),
-      omega (arith, learned-here s (turn .taken), sums-most (start .args .plan) (suc (start .args .level))),
+      omega (arith, learned-here s (c .before .before .before .before .before .before .before .loop-test .taken), sums-most (start .args .plan) (suc (start .args .level))),
     )
 
 add-j : tie.Need-add-j Inv-loop μ-loop
 add-j c =
-    let head = c .before .before .before .before .before .before .before .before .before .before .loop in
-    let turn = c .before .before .before .before .before .before .before .before .before .loop-test in
     let start = c .before .before .before .before .before .before .before .before .before .before .before .before .before .before .before .before .before .before in
-    omega (arith, learned-here (head .inv) (turn .taken), sums-most (start .args .plan) (suc (start .args .level)))
+    omega (arith, learned-here (c .before .before .before .before .before .before .before .before .before .loop .inv) (c .before .before .before .before .before .before .before .before .loop-test .taken), sums-most (start .args .plan) (suc (start .args .level)))
 
 loop-less : tie.Need-loop-less Inv-loop μ-loop
 loop-less c = search needs
 
 loop-again : tie.Need-loop-again Inv-loop μ-loop
 loop-again c =
-    let head = c .before .before .before .before .before .before .before .before .before .before .loop in
-    let turn = c .before .before .before .before .before .before .before .before .before .loop-test in
     let learn-column = c .before .before .before .before .before .learn-column in
-    let enum-told3 = c .before .before .before .enum-told3 in
     let column = learn-column .last .1 .1 .1 .1 .1 .1 .1 .0 in
-    learned-more (head .inv) (turn .taken) (learn-column .ensures .0) column (enum-told3 .given .1)
+    learned-more (c .before .before .before .before .before .before .before .before .before .loop .inv) (c .before .before .before .before .before .before .before .before .loop-test .taken) (learn-column .ensures .0) column (c .before .before .before .enum-told3 .given .1)
     (learn-column .ensures .1) (c .keep-column .ensures)
 
 returns-4 : tie.Need-returns-4 Inv-loop μ-loop
@@ -147,9 +130,9 @@ learn-spec =
     add-sums-to
     sums-to-requires-2
     lossy-word-requires
-    loop-holds
     cast-if1
     returns
+    loop-holds
     learn-column-requires
     enum-told
     returns-2

@@ -1,0 +1,94 @@
+-- Rows that have the sums learned for them: a row once it is filled, and every row without marks once a level is learned. Assumes nothing.
+use mathlib.Core.Path.{_≡_, refl, sym, ap, ap₂, _∙_, subst}
+use mathlib.Core.Logic.{_≢_}
+use mathlib.Core.Bool.{Bool, true, false, not}
+use mathlib.Core.List.{List, [], _∷_, _++_, map}
+use Prim.Native.Nat.{ℕ, zero, suc, _<_}
+use native.Mathlib.Omega.{arith}
+use borrow.Author.Tests.{eq-eqb}
+use lib.Dec.{eqb}
+use lib.ListN.{length, getD}
+use Rattle.field.specs.Lists.{upFrom}
+use Rattle.field.specs.Field.{Field, dot}
+use Rattle.field.proofs.Lists.{getD-map-below}
+use Rattle.linear.specs.Lists.{zeros, first, rest}
+use Rattle.linear.specs.Fill.{sumsOf, one}
+use Rattle.linear.proofs.Choices.{Agrees}
+use Rattle.linear.proofs.Filling.{Means, fill-means}
+use Rattle.linear.proofs.Vectors.{sums-append}
+use Rattle.plans.specs.Plan.{Plan, Level, planOf, levelOf, checksTo, rowAt, marksAt, across}
+use Rattle.plans.specs.Refusal.{sumsAt}
+use Rattle.steps.specs.Steps.{rowFill, putRow, lossy, learned, levelFill, raise}
+use Rattle.steps.specs.Walk.{HasSums, Settled}
+use Rattle.plans.specs.declared.Bench.{Bench}
+use Rattle.steps.proofs.Sums.{learnedAt}
+use Rattle.steps.proofs.Levels.{checks-suc}
+use Rattle.steps.proofs.Sound.{Sound, Ones, totalFill, filled-row, put-row, put-row-other, learned-ones, learned-length, raise-sums}
+
+-- what agrees with a vector has its entry wherever no mark stands
+agrees-at : (F : Field) (ms : List Bool) (v w : List ℕ) → Agrees F ms v w → (i : ℕ) → getD ms i true ≡ false → getD w i 0 ≡ getD v i 0
+unfolding first rest
+agrees-at F [] v w a i z = let n : _≡_ {A = ℕ} 0 1 = cc in absurd (omega arith)
+agrees-at F (m ∷ ms) v [] a i z = absurd a
+agrees-at F (true ∷ ms) v (y ∷ ys) a zero z = let n : _≡_ {A = ℕ} 0 1 = cc in absurd (omega arith)
+agrees-at F (false ∷ ms) [] (y ∷ ys) a zero z = a .0
+agrees-at F (false ∷ ms) (x ∷ v) (y ∷ ys) a zero z = a .0
+agrees-at F (m ∷ ms) [] (y ∷ ys) a (suc i) z = agrees-at F ms [] ys (a .1) i z
+agrees-at F (m ∷ ms) (x ∷ v) (y ∷ ys) a (suc i) z = agrees-at F ms v ys (a .1) i z
+
+module _ (b : Bench) where
+  abbrev P : Plan
+  P = planOf (b .plan)
+
+  -- ---- a filled row
+
+  module _ (s : Sound b) (r : ℕ) (inside : r < P .rows) (v : List ℕ) (e : rowFill b r ≡ one v) where
+    long : length v ≡ P .columns
+    long = filled-row b (s .fit) r inside v e .0
+
+    pub put-has : HasSums (putRow b r v) r
+    unfolding rowFill putRow
+    put-has =
+        let C = checksTo P (b .level) in
+        let target = sumsAt P (b .level) (b .sums) r in
+        let ms = marksAt P (b .marks) r in
+        let row = rowAt P (b .symbols) r in
+        ap (sumsOf (P .field) C) (put-row b (s .fit) r inside (s .sized) v long)
+        ∙ subst (Means (P .field) C target ms row) e (fill-means (P .field) C target ms row) .1 .meets
+
+    pub put-has-other : (k : ℕ) → k ≢ r → HasSums b k → HasSums (putRow b r v) k
+    unfolding putRow
+    put-has-other k ne h = ap (sumsOf (P .field) (checksTo P (b .level))) (put-row-other b (s .fit) r inside (s .sized) v long k ne) ∙ h
+
+  -- ---- a learned level
+
+  module _ (s : Sound b) (low : b .level < length (P .levels)) (cs : List (List ℕ)) (e : levelFill b ≡ learned cs) where
+    abbrev L : Level
+    L = levelOf P (suc (b .level))
+
+    module _ (r : ℕ) (inside : r < P .rows) (z : getD (b .marks) r 0 ≡ 0) where
+      -- a row without marks learns its own sum
+      own-sum : (c v : List ℕ) → totalFill b L c ≡ one v → getD v r 0 ≡ dot (P .field) c (rowAt P (b .symbols) r)
+      unfolding lossy across
+      own-sum c v q =
+          let W = L .weights in
+          let ms = lossy P (b .marks) in
+          let own = across P (b .symbols) c in
+          agrees-at (P .field) ms own v (subst (Means (P .field) W (zeros W) ms own) q (fill-means (P .field) W (zeros W) ms own) .1 .agrees) r
+          (getD-map-below (λ r. not (eqb (getD (b .marks) r 0) 0)) (P .rows) r true inside ∙ ap not (eq-eqb (getD (b .marks) r 0) 0 z))
+          ∙ getD-map-below (λ r. dot (P .field) c (rowAt P (b .symbols) r)) (P .rows) r 0 inside
+
+      own-sums : (C vs : List (List ℕ)) → Ones (totalFill b L) C vs → learnedAt vs r ≡ sumsOf (P .field) C (rowAt P (b .symbols) r)
+      unfolding sumsOf
+      own-sums [] [] o = refl
+      own-sums [] (v ∷ vs) o = absurd o
+      own-sums (c ∷ C) [] o = absurd o
+      own-sums (c ∷ C) (v ∷ vs) o = ap₂ _∷_ (own-sum c v (o .0)) (own-sums C vs (o .1))
+
+    pub settled-raise : Settled b → Settled (raise b cs)
+    unfolding raise
+    settled-raise settled r inside z =
+        let row = rowAt P (b .symbols) r in
+        ap (λ C. sumsOf (P .field) C row) (checks-suc P (b .level) low) ∙ sums-append (P .field) (checksTo P (b .level)) (L .checks) row
+        ∙ ap₂ _++_ (settled r inside z) (sym (own-sums r inside z (L .checks) cs (learned-ones b (s .fit) cs e)))
+        ∙ sym (raise-sums b (s .fit) (s .sized) low cs (learned-length b (s .fit) cs e) r inside)
