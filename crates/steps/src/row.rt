@@ -3,7 +3,6 @@ use plans::Bench;
 use plans::Step;
 use plans::Stepped;
 use plans::plan;
-use plans::sums;
 ghost use mathlib.Core.Path.{_≡_};
 ghost use Prim.Native.Nat.{ℕ, _+_, _*_, _^_, _<_, _≤_};
 ghost use lib.Dec.{T};
@@ -41,7 +40,7 @@ fn check_sum(
     let last = first + n;
     let start = row * n;
     let end = start + n;
-    sums::row_sum(q, table, &checks[first..last], &symbols[start..end])
+    field::dot(q, table, &checks[first..last], &symbols[start..end])
 }
 
 // Fills row `row`, whose marks are `word`, by the checks of levels 1 to t and its learned sums; or leaves the symbols as they were.

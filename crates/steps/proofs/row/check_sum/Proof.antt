@@ -10,7 +10,7 @@ use Rattle.steps.proofs.row.check_sum.Tie as tie
 use Rattle.steps.proofs.row.check_sum.Reads as reads
 use Rattle.steps.proofs.row.check_sum.Lts as lts
 use Rattle.plans.proofs.plan.facts_of.Reads as facts-of-reads
-use Rattle.plans.proofs.sums.row_sum.Reads as row-sum-reads
+use Rattle.field.proofs.dot.Reads as dot-reads
 
 facts-of-requires : tie.Need-facts-of-requires
 facts-of-requires c κs = search needs
@@ -27,29 +27,29 @@ mul-start c = record { fits = omega (arith, row-places _ _ (c .facts-of .ensures
 add-end : tie.Need-add-end
 add-end c = record { fits = omega (arith, row-places _ _ (c .facts-of .ensures) (c .before .before .before .pre .1 .1 .0) _ (c .before .before .before .pre .1 .1 .1)) }
 
-sub-row-sum : tie.Need-sub-row-sum
-sub-row-sum c = search needs
+sub-dot : tie.Need-sub-dot
+sub-dot c = search needs
 
-part-row-sum-start : tie.Need-part-row-sum-start
-part-row-sum-start c = omega arith
+part-dot-start : tie.Need-part-dot-start
+part-dot-start c = omega arith
 
-part-row-sum-end : tie.Need-part-row-sum-end
-part-row-sum-end c = omega (arith, check-place _ _ (c .facts-of .ensures) _ _ (c .before .before .before .pre .1 .1 .2), ap length (c .before .before .before .pre .1 .0), checks-length (c .before .before .before .args .plan))
+part-dot-end : tie.Need-part-dot-end
+part-dot-end c = omega (arith, check-place _ _ (c .facts-of .ensures) _ _ (c .before .before .before .pre .1 .1 .2), ap length (c .before .before .before .pre .1 .0), checks-length (c .before .before .before .args .plan))
 
-sub-row-sum-2 : tie.Need-sub-row-sum-2
-sub-row-sum-2 c = search needs
+sub-dot-2 : tie.Need-sub-dot-2
+sub-dot-2 c = search needs
 
-part-row-sum-start-2 : tie.Need-part-row-sum-start-2
-part-row-sum-start-2 c = omega arith
+part-dot-start-2 : tie.Need-part-dot-start-2
+part-dot-start-2 c = omega arith
 
-part-row-sum-end-2 : tie.Need-part-row-sum-end-2
-part-row-sum-end-2 c = omega (arith, row-places _ _ (c .before .facts-of .ensures) (c .before .before .before .before .pre .1 .1 .0) _ (c .before .before .before .before .pre .1 .1 .1), c .before .before .before .before .pre .1 .1 .3)
+part-dot-end-2 : tie.Need-part-dot-end-2
+part-dot-end-2 c = omega (arith, row-places _ _ (c .before .facts-of .ensures) (c .before .before .before .before .pre .1 .1 .0) _ (c .before .before .before .before .pre .1 .1 .1), c .before .before .before .before .pre .1 .1 .3)
 
-row-sum-requires : tie.Need-row-sum-requires
-row-sum-requires c κs = (c .before .before .before .before .before .pre .0, parts-alike _ _ (c .before .before .facts-of .ensures) _ _ _ _ _ (c .before .before .before .before .before .pre .1 .1 .2) (c .before .before .before .before .before .pre .1 .1 .0) (c .before .before .before .before .before .pre .1 .1 .1) (c .before .before .before .before .before .pre .1 .0) (c .before .before .before .before .before .pre .1 .1 .3))
+dot-requires : tie.Need-dot-requires
+dot-requires c κs = (c .before .before .before .before .before .pre .0, parts-alike _ _ (c .before .before .facts-of .ensures) _ _ _ _ _ (c .before .before .before .before .before .pre .1 .1 .2) (c .before .before .before .before .before .pre .1 .1 .0) (c .before .before .before .before .before .pre .1 .1 .1) (c .before .before .before .before .before .pre .1 .0) (c .before .before .before .before .before .pre .1 .1 .3))
 
 returns : tie.Need-returns
-returns c = c .row-sum .ensures ∙ sum-of-parts _ _ (c .before .before .before .facts-of .ensures) _ _ _ _ _ (c .before .before .before .before .before .before .pre .1 .1 .2) (c .before .before .before .before .before .before .pre .1 .0)
+returns c = c .dot .ensures ∙ sum-of-parts _ _ (c .before .before .before .facts-of .ensures) _ _ _ _ _ (c .before .before .before .before .before .before .pre .1 .1 .2) (c .before .before .before .before .before .before .pre .1 .0)
 
 pub check-sum-spec : {M : Type 1} → statement M
 check-sum-spec =
@@ -60,11 +60,11 @@ check-sum-spec =
     add-last
     mul-start
     add-end
-    sub-row-sum
-    part-row-sum-start
-    part-row-sum-end
-    sub-row-sum-2
-    part-row-sum-start-2
-    part-row-sum-end-2
-    row-sum-requires
+    sub-dot
+    part-dot-start
+    part-dot-end
+    sub-dot-2
+    part-dot-start-2
+    part-dot-end-2
+    dot-requires
     returns)
