@@ -24,7 +24,7 @@ fn vanishes(q: usize, table: &[u8; 256], checks: &[u8], m: usize, v: &[u8]) -> b
     for i in 0..m {
         let start = i * n;
         let end = start + n;
-        if sums::row_sum(q, table, &checks[start..end], v) != 0 {
+        if field::dot(q, table, &checks[start..end], v) != 0 {
             return false;
         }
     }

@@ -6,5 +6,6 @@ pub mod Laws
 pub mod Fields
 pub mod Lists
 pub mod Table
+pub mod Summing
 pub mod Words
 pub mod Powers

@@ -1,6 +1,7 @@
 // Arithmetic of our fields. Elements are numbers below the field's size; the sum is `^`. For our own crates, not for scripts.
 ghost use mathlib.Core.Path.{_≡_};
-ghost use Rattle.field.specs.Field.{mul, inverse};
+ghost use lib.ListN.{length};
+ghost use Rattle.field.specs.Field.{mul, inverse, dot};
 ghost use Rattle.field.specs.Ours.{fieldOf, «products» as productTable};
 
 // Entry 16 x + y is x times y in GF(16), modulo x^4 + x + 1.
@@ -263,7 +264,7 @@ const PRODUCTS: [u8; 256] = [
     10,
 ];
 
-// The table of products, to be copied to a local once and lent to `product` and `inverse`.
+// The table of products, to be copied to a local once and lent to `product`, `inverse` and `dot`.
 pub fn products() -> [u8; 256]
     ensures { λ r. ⌜ r ≡ productTable ⌝ }
 {
@@ -294,4 +295,43 @@ pub fn inverse(q: usize, table: &[u8; 256], x: u8) -> u8
     let x4 = product(q, table, x2, x2);
     let x8 = product(q, table, x4, x4);
     product(q, table, x2, product(q, table, x4, x8))
+}
+
+// The sum over GF(2) of each symbol times its coefficient. The low bit counts: it is taken once, at the end.
+fn dot_bits(check: &[u8], row: &[u8]) -> u8
+    requires { ⌜ length (now check) ≡ length (now row) ⌝ }
+    ensures { λ r. ⌜ r ≡ dot (fieldOf 2) (now (check .entry)) (now (row .entry)) ⌝ }
+{
+    let mut sum = 0u8;
+    for c in 0..check.len() {
+        sum = sum ^ (check[c] & row[c]);
+    }
+    sum % 2
+}
+
+// The sum of each symbol times its coefficient, by `product`.
+fn dot_table(q: usize, table: &[u8; 256], check: &[u8], row: &[u8]) -> u8
+    requires { ⌜ now table ≡ productTable ⌝ }
+    requires { ⌜ length (now check) ≡ length (now row) ⌝ }
+    ensures { λ r. ⌜ r ≡ dot (fieldOf q) (now (check .entry)) (now (row .entry)) ⌝ }
+{
+    let mut sum = 0u8;
+    for c in 0..check.len() {
+        let x = check[c];
+        let y = row[c];
+        sum = sum ^ product(q, table, x, y);
+    }
+    sum
+}
+
+// The sum of each symbol times its coefficient, in field `q`. GF(2) has a call of its own, whose loop is compiled without the table.
+pub fn dot(q: usize, table: &[u8; 256], check: &[u8], row: &[u8]) -> u8
+    requires { ⌜ now table ≡ productTable ⌝ }
+    requires { ⌜ length (now check) ≡ length (now row) ⌝ }
+    ensures { λ r. ⌜ r ≡ dot (fieldOf q) (now (check .entry)) (now (row .entry)) ⌝ }
+{
+    if q == 2 {
+        return dot_bits(check, row);
+    }
+    dot_table(q, table, check, row)
 }

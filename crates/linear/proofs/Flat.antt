@@ -1,14 +1,14 @@
--- Flat lists as rows, and the sums of the rows, place by place. Assumes nothing.
-use Prim.Native.Nat.{ℕ, zero, suc, _+_, _*_, _≤_, _<_}
-use mathlib.Core.Path.{_≡_, refl, sym, ap, _∙_, subst}
+-- Flat lists as rows, what is lent of them from a start to an end, and the sums of the rows, place by place. Assumes nothing.
+use Prim.Native.Nat.{ℕ, zero, suc, _+_, _*_, _-_, _≤_, _<_}
+use mathlib.Core.Path.{_≡_, refl, sym, ap, ap₂, _∙_, subst}
 use mathlib.Core.Bool.{Bool, true, false}
 use mathlib.Core.Logic.{_≢_}
 use mathlib.Core.List.{List, [], _∷_}
-use native.Mathlib.Nat.{zero-mul, zero-add, suc-mul, le-of-suc-le-suc}
+use native.Mathlib.Nat.{zero-mul, zero-add, suc-mul, add-sub-cancel-left, le-of-suc-le-suc}
 use native.Mathlib.Omega.{arith}
 use lib.Dec.{T}
-use lib.ListN.{length, getD, take, drop}
-use lib.Seq.{getD-take, getD-drop, ext-getD}
+use lib.ListN.{length, getD, take, drop, length-take, length-drop}
+use lib.Seq.{length-take-le, getD-take, getD-drop, ext-getD}
 use Rattle.field.specs.Field.{Field, _⊕_, mul, dot}
 use Rattle.field.proofs.Laws.{IsField}
 use Rattle.linear.specs.Lists.{same}
@@ -18,6 +18,20 @@ use Rattle.linear.specs.Marks.{rowsOf}
 use Rattle.linear.proofs.Tests.{same→eq, same-refl}
 use Rattle.systems.proofs.Inner.{inner-first, inner-same, inner-zero}
 use Rattle.field.proofs.Laws as laws
+
+-- ---- from a start to an end
+
+abbrev pub part : (start size : ℕ) → List ℕ → List ℕ
+part start size l = take (start + size - start) (drop start l)
+
+pub part-of : (start size : ℕ) (l : List ℕ) → part start size l ≡ take size (drop start l)
+part-of start size l = ap (λ n. take n (drop start l)) (add-sub-cancel-left start size)
+
+pub part-length : (start size : ℕ) (l : List ℕ) → start + size ≤ length l → length (part start size l) ≡ size
+part-length start size l h =
+    ap length (part-of start size l) ∙ length-take-le size (drop start l) (simp length-drop (omega arith))
+
+-- ---- sums
 
 -- the test of two lists, from what is known of them
 pub eq-same : (a b : List ℕ) → a ≡ b → true ≡ same a b
@@ -43,6 +57,13 @@ module _ (F : Field) (K : IsField F) where
   dot-inner (c ∷ cs) (x ∷ xs) zero h = absurd (omega arith)
   dot-inner (c ∷ cs) (x ∷ xs) (suc n) h =
       ap (λ s. mul F c x ⊕ s) (dot-inner cs xs n (le-of-suc-le-suc h)) ∙ sym (inner-first F (vec (c ∷ cs)) (vec (x ∷ xs)) n)
+
+  -- what is lent of row i, and of a vector
+  pub part-inner : (i n : ℕ) (l w : List ℕ) → dot F (part (i * n) n l) (take n w) ≡ inner F (ent l n i) (vec w) n
+  part-inner i n l w =
+      dot-inner (part (i * n) n l) (take n w) n (simp length-take (omega arith))
+      ∙ inner-same F (vec (part (i * n) n l)) (vec (take n w)) (ent l n i) (vec w) n
+      (λ j lj. ap₂ (mul F) (ap (λ r. vec r j) (part-of (i * n) n l) ∙ getD-take n (drop (i * n) l) j 0 lj ∙ getD-drop (i * n) l j 0) (getD-take n w j 0 lj))
 
   pub length-sums : (m n : ℕ) (l w : List ℕ) → length (sumsOf F (rowsOf m n l) w) ≡ m
   unfolding sumsOf rowsOf

@@ -1,4 +1,4 @@
--- What is shown of filling. Other crates cite Tests, Choices, Vectors and Filling.
+-- What is shown of filling. Other crates cite Tests, Choices, Vectors, Filling and Flat.
 pub mod Tests
 pub mod Choices
 pub mod Vectors

@@ -92,14 +92,9 @@ fn row_sum(q: usize, table: &[u8; 256], checks: &[u8], i: usize, v: &[u8], n: us
     requires { ⌜ (i * n + n ≤ length (now checks)) × (n ≤ length (now v)) ⌝ }
     ensures { λ s. ⌜ s ≡ inner (fieldOf q) (ent (now (checks .entry)) n i) (vec (now (v .entry))) n ⌝ }
 {
-    let r = i * n;
-    let mut sum = 0;
-    let mut c = 0;
-    while c < n {
-        sum = sum ^ field::product(q, table, checks[r + c], v[c]);
-        c += 1;
-    }
-    sum
+    let start = i * n;
+    let end = start + n;
+    field::dot(q, table, &checks[start..end], &v[..n])
 }
 
 // Copies the coefficients of check i at the k places to row i of the system, and leaves the rest as it is.

@@ -2,26 +2,17 @@
 use mathlib.Core.Path.{_≡_, refl, sym, ap, ap₂, _∙_}
 use mathlib.Core.List.{List, [], _∷_, _++_, map, append-assoc}
 use Prim.Native.Nat.{ℕ, zero, suc, _+_, _*_, _-_, _≤_}
-use native.Mathlib.Nat.{zero-add, suc-add, add-comm, add-sub-cancel-left, suc-mul, zero-mul}
+use native.Mathlib.Nat.{zero-add, suc-add, add-comm, suc-mul, zero-mul}
 use native.Mathlib.Omega.{arith}
 use lib.ListN.{length, take, drop, length-drop}
-use lib.Seq.{sets, sets-eq, length-take-le, take-all, take-nil, take-take, drop-drop}
+use lib.Seq.{sets, sets-eq, take-all, take-nil, take-take, drop-drop}
 use Rattle.field.specs.Lists.{upFrom}
 use Rattle.field.proofs.Lists.{map-up-same}
 use Rattle.linear.specs.Marks.{rowsOf}
+pub use Rattle.linear.proofs.Flat.{part, part-of, part-length}
 use Rattle.plans.proofs.Flat.{rowIn}
 
 -- ---- from a start to an end
-
-abbrev pub part : (start size : ℕ) → List ℕ → List ℕ
-part start size l = take (start + size - start) (drop start l)
-
-pub part-of : (start size : ℕ) (l : List ℕ) → part start size l ≡ take size (drop start l)
-part-of start size l = ap (λ n. take n (drop start l)) (add-sub-cancel-left start size)
-
-pub part-length : (start size : ℕ) (l : List ℕ) → start + size ≤ length l → length (part start size l) ≡ size
-part-length start size l h =
-    ap length (part-of start size l) ∙ length-take-le size (drop start l) (simp length-drop (omega arith))
 
 -- what stands from a start on
 pub rest-of : (start : ℕ) (l : List ℕ) → take (length l - start) (drop start l) ≡ drop start l

@@ -6,37 +6,9 @@ ghost use Prim.Native.Nat.{_*_, _^_, _<_, _≤_};
 ghost use lib.Dec.{eqb};
 ghost use lib.ListN.{length, getD};
 ghost use Rattle.field.specs.Lists.{upFrom};
-ghost use Rattle.field.specs.Field.{dot};
 ghost use Rattle.field.specs.Ours.{fieldOf, products};
 ghost use Rattle.linear.specs.Marks.{bitsOf};
 ghost use Rattle.plans.specs.Tables.{padded, rowSums};
-
-// The sum of each symbol times its coefficient, by products in field `q`.
-fn sum_in(q: usize, table: &[u8; 256], check: &[u8], row: &[u8]) -> u8
-    requires { ⌜ now table ≡ products ⌝ }
-    requires { ⌜ length (now check) ≡ length (now row) ⌝ }
-    ensures { λ r. ⌜ r ≡ dot (fieldOf q) (now (check .entry)) (now (row .entry)) ⌝ }
-{
-    let mut sum = 0u8;
-    for c in 0..check.len() {
-        let x = check[c];
-        let y = row[c];
-        sum = sum ^ field::product(q, table, x, y);
-    }
-    sum
-}
-
-// The sum of each symbol times its coefficient. GF(2) has a call of its own, whose loop is compiled without the table.
-pub fn row_sum(q: usize, table: &[u8; 256], check: &[u8], row: &[u8]) -> u8
-    requires { ⌜ now table ≡ products ⌝ }
-    requires { ⌜ length (now check) ≡ length (now row) ⌝ }
-    ensures { λ r. ⌜ r ≡ dot (fieldOf q) (now (check .entry)) (now (row .entry)) ⌝ }
-{
-    if q == 2 {
-        return sum_in(2, table, check, row);
-    }
-    sum_in(q, table, check, row)
-}
 
 // The sums of the rows under one check, and zeros behind them. A row is as long as the check.
 pub fn across(q: usize, table: &[u8; 256], rows: usize, check: &[u8], symbols: &[u8]) -> [u8; 8]
@@ -49,7 +21,7 @@ pub fn across(q: usize, table: &[u8; 256], rows: usize, check: &[u8], symbols: &
     for r in 0..rows {
         let start = r * n;
         let end = start + n;
-        sums[r] = row_sum(q, table, check, &symbols[start..end]);
+        sums[r] = field::dot(q, table, check, &symbols[start..end]);
     }
     sums
 }

@@ -30,19 +30,19 @@ add-end c =
     let start = c .before .before .before .before in
     omega (arith, row-end (length (start .args .v .now)) (c .loop-test .taken), start .pre)
 
-sub-row-sum : tie.Need-sub-row-sum Inv-loop μ-loop
-sub-row-sum c = search needs
+sub-dot : tie.Need-sub-dot Inv-loop μ-loop
+sub-dot c = search needs
 
-part-row-sum-start : tie.Need-part-row-sum-start Inv-loop μ-loop
-part-row-sum-start c = search needs
+part-dot-start : tie.Need-part-dot-start Inv-loop μ-loop
+part-dot-start c = search needs
 
-part-row-sum-end : tie.Need-part-row-sum-end Inv-loop μ-loop
-part-row-sum-end c =
+part-dot-end : tie.Need-part-dot-end Inv-loop μ-loop
+part-dot-end c =
     let start = c .before .before .before .before in
     omega (arith, row-end (length (start .args .v .now)) (c .loop-test .taken), start .pre)
 
-row-sum-requires : tie.Need-row-sum-requires Inv-loop μ-loop
-row-sum-requires c κs =
+dot-requires : tie.Need-dot-requires Inv-loop μ-loop
+dot-requires c κs =
     let start = c .before .before .before .before .before in
     let n = length (start .args .v .now) in
     (start .pre .0, part-length _ n (start .args .checks .now) (omega (arith, row-end n (c .before .loop-test .taken), start .pre)))
@@ -50,7 +50,7 @@ row-sum-requires c κs =
 returns : tie.Need-returns Inv-loop μ-loop
 returns c =
     let head = c .before .before .before .before .loop in
-    vanish-fails _ _ _ _ (search needs) (c .before .row-sum .ensures) (head .inv) (c .if1 .taken)
+    vanish-fails _ _ _ _ (search needs) (c .before .dot .ensures) (head .inv) (c .if1 .taken)
 
 add-i : tie.Need-add-i Inv-loop μ-loop
 add-i c = search needs
@@ -61,7 +61,7 @@ loop-less c = search needs
 loop-again : tie.Need-loop-again Inv-loop μ-loop
 loop-again c =
     let head = c .before .before .before .before .loop in
-    vanish-turns _ _ _ _ (search needs) (c .before .row-sum .ensures) (head .inv) (c .if1 .left)
+    vanish-turns _ _ _ _ (search needs) (c .before .dot .ensures) (head .inv) (c .if1 .left)
 
 returns-2 : tie.Need-returns-2 Inv-loop μ-loop
 returns-2 c = vanish-ends _ _ _ _ (search needs) (c .before .loop .inv)
@@ -75,10 +75,10 @@ vanishes-spec =
     loop-holds
     mul-start
     add-end
-    sub-row-sum
-    part-row-sum-start
-    part-row-sum-end
-    row-sum-requires
+    sub-dot
+    part-dot-start
+    part-dot-end
+    dot-requires
     returns
     add-i
     loop-less

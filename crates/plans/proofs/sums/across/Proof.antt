@@ -32,19 +32,19 @@ add-end c =
     let start = c .before .before .before .before in
     omega (arith, row-end (length (start .args .check .now)) (c .loop-test .taken), start .pre)
 
-sub-row-sum : tie.Need-sub-row-sum Inv-loop μ-loop
-sub-row-sum c = omega arith
+sub-dot : tie.Need-sub-dot Inv-loop μ-loop
+sub-dot c = omega arith
 
-part-row-sum-start : tie.Need-part-row-sum-start Inv-loop μ-loop
-part-row-sum-start c = omega arith
+part-dot-start : tie.Need-part-dot-start Inv-loop μ-loop
+part-dot-start c = omega arith
 
-part-row-sum-end : tie.Need-part-row-sum-end Inv-loop μ-loop
-part-row-sum-end c =
+part-dot-end : tie.Need-part-dot-end Inv-loop μ-loop
+part-dot-end c =
     let start = c .before .before .before .before in
     omega (arith, row-end (length (start .args .check .now)) (c .loop-test .taken), start .pre)
 
-row-sum-requires : tie.Need-row-sum-requires Inv-loop μ-loop
-row-sum-requires c κs =
+dot-requires : tie.Need-dot-requires Inv-loop μ-loop
+dot-requires c κs =
     let start = c .before .before .before .before .before in
     let n = length (start .args .check .now) in
     (start .pre .0, sym (part-length _ n (start .args .symbols .now) (omega (arith, row-end n (c .before .loop-test .taken), start .pre))))
@@ -59,7 +59,7 @@ loop-less : tie.Need-loop-less Inv-loop μ-loop
 loop-less c = search needs
 
 loop-again : tie.Need-loop-again Inv-loop μ-loop
-loop-again c = across-turns _ _ _ _ (search needs) (search needs) (c .row-sum .ensures) (c .before .before .before .loop .inv)
+loop-again c = across-turns _ _ _ _ (search needs) (search needs) (c .dot .ensures) (c .before .before .before .loop .inv)
 
 returns : tie.Need-returns Inv-loop μ-loop
 returns c = across-ends _ _ _ _ (search needs) (search needs) (c .before .loop .inv)
@@ -73,10 +73,10 @@ across-spec =
     loop-holds
     mul-start
     add-end
-    sub-row-sum
-    part-row-sum-start
-    part-row-sum-end
-    row-sum-requires
+    sub-dot
+    part-dot-start
+    part-dot-end
+    dot-requires
     array-write-sums
     add-r
     loop-less

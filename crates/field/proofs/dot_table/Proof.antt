@@ -1,13 +1,13 @@
--- `sums::sum_in` meets its contract: the invariant is that the columns passed and those to come make the whole sum. Assumes nothing.
+-- `field::dot_table` meets its contract: the invariant is that the columns passed and those to come make the whole sum. Assumes nothing.
 use Prim.Native.Nat.{_-_}
 use mathlib.Core.Path.{_≡_, refl}
 use borrow.Author.Needs.{needs}
 use lib.ListN.{length}
 use Rattle.field.specs.Field.{_⊕_}
 use Rattle.field.specs.Ours.{fieldOf}
-use Rattle.plans.proofs.Summing.{Summing, summing-starts, summing-turns, summing-ends}
-use Rattle.plans.proofs.sums.sum_in.Statement.{statement}
-use Rattle.plans.proofs.sums.sum_in.Tie as tie
+use Rattle.field.proofs.Summing.{Summing, summing-starts, summing-turns, summing-ends}
+use Rattle.field.proofs.dot_table.Statement.{statement}
+use Rattle.field.proofs.dot_table.Tie as tie
 
 abbrev Inv-loop : tie.InvT-loop
 Inv-loop q table check row sum₀ c₀ c-end sum c = (c-end ≡ length check) × Summing (fieldOf q) check row c sum
@@ -36,17 +36,15 @@ loop-less c = search needs
 loop-again : tie.Need-loop-again Inv-loop μ-loop
 unfolding _⊕_
 loop-again c =
-    let start = c .before .before .before .before .before .before .before in
-    let head = c .before .before .before .before .loop in
-    let args = start .args in
-    let loop = head in
+    let args = c .before .before .before .before .before .before .before .args in
+    let loop = c .before .before .before .before .loop in
     (refl, summing-turns (fieldOf (args .q)) (args .check .now) (args .row .now) (search needs) (search needs) (c .product .ensures) (loop .inv .1))
 
 returns : tie.Need-returns Inv-loop μ-loop
 returns c = summing-ends _ _ _ (search needs) (c .before .loop .inv .1)
 
-pub sum-in-spec : {M : Type 1} → statement M
-sum-in-spec =
+pub dot-table-spec : {M : Type 1} → statement M
+dot-table-spec =
     tie.close
     (tie.spec
     Inv-loop
