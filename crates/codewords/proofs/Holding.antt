@@ -1,34 +1,38 @@
--- The tests of the codeword test, each as a walk over sums, checks or levels. Assumes nothing.
-use mathlib.Core.Path.{_≡_, refl, sym, ap, ap₂, _∙_, subst}
+-- The tests of the codeword test, each as a walk over checks, rows, totals or levels. Assumes nothing.
+use mathlib.Core.Path.{_≡_, refl, sym, ap, ap₂, _∙_, subst, fun-ext}
 use mathlib.Core.Bool.{Bool, true, false, _&&_}
-use mathlib.Core.List.{List, [], _∷_, _++_, map, map-map, flatMap}
+use mathlib.Core.List.{List, [], _∷_, map, map-map, flatMap}
 use Prim.Native.Nat.{ℕ, zero, suc, _+_, _*_, _-_, _≤_, _<_}
-use native.Mathlib.Numerals.{add-one}
+use native.Mathlib.Nat.{le-trans, min-le-left, suc-mul, add-mul}
 use native.Mathlib.Omega.{arith}
 use borrow.Author.Tests.{eqb-true, eq-eqb, ne-eqb}
 use lib.Dec.{T, eqb}
-use lib.ListN.{length, getD, take, drop, replicate, drop-of-length-le}
-use lib.Seq.{take-at, drop-cons}
+use lib.ListN.{length, getD, take, drop, length-take, length-drop}
+use lib.Seq.{length-take-le, drop-drop}
 use Rattle.field.specs.Lists.{if_then_else_, upFrom}
 use Rattle.field.specs.Field.{Field, dot}
 use Rattle.field.specs.Ours.{fieldOf}
+use Rattle.field.proofs.Laws.{IsField}
+use Rattle.field.proofs.Fields.{our-field}
 use Rattle.linear.specs.Lists.{all, vanish}
 use Rattle.linear.specs.Marks.{rowsOf}
 use Rattle.linear.specs.Fill.{sumsOf}
 use Rattle.plans.specs.Plan.{Plan, Level, known, planOf, noLevel, levelOf, checksTo, rowAt, across}
 use Rattle.plans.specs.Refusal.{inMemory, stripeFits}
 use Rattle.codewords.specs.Codeword.{rowsHold, totalsHold, isCodeword, testRefusal, tested}
+use Rattle.codewords.specs.Totals.{totalRow}
 use Rattle.plans.specs.declared.Verdict.the-variants.{Yes, No, Refused}
-use Rattle.plans.specs.Tables.{padded, checkTable, weightTable, rowSums}
+use Rattle.plans.specs.Tables.{checkTable, weightTable}
 use Rattle.plans.proofs.Refusals.{passed}
-use Rattle.plans.proofs.Plans.{rows-most}
-use Rattle.plans.proofs.Padded.{length-padded}
+use Rattle.plans.proofs.Plans.{columns-most}
+use Rattle.plans.proofs.Sizes.{checks-room, checks-length, weights-room, weights-length}
+use Rattle.plans.proofs.Rows.{row-end}
 use Rattle.plans.proofs.Flat.{rowIn}
-use Rattle.plans.proofs.Tables.{checks-in, level-checks-in, checks-more, sums-more}
-use Rattle.plans.proofs.Parts.{part, part-of, rows-of, map-up-shift}
-use Rattle.plans.proofs.Numbers.{Numbers, Weighing, column-rows, column-is, weights-are, weights-suffice}
-use Rattle.plans.proofs.Summing.{row-sums-length}
+use Rattle.plans.proofs.Tables.{checks-in, level-checks-in, weights-in, checks-more, sums-more}
+use Rattle.plans.proofs.Parts.{part, part-of, part-length, rows-of, rows-front, map-up-shift}
+use Rattle.plans.proofs.Numbers.{Numbers, Weighing, row-within}
 use Rattle.codewords.proofs.Walk.{all-map, Walking, walking-turns, walking-fails, walking-ends}
+use Rattle.codewords.proofs.Totals.{dot-total}
 
 -- ---- checks that give 0
 
@@ -58,61 +62,59 @@ module _ (F : Field) (checks : List ℕ) (m : ℕ) (v : List ℕ) where
   pub vanish-ends : {i : ℕ} → m ≤ i → Walking (gives0 F checks v) 0 m i → true ≡ vanish (sumsOf F (rowsOf m (length v) checks) v)
   vanish-ends end w = sym (vanish-walk ∙ walking-ends (gives0 F checks v) 0 m (omega arith) w)
 
--- ---- a column of zeros
+-- ---- rows
 
--- what is left of the test when the sums before i are looked at
-pub record Zeroing (column : List ℕ) (zero : Bool) (i : ℕ) : Type 0 where
-  pub left : zero && vanish (drop i column) ≡ vanish column
+-- the level-1 sums of row r are zero
+unfoldable pub rowHolds : Plan → List ℕ → ℕ → Bool
+rowHolds P stripe r = vanish (sumsOf (P .field) (levelOf P 1 .checks) (rowAt P stripe r))
 
-pub zeroing-starts : (column : List ℕ) → Zeroing column true 0
-zeroing-starts column = record { left = refl }
+rows-walk : (P : Plan) (stripe : List ℕ) → rowsHold P stripe ≡ all (rowHolds P stripe) (upFrom 0 (P .rows))
+unfolding rowHolds rowsHold
+rows-walk P stripe = refl
 
-module _ {column : List ℕ} {zero : Bool} {i : ℕ} (s : Zeroing column zero i) where
-  zeroing-next : i < length column → vanish (drop i column) ≡ eqb (getD column i 0) 0 && vanish (drop (i + 1) column)
-  unfolding vanish all
-  zeroing-next h = ap vanish (drop-cons column i 0 h) ∙ ap (λ k. eqb (getD column i 0) 0 && vanish (drop k column)) (sym (add-one i))
+-- the level-1 sums of the rows before r are zero
+pub record RowsHolding (p q rows n m : ℕ) (stripe : List ℕ) (r : ℕ) : Type 0 where
+  pub is : Numbers p q rows n
+  pub count : m ≡ length (checksTo (planOf p) 1)
+  pub walk : Walking (rowHolds (planOf p) stripe) 0 (planOf p .rows) r
 
-  pub zeroing-keeps : i < length column → getD column i 0 ≡ 0 → Zeroing column zero (i + 1)
-  zeroing-keeps h z = record {
-    left =
-        ap (λ b. zero && (b && vanish (drop (i + 1) column))) (sym (eq-eqb _ 0 z))
-        ∙ ap (λ b. zero && b) (sym (zeroing-next h)) ∙ s .left;
-  }
+module _ {p q rows n m r : ℕ} {checks stripe : List ℕ} (lent : checks ≡ checkTable (planOf p))
+    (long : planOf p .rows * planOf p .columns ≤ length stripe) (more : r < rows) (s : RowsHolding p q rows n m stripe r) where
+  row-long : length (part (r * n) n stripe) ≡ n
+  row-long = part-length (r * n) n stripe (row-within (s .is) long more)
 
-  pub zeroing-drops : i < length column → (getD column i 0 ≡ 0 → ⊥) → Zeroing column false (i + 1)
-  zeroing-drops h nz = record {
-    left =
-        sym (and-false zero)
-        ∙ ap (λ b. zero && (b && vanish (drop (i + 1) column))) (sym (ne-eqb _ 0 nz))
-        ∙ ap (λ b. zero && b) (sym (zeroing-next h)) ∙ s .left;
-  }
-    where
-      and-false : (b : Bool) → b && false ≡ false
-      and-false true = refl
-      and-false false = refl
+  pub rows-checks : m * length (part (r * n) n stripe) ≤ length checks
+  rows-checks = rw (row-long, s .count, s .is .wide, lent) (checks-room p 1)
 
-  pub zeroing-ends : length column ≤ i → zero ≡ vanish column
-  unfolding vanish all
-  zeroing-ends end = sym (and-true zero) ∙ ap (λ l. zero && vanish l) (sym (drop-of-length-le column end)) ∙ s .left
-    where
-      and-true : (b : Bool) → b && true ≡ b
-      and-true true = refl
-      and-true false = refl
+  within : r < 0 + planOf p .rows
+  within = omega (arith, s .is .high)
 
--- zeros behind a list change nothing
-vanish-padded : (n : ℕ) (xs : List ℕ) → vanish (padded n xs) ≡ vanish xs
-unfolding vanish all padded
-vanish-padded n xs = go xs (n - length xs)
-  where
-    zeros : (k : ℕ) → vanish (replicate k 0) ≡ true
-    zeros zero = refl
-    zeros (suc k) = zeros k
+  -- the first m checks are level 1's
+  first-checks : rowsOf m n checks ≡ levelOf (planOf p) 1 .checks
+  unfolding checksTo flatMap
+  first-checks = rows-of m n checks ∙ rw (s .count, s .is .wide, lent) (checks-in p 1 ∙ checks-more (planOf p) 0)
 
-    go : (xs : List ℕ) (k : ℕ) → vanish (xs ++ replicate k 0) ≡ vanish xs
-    go [] k = zeros k
-    go (x ∷ xs) k = ap (λ b. eqb x 0 && b) (go xs k)
+  row-is : part (r * n) n stripe ≡ rowAt (planOf p) stripe r
+  unfolding rowAt
+  row-is = part-of (r * n) n stripe ∙ ap (λ k. take k (drop (r * k) stripe)) (s .is .wide)
 
--- ---- rows, check by check
+  module _ {b : Bool} (e : b ≡ vanish (sumsOf (fieldOf q) (rowsOf m (length (part (r * n) n stripe)) checks) (part (r * n) n stripe))) where
+    its-row : b ≡ rowHolds (planOf p) stripe r
+    unfolding rowHolds
+    its-row =
+        e ∙ ap₂ (λ cs v. vanish (sumsOf (fieldOf q) cs v)) (ap (λ k. rowsOf m k checks) row-long ∙ first-checks) row-is
+        ∙ ap (λ F. vanish (sumsOf F (levelOf (planOf p) 1 .checks) (rowAt (planOf p) stripe r))) (s .is .field)
+
+    pub rows-turn : b ≡ true → RowsHolding p q rows n m stripe (r + 1)
+    rows-turn t = record { is = s .is; count = s .count; walk = walking-turns _ 0 _ within (sym its-row ∙ t) (s .walk) }
+
+    pub rows-fail : b ≡ false → false ≡ rowsHold (planOf p) stripe
+    rows-fail f = sym (rows-walk (planOf p) stripe ∙ walking-fails _ 0 _ within (sym its-row ∙ f) (s .walk))
+
+pub rows-end : {p q rows n m r : ℕ} {stripe : List ℕ} → rows ≤ r → RowsHolding p q rows n m stripe r → true ≡ rowsHold (planOf p) stripe
+rows-end {p} {q} {rows} {n} {m} {r} {stripe} end s = sym (rows-walk (planOf p) stripe ∙ walking-ends _ 0 _ (omega (arith, s .is .high)) (s .walk))
+
+-- ---- totals
 
 all-both : {A : Type 0} (p q : A → Bool) (l : List A) → all p l && all q l ≡ all (λ x. p x && q x) l
 unfolding all
@@ -138,116 +140,133 @@ vanish-turned f (x ∷ xs) ys =
     ap₂ _&&_ (all-map (λ z. eqb z 0) (f x) ys) (vanish-turned f xs ys)
     ∙ all-both (λ y. eqb (f x y) 0) (λ y. vanish (map (λ x. f x y) xs)) ys
 
--- the rows' sums under check j are zero
-unfoldable pub sumsHold : Plan → List ℕ → ℕ → Bool
-sumsHold P stripe j = vanish (across P stripe (rowIn (P .columns) (checkTable P) j))
+-- the sums of total i of level t + 1 are zero
+unfoldable pub totalHolds : Plan → List ℕ → ℕ → ℕ → Bool
+totalHolds P stripe t i =
+    vanish (sumsOf (P .field) (levelOf P (suc t) .checks) (totalRow (P .field) (rowIn (P .rows) (weightTable P (suc t)) i) (P .columns) stripe))
 
-rows-walk : (p : ℕ) (stripe : List ℕ) → let P = planOf p in rowsHold P stripe ≡ all (sumsHold P stripe) (upFrom 0 (length (checksTo P 1)))
-unfolding sumsHold rowsHold sumsOf across checksTo flatMap
-rows-walk p stripe =
+-- the weighted total of the rows' sums is the sum of their weighted total
+total-of-sums : (P : Plan) → IsField (P .field) → (stripe check weights : List ℕ) → length weights ≤ P .rows
+    → dot (P .field) weights (across P stripe check) ≡ dot (P .field) check (totalRow (P .field) weights (P .columns) stripe)
+unfolding across rowAt
+total-of-sums P K stripe check weights few =
+    sym (dot-total (P .field) K check weights (P .rows) (P .columns) stripe few
+    ∙ ap (λ rows. dot (P .field) weights (map (dot (P .field) check) rows)) (rows-of (P .rows) (P .columns) stripe)
+    ∙ ap (dot (P .field) weights) (map-map _ _ (upFrom 0 (P .rows))))
+
+totals-walk : (p t : ℕ) → IsField (planOf p .field) → (stripe : List ℕ) → let P = planOf p in
+    totalsHold P stripe (levelOf P (suc t)) ≡ all (totalHolds P stripe t) (upFrom 0 (length (levelOf P (suc t) .weights)))
+unfolding totalHolds totalsHold sumsOf
+totals-walk p t K stripe =
     let P = planOf p in
-    vanish-turned (λ r c. dot (P .field) c (rowAt P stripe r)) (upFrom 0 (P .rows)) (levelOf P 1 .checks)
-    ∙ ap (all (λ c. vanish (across P stripe c))) (sym (checks-in p 1 ∙ checks-more P 0))
-    ∙ all-map (λ c. vanish (across P stripe c)) (rowIn (P .columns) (checkTable P)) _
+    let L = levelOf P (suc t) in
+    let weights : ℕ → List ℕ = rowIn (P .rows) (weightTable P (suc t)) in
+    vanish-turned (λ c w. dot (P .field) w (across P stripe c)) (L .checks) (L .weights)
+    ∙ ap (all (λ w. vanish (map (λ c. dot (P .field) w (across P stripe c)) (L .checks)))) (sym (weights-in p (suc t)))
+    ∙ all-map (λ w. vanish (map (λ c. dot (P .field) w (across P stripe c)) (L .checks))) weights _
+    ∙ ap (λ f. all f (upFrom 0 (length (L .weights))))
+    (fun-ext (λ i. ap (λ f. vanish (map f (L .checks))) (fun-ext (λ c. total-of-sums P K stripe c (weights i) (rw length-take (min-le-left _ _))))))
 
--- the rows' sums under the checks before j are zero
-pub record RowsHolding (p q rows n m : ℕ) (stripe : List ℕ) (j : ℕ) : Type 0 where
-  pub is : Numbers p q rows n
-  pub count : m ≡ length (checksTo (planOf p) 1)
-  pub walk : Walking (sumsHold (planOf p) stripe) 0 (length (checksTo (planOf p) 1)) j
+-- rows taken off from row k on are those rows by their numbers
+rows-from : (k m n : ℕ) (l : List ℕ) → rowsOf m n (drop (k * n) l) ≡ map (rowIn n l) (upFrom k m)
+unfolding upFrom rowsOf
+rows-from k zero n l = refl
+rows-from k (suc m) n l =
+    ap (λ rows. take n (drop (k * n) l) ∷ rows)
+    (ap (rowsOf m n) (drop-drop n (k * n) l ∙ ap (λ i. drop i l) (sym (suc-mul k n))) ∙ rows-from (suc k) m n l)
 
-module _ {p q rows n m j : ℕ} {checks stripe : List ℕ} (lent : checks ≡ checkTable (planOf p)) (more : j < m)
-    (s : RowsHolding p q rows n m stripe j) where
-  pub rows-here : j < length (checksTo (planOf p) 1)
-  rows-here = rw (← s .count) more
+-- the checks of levels 1 to t end within the longest table
+pub checks-end : {p q rows n k : ℕ} → Numbers p q rows n → (t : ℕ) → k ≡ length (checksTo (planOf p) t) → k * n ≤ 512
+checks-end {p} {q} {rows} {n} {k} is t count = rw (count, is .wide) (le-trans (checks-room p t) (checks-length p))
 
-  module _ {column : List ℕ} (made : column ≡ padded 8 (rowSums (fieldOf q) rows stripe (part (j * n) n checks))) where
-    abbrev sums : List ℕ
-    sums = rowSums (fieldOf q) rows stripe (part (j * n) n checks)
-
-    sums-rows : length sums ≡ rows
-    sums-rows = row-sums-length (fieldOf q) rows stripe (part (j * n) n checks)
-
-    pub rows-long : length column ≡ 8
-    rows-long = ap length made ∙ length-padded 8 sums (rw (sums-rows, s .is .high) (rows-most p))
-
-    module _ {b : Bool} (e : b ≡ vanish column) where
-      its-sums : b ≡ sumsHold (planOf p) stripe j
-      unfolding sumsHold padded
-      its-sums =
-          e ∙ ap vanish made ∙ vanish-padded 8 sums
-          ∙ ap vanish (sym (ap (take rows) made ∙ take-at sums _ rows sums-rows) ∙ column-is (s .is) lent 1 rows-here stripe made)
-
-      pub rows-turn : b ≡ true → RowsHolding p q rows n m stripe (j + 1)
-      rows-turn t = record { is = s .is; count = s .count; walk = walking-turns _ 0 _ (omega (arith, rows-here)) (sym its-sums ∙ t) (s .walk) }
-
-      pub rows-fail : b ≡ false → false ≡ rowsHold (planOf p) stripe
-      rows-fail f = sym (rows-walk p stripe ∙ walking-fails _ 0 _ (omega (arith, rows-here)) (sym its-sums ∙ f) (s .walk))
-
-pub rows-end : {p q rows n m j : ℕ} {stripe : List ℕ} → m ≤ j → RowsHolding p q rows n m stripe j → true ≡ rowsHold (planOf p) stripe
-rows-end {p} {q} {rows} {n} {m} {j} {stripe} end s = sym (rows-walk p stripe ∙ walking-ends _ 0 _ (omega (arith, s .count)) (s .walk))
-
--- ---- totals
-
--- the totals of the rows' sums under check j are zero, by the weights of level t + 1
-unfoldable pub checkHolds : Plan → List ℕ → ℕ → ℕ → Bool
-checkHolds P stripe t j = vanish (sumsOf (P .field) (levelOf P (suc t) .weights) (across P stripe (rowIn (P .columns) (checkTable P) j)))
-
-totals-walk : (p t : ℕ) (stripe : List ℕ) → let P = planOf p in
-    totalsHold P stripe (levelOf P (suc t)) ≡ all (checkHolds P stripe t) (upFrom (length (checksTo P t)) (length (levelOf P (suc t) .checks)))
-unfolding checkHolds totalsHold
-totals-walk p t stripe =
-    let P = planOf p in
-    ap (all (λ c. vanish (sumsOf (P .field) (levelOf P (suc t) .weights) (across P stripe c)))) (sym (level-checks-in p t))
-    ∙ all-map (λ c. vanish (sumsOf (P .field) (levelOf P (suc t) .weights) (across P stripe c))) (rowIn (P .columns) (checkTable P)) _
-
--- the totals of the checks before j are zero
-pub record TotalsHolding (p t q rows n : ℕ) (weights : List ℕ) (totals last : ℕ) (stripe : List ℕ) (j : ℕ) : Type 0 where
+-- the sums of the totals before i are zero
+pub record TotalsHolding (p t q rows n : ℕ) (weights : List ℕ) (totals first last : ℕ) (stripe : List ℕ) (i : ℕ) : Type 0 where
   pub by : Weighing p t q rows n weights totals
-  pub end : last ≡ length (checksTo (planOf p) (suc t))
-  pub walk : Walking (checkHolds (planOf p) stripe t) (length (checksTo (planOf p) t)) (length (levelOf (planOf p) (suc t) .checks)) j
+  pub from : first ≡ length (checksTo (planOf p) t)
+  pub to : last ≡ length (checksTo (planOf p) (suc t))
+  pub walk : Walking (totalHolds (planOf p) stripe t) 0 (length (levelOf (planOf p) (suc t) .weights)) i
 
-module _ {p t q rows n totals last j : ℕ} {weights checks stripe : List ℕ} (lent : checks ≡ checkTable (planOf p)) (more : j < last)
-    (s : TotalsHolding p t q rows n weights totals last stripe j) where
-  pub totals-here : j < length (checksTo (planOf p) (suc t))
-  totals-here = rw (← s .end) more
+module _ {p t q rows n totals first last i : ℕ} {weights checks stripe : List ℕ} (lent : checks ≡ checkTable (planOf p))
+    (s : TotalsHolding p t q rows n weights totals first last stripe i) where
+  -- the checks of level t + 1
+  abbrev pub own : List ℕ
+  own = take (last * n - first * n) (drop (first * n) checks)
 
-  within : j < length (checksTo (planOf p) t) + length (levelOf (planOf p) (suc t) .checks)
-  within = rw (← sums-more (planOf p) t) totals-here
+  count : last - first ≡ length (levelOf (planOf p) (suc t) .checks)
+  count = omega (arith, s .from, s .to, sums-more (planOf p) t)
 
-  module _ {column : List ℕ} (made : column ≡ padded 8 (rowSums (fieldOf q) rows stripe (part (j * n) n checks))) where
-    long : length (take rows column) ≡ rows
-    long = column-rows (s .by .is) lent (suc t) totals-here stripe made
+  pub totals-order : first ≤ last
+  totals-order = omega (arith, s .from, s .to, sums-more (planOf p) t)
 
-    pub totals-weights : totals * length (take rows column) ≤ length weights
-    totals-weights = rw (long, s .by .count, s .by .weighs) (weights-suffice (s .by .is) (suc t))
+  span : last * n ≡ first * n + (last - first) * n
+  span = let e : last ≡ first + (last - first) = omega (arith, totals-order) in ap (λ k. k * n) e ∙ add-mul first (last - first) n
 
-    module _ {b : Bool} (e : b ≡ vanish (sumsOf (fieldOf q) (rowsOf totals (length (take rows column)) weights) (take rows column))) where
-      its-check : b ≡ checkHolds (planOf p) stripe t j
-      unfolding checkHolds
-      its-check =
-          let P = planOf p in
-          let W = levelOf P (suc t) .weights in
-          e ∙ ap₂ (λ cs w. vanish (sumsOf (fieldOf q) cs w))
-          (ap₂ (λ k l. rowsOf k (length (take rows column)) l) (s .by .count) (s .by .weighs)
-          ∙ ap (λ k. rowsOf (length W) k (weightTable P (suc t))) long ∙ weights-are (s .by .is) (suc t))
-          (column-is (s .by .is) lent (suc t) totals-here stripe made)
-          ∙ ap (λ F. vanish (sumsOf F W (across P stripe (rowIn (P .columns) (checkTable P) j)))) (s .by .is .field)
+  pub totals-part : first * n ≤ last * n
+  totals-part = omega (arith, span)
 
-      pub totals-turn : b ≡ true → TotalsHolding p t q rows n weights totals last stripe (j + 1)
-      totals-turn good = record {
-        by = s .by;
-        end = s .end;
-        walk = walking-turns _ _ _ within (sym its-check ∙ good) (s .walk);
-      }
+  pub totals-room : last * n ≤ length checks
+  totals-room = rw (s .to, s .by .is .wide, lent) (checks-room p (suc t))
 
-      pub totals-fail : b ≡ false → false ≡ totalsHold (planOf p) stripe (levelOf (planOf p) (suc t))
-      totals-fail bad = sym (totals-walk p t stripe ∙ walking-fails _ _ _ within (sym its-check ∙ bad) (s .walk))
+  own-checks : rowsOf (last - first) n own ≡ levelOf (planOf p) (suc t) .checks
+  own-checks =
+      let size : last * n - first * n ≡ (last - first) * n = omega (arith, span) in
+      ap (λ k. rowsOf (last - first) n (take k (drop (first * n) checks))) size ∙ rows-front (last - first) n (drop (first * n) checks)
+      ∙ rows-from first (last - first) n checks ∙ rw (count, s .from, s .by .is .wide, lent) (level-checks-in p t)
 
-pub totals-end : {p t q rows n totals last j : ℕ} {weights stripe : List ℕ} → last ≤ j
-    → TotalsHolding p t q rows n weights totals last stripe j → true ≡ totalsHold (planOf p) stripe (levelOf (planOf p) (suc t))
-totals-end {p} {t} {q} {rows} {n} {totals} {last} {j} {weights} {stripe} all s =
-    sym (totals-walk p t stripe ∙ walking-ends _ _ _ (rw (← sums-more (planOf p) t, ← s .end) all) (s .walk))
+  module _ (more : i < totals) where
+    pub weights-end : i * rows + rows ≤ 16
+    weights-end = le-trans (row-end rows more) (rw (s .by .count, s .by .is .high) (weights-room p (suc t)))
+
+    pub weights-within : i * rows + rows ≤ length weights
+    weights-within = rw (s .by .weighs, weights-length p (suc t)) weights-end
+
+    pub totals-fit : planOf p .rows * planOf p .columns ≤ length stripe → (n ≤ 32) × (length (part (i * rows) rows weights) * n ≤ length stripe)
+    totals-fit long =
+        (rw (s .by .is .wide) (columns-most p), rw (part-length (i * rows) rows weights weights-within, s .by .is .high, s .by .is .wide) long)
+
+    module _ (total : List ℕ) (made : (length total ≡ 32) × (take n total ≡ totalRow (fieldOf q) (part (i * rows) rows weights) n stripe)) where
+      pub total-room : n ≤ length total
+      total-room = rw (made .0, s .by .is .wide) (columns-most p)
+
+      pub total-length : length (take n total) ≡ n
+      total-length = length-take-le n total total-room
+
+      pub totals-checks : (last - first) * length (take n total) ≤ length own
+      totals-checks =
+          let e : length own ≡ last * n - first * n = length-take-le _ (drop (first * n) checks) (simp length-drop (omega (arith, totals-room))) in
+          rw (total-length, e) (omega (arith, span))
+
+      module _ {b : Bool} (e : b ≡ vanish (sumsOf (fieldOf q) (rowsOf (last - first) (length (take n total)) own) (take n total))) where
+        its-total : b ≡ totalHolds (planOf p) stripe t i
+        unfolding totalHolds
+        its-total =
+            let P = planOf p in
+            let checks-of = levelOf P (suc t) .checks in
+            e ∙ ap₂ (λ cs v. vanish (sumsOf (fieldOf q) cs v)) (ap (λ k. rowsOf (last - first) k own) total-length ∙ own-checks) (made .1)
+            ∙ ap₂ (λ F l. vanish (sumsOf F checks-of (totalRow F (part (i * rows) rows l) n stripe))) (s .by .is .field) (s .by .weighs)
+            ∙ ap (λ l. vanish (sumsOf (P .field) checks-of (totalRow (P .field) l n stripe))) (part-of (i * rows) rows _)
+            ∙ ap₂ (λ R k. vanish (sumsOf (P .field) checks-of (totalRow (P .field) (rowIn R (weightTable P (suc t)) i) k stripe)))
+            (s .by .is .high) (s .by .is .wide)
+
+        within-totals : i < 0 + length (levelOf (planOf p) (suc t) .weights)
+        within-totals = omega (arith, s .by .count)
+
+        pub totals-turn : b ≡ true → TotalsHolding p t q rows n weights totals first last stripe (i + 1)
+        totals-turn good = record {
+          by = s .by;
+          from = s .from;
+          to = s .to;
+          walk = walking-turns _ 0 _ within-totals (sym its-total ∙ good) (s .walk);
+        }
+
+        pub totals-fail : b ≡ false → false ≡ totalsHold (planOf p) stripe (levelOf (planOf p) (suc t))
+        totals-fail bad =
+            sym (totals-walk p t (subst IsField (s .by .is .field) (our-field q)) stripe ∙ walking-fails _ 0 _ within-totals (sym its-total ∙ bad) (s .walk))
+
+pub totals-end : {p t q rows n totals first last i : ℕ} {weights stripe : List ℕ} → totals ≤ i
+    → TotalsHolding p t q rows n weights totals first last stripe i → true ≡ totalsHold (planOf p) stripe (levelOf (planOf p) (suc t))
+totals-end {p} {t} {q} {rows} {n} {totals} {first} {last} {i} {weights} {stripe} all s =
+    sym (totals-walk p t (subst IsField (s .by .is .field) (our-field q)) stripe ∙ walking-ends _ 0 _ (omega (arith, s .by .count)) (s .walk))
 
 -- ---- levels
 

@@ -3,15 +3,19 @@ use plans::plan;
 use plans::refusal;
 use plans::sums;
 ghost use mathlib.Core.Path.{_≡_};
+ghost use mathlib.Core.List.{map};
 ghost use Prim.Native.Nat.{suc, _*_, _<_, _≤_};
 ghost use lib.Dec.{T};
-ghost use lib.ListN.{length, drop};
+ghost use lib.ListN.{length, take, drop};
+ghost use Rattle.field.specs.Field.{mul};
 ghost use Rattle.field.specs.Ours.{fieldOf, products};
 ghost use Rattle.linear.specs.Lists.{all, vanish};
 ghost use Rattle.linear.specs.Fill.{sumsOf};
 ghost use Rattle.linear.specs.Marks.{rowsOf};
+ghost use Rattle.linear.proofs.Vectors.{plus};
 ghost use Rattle.plans.specs.Plan.{planOf, known, levelOf};
 ghost use Rattle.codewords.specs.Codeword.{rowsHold, totalsHold, isCodeword, testRefusal};
+ghost use Rattle.codewords.specs.Totals.{totalRow};
 ghost use Rattle.plans.specs.Tables.{checkTable};
 
 // Whether each of the first m checks gives 0 with v. A check is as long as v.
@@ -31,21 +35,7 @@ fn vanishes(q: usize, table: &[u8; 256], checks: &[u8], m: usize, v: &[u8]) -> b
     true
 }
 
-// Whether a column of sums is all zeros. It looks at each: a loop without a way out is compiled to one comparison.
-fn is_zero(column: &[u8; 8]) -> bool
-    requires { ⌜ length (now column) ≡ 8 ⌝ }
-    ensures { λ r. ⌜ r ≡ vanish (now (column .entry)) ⌝ }
-{
-    let mut zero = true;
-    for i in 0..8 {
-        if column[i] != 0 {
-            zero = false;
-        }
-    }
-    zero
-}
-
-// Whether every row's level-1 sums are zero, check by check.
+// Whether every row's level-1 sums are zero, row by row.
 pub fn rows_hold(plan: usize, table: &[u8; 256], checks: &[u8], stripe: &[u8]) -> bool
     requires { ⌜ (now table ≡ products) × (now checks ≡ checkTable (planOf plan)) ⌝ }
     requires { ⌜ planOf plan .rows * planOf plan .columns ≤ length (now stripe) ⌝ }
@@ -56,18 +46,56 @@ pub fn rows_hold(plan: usize, table: &[u8; 256], checks: &[u8], stripe: &[u8]) -
     let rows = facts.rows;
     let n = facts.columns;
     let m = plan::sums_to(plan, 1);
-    for j in 0..m {
-        let start = j * n;
+    for r in 0..rows {
+        let start = r * n;
         let end = start + n;
-        let column = sums::across(q, table, rows, &checks[start..end], stripe);
-        if !is_zero(&column) {
+        if !vanishes(q, table, checks, m, &stripe[start..end]) {
             return false;
         }
     }
     true
 }
 
-// Whether each weighted total of the rows' sums at level t + 1 is zero.
+// Adds each symbol of a row, times the row's weight, to the total, by products in field `q`. The row is as long as the total.
+fn add_in(q: usize, table: &[u8; 256], weight: u8, row: &[u8], total: &mut [u8])
+    requires { ⌜ now table ≡ products ⌝ }
+    requires { ⌜ length (now row) ≡ length (now total) ⌝ }
+    ensures { λ _. ⌜ now (total .exit) ≡ plus (now (total .entry)) (map (mul (fieldOf q) weight) (now (row .entry))) ⌝ }
+{
+    for c in 0..row.len() {
+        total[c] = total[c] ^ field::product(q, table, weight, row[c]);
+    }
+}
+
+// Adds each symbol of a row, times the row's weight, to the total. GF(2) has a call of its own, whose loop is compiled without the table.
+fn add_row(q: usize, table: &[u8; 256], weight: u8, row: &[u8], total: &mut [u8])
+    requires { ⌜ now table ≡ products ⌝ }
+    requires { ⌜ length (now row) ≡ length (now total) ⌝ }
+    ensures { λ _. ⌜ now (total .exit) ≡ plus (now (total .entry)) (map (mul (fieldOf q) weight) (now (row .entry))) ⌝ }
+{
+    if q == 2 {
+        add_in(2, table, weight, row, total);
+    } else {
+        add_in(q, table, weight, row, total);
+    }
+}
+
+// The weighted total of the rows, n symbols each, in the first n places.
+fn weighted(q: usize, table: &[u8; 256], weights: &[u8], n: usize, symbols: &[u8]) -> [u8; 32]
+    requires { ⌜ now table ≡ products ⌝ }
+    requires { ⌜ (n ≤ 32) × (length (now weights) * n ≤ length (now symbols)) ⌝ }
+    ensures { λ l. ⌜ (length l ≡ 32) × (take n l ≡ totalRow (fieldOf q) (now (weights .entry)) n (now (symbols .entry))) ⌝ }
+{
+    let mut total = [0u8; 32];
+    for r in 0..weights.len() {
+        let start = r * n;
+        let end = start + n;
+        add_row(q, table, weights[r], &symbols[start..end], &mut total[..n]);
+    }
+    total
+}
+
+// Whether each weighted total of the rows' sums at level t + 1 is zero: these are the sums of the rows' weighted totals.
 fn totals_hold(plan: usize, t: usize, table: &[u8; 256], checks: &[u8], stripe: &[u8]) -> bool
     requires { ⌜ (now table ≡ products) × (now checks ≡ checkTable (planOf plan)) ⌝ }
     requires { ⌜ planOf plan .rows * planOf plan .columns ≤ length (now stripe) ⌝ }
@@ -82,11 +110,13 @@ fn totals_hold(plan: usize, t: usize, table: &[u8; 256], checks: &[u8], stripe: 
     let totals = plan::totals(plan, t + 1);
     let first = plan::sums_to(plan, t);
     let last = plan::sums_to(plan, t + 1);
-    for j in first..last {
-        let start = j * n;
-        let end = start + n;
-        let column = sums::across(q, table, rows, &checks[start..end], stripe);
-        if !vanishes(q, table, &weights, totals, &column[..rows]) {
+    let from = first * n;
+    let to = last * n;
+    for i in 0..totals {
+        let start = i * rows;
+        let end = start + rows;
+        let total = weighted(q, table, &weights[start..end], n, stripe);
+        if !vanishes(q, table, &checks[from..to], last - first, &total[..n]) {
             return false;
         }
     }

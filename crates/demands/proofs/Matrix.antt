@@ -10,13 +10,14 @@ use lib.ListN.{length, replicate}
 use Rattle.field.specs.Lists.{if_then_else_}
 use Rattle.field.specs.Field.{_⊕_, Field, size, mul, dot}
 use Rattle.field.proofs.Sum.{⊕-assoc, ⊕-self, ⊕-zero, zero-⊕, ⊕-left-comm}
-use Rattle.field.proofs.Laws.{IsField, zero-mul, mul-zero, mul-⊕, size-pos, dot-lt}
+use Rattle.field.proofs.Laws.{IsField, zero-mul, mul-zero, size-pos, dot-lt}
 use Rattle.field.proofs.Test.{both-left, both-right, both}
 use Rattle.field.proofs.Words.{Fit}
 use Rattle.linear.specs.Lists.{all, only, zeros, vanish, first, rest}
 use Rattle.linear.specs.Fill.{sumsOf}
 use Rattle.linear.proofs.Choices.{Agrees}
-use Rattle.linear.proofs.Vectors.{plus, dot-plus}
+use Rattle.linear.proofs.Vectors.{plus, dot-comm, dot-plus, dot-scaled, dot-zeros}
+pub use Rattle.linear.proofs.Vectors.{plus-length}
 use Rattle.demands.proofs.Marked.{marked}
 
 -- ---- vectors at the marks
@@ -69,25 +70,6 @@ identity (suc n) = (1 ∷ replicate n 0) ∷ map (λ r. 0 ∷ r) (identity n)
 module _ (F : Field) (K : IsField F) where
   -- ---- sums
 
-  dot-comm : (a b : List ℕ) → dot F a b ≡ dot F b a
-  unfolding dot
-  dot-comm [] [] = refl
-  dot-comm [] (y ∷ b) = refl
-  dot-comm (x ∷ a) [] = refl
-  dot-comm (x ∷ a) (y ∷ b) = ap₂ _⊕_ (K .comm x y) (dot-comm a b)
-
-  dot-scaled : (c : ℕ) (a u : List ℕ) → dot F (map (mul F c) a) u ≡ mul F c (dot F a u)
-  unfolding dot
-  dot-scaled c [] u = sym (mul-zero F K c)
-  dot-scaled c (x ∷ a) [] = sym (mul-zero F K c)
-  dot-scaled c (x ∷ a) (y ∷ u) = ap₂ _⊕_ (K .assoc c x y) (dot-scaled c a u) ∙ sym (mul-⊕ F K c (mul F x y) (dot F a u))
-
-  dot-zeros : (n : ℕ) (u : List ℕ) → dot F (replicate n 0) u ≡ 0
-  unfolding dot
-  dot-zeros zero u = refl
-  dot-zeros (suc n) [] = refl
-  dot-zeros (suc n) (x ∷ u) = ap₂ _⊕_ (zero-mul F K x) (dot-zeros n u) ∙ ⊕-self 0
-
   pub dot-vanish : (c u : List ℕ) → T (vanish u) → dot F c u ≡ 0
   unfolding all vanish dot
   dot-vanish [] u t = refl
@@ -102,7 +84,7 @@ module _ (F : Field) (K : IsField F) where
   dot-right (k ∷ c) x u = refl
 
   dot-left : (k : ℕ) (c u : List ℕ) → dot F (k ∷ c) u ≡ mul F k (first u) ⊕ dot F c (rest u)
-  dot-left k c u = dot-comm (k ∷ c) u ∙ dot-right u k c ∙ ap₂ _⊕_ (K .comm (first u) k) (dot-comm (rest u) c)
+  dot-left k c u = dot-comm F (k ∷ c) u ∙ dot-right u k c ∙ ap₂ _⊕_ (K .comm (first u) k) (dot-comm F (rest u) c)
 
   -- ---- products
 
@@ -112,9 +94,9 @@ module _ (F : Field) (K : IsField F) where
   dot-combine [] rows u = refl
   dot-combine (k ∷ ks) [] u = refl
   dot-combine (k ∷ ks) (r ∷ rs) u =
-      ap₂ _⊕_ (sym (dot-scaled k r u)) (dot-combine ks rs u)
-      ∙ sym (dot-comm (plus (map (mul F k) r) (combine F ks rs)) u ∙ dot-plus F u (map (mul F k) r) (combine F ks rs)
-      ∙ ap₂ _⊕_ (dot-comm u (map (mul F k) r)) (dot-comm u (combine F ks rs)))
+      ap₂ _⊕_ (sym (dot-scaled F K k r u)) (dot-combine ks rs u)
+      ∙ sym (dot-comm F (plus (map (mul F k) r) (combine F ks rs)) u ∙ dot-plus F u (map (mul F k) r) (combine F ks rs)
+      ∙ ap₂ _⊕_ (dot-comm F u (map (mul F k) r)) (dot-comm F u (combine F ks rs)))
 
   sums-product : (A C : List (List ℕ)) (u : List ℕ) → sumsOf F A (sumsOf F C u) ≡ sumsOf F (product F A C) u
   unfolding sumsOf product
@@ -125,7 +107,7 @@ module _ (F : Field) (K : IsField F) where
   unfolding sumsOf identity dot
   sums-identity [] h = refl
   sums-identity (x ∷ u) h =
-      ap₂ _∷_ (ap₂ _⊕_ (K .unit x (h .0)) (dot-zeros (length u) u) ∙ ⊕-zero x) (below (identity (length u)) ∙ sums-identity u (h .1))
+      ap₂ _∷_ (ap₂ _⊕_ (K .unit x (h .0)) (dot-zeros F K (length u) u) ∙ ⊕-zero x) (below (identity (length u)) ∙ sums-identity u (h .1))
     where
       below : (rows : List (List ℕ)) → sumsOf F (map (λ r. 0 ∷ r) rows) (x ∷ u) ≡ sumsOf F rows u
       below [] = refl
@@ -204,11 +186,6 @@ module _ (F : Field) (K : IsField F) where
   plus-fit [] b h k = k
   plus-fit (x ∷ a) [] h k = h
   plus-fit (x ∷ a) (y ∷ b) h k = (K .sum-lt x y (h .0) (k .0), plus-fit a b (h .1) (k .1))
-
-pub plus-length : (a b : List ℕ) → length a ≡ length b → length (plus a b) ≡ length b
-plus-length [] b e = refl
-plus-length (x ∷ a) [] e = e
-plus-length (x ∷ a) (y ∷ b) e = ap suc (plus-length a b (suc-inj e))
 
 -- the same vector twice is nothing
 pub plus-undo : (a b : List ℕ) → length a ≡ length b → plus (plus a b) b ≡ a

@@ -1,16 +1,17 @@
 -- The sum of two vectors, and the sums of vectors under checks. Assumes nothing.
-use mathlib.Core.Path.{_≡_, refl, sym, ap₂, _∙_, subst}
+use mathlib.Core.Path.{_≡_, refl, sym, ap, ap₂, _∙_, subst}
 use mathlib.Core.Bool.{Bool, true, false}
-use mathlib.Core.List.{List, [], _∷_, _++_, map-append}
-use Prim.Native.Nat.{ℕ}
+use mathlib.Core.List.{List, [], _∷_, _++_, map, map-append}
+use Prim.Native.Nat.{ℕ, zero, suc}
 use native.Mathlib.Nat.{suc-inj}
 use native.Mathlib.Omega.{arith}
 use lib.Dec.{T, eqb, eqb→eq}
-use lib.ListN.{length}
+use lib.ListN.{length, getD, replicate}
 use Rattle.field.specs.Field.{_⊕_, Field, size, mul, dot}
 use Rattle.field.proofs.Sum.{⊕-self, ⊕-zero, zero-⊕, ⊕-four, ⊕-cancel, ⊕-lt}
 use Rattle.field.proofs.Test.{both-left, both-right, both}
 use Rattle.field.proofs.Ring.{mul-comm, ⊕-mul}
+use Rattle.field.proofs.Laws.{IsField, zero-mul, mul-zero, mul-⊕}
 use Rattle.linear.specs.Lists.{all, zeros, vanish, first, rest}
 use Rattle.linear.specs.Fill.{sumsOf}
 use Rattle.linear.proofs.Tests.{all-left}
@@ -21,6 +22,17 @@ abbrev pub plus : List ℕ → List ℕ → List ℕ
 plus [] z = z
 plus (y ∷ ys) [] = y ∷ ys
 plus (y ∷ ys) (z ∷ zs) = (y ⊕ z) ∷ plus ys zs
+
+pub plus-length : (a b : List ℕ) → length a ≡ length b → length (plus a b) ≡ length b
+plus-length [] b e = refl
+plus-length (x ∷ a) [] e = e
+plus-length (x ∷ a) (y ∷ b) e = ap suc (plus-length a b (suc-inj e))
+
+pub plus-at : (a b : List ℕ) (i : ℕ) → getD (plus a b) i 0 ≡ getD a i 0 ⊕ getD b i 0
+plus-at [] b i = sym (zero-⊕ (getD b i 0))
+plus-at (x ∷ a) [] i = sym (⊕-zero (getD (x ∷ a) i 0))
+plus-at (x ∷ a) (y ∷ b) zero = refl
+plus-at (x ∷ a) (y ∷ b) (suc i) = plus-at a b i
 
 pub plus-self : (y : List ℕ) → T (vanish (plus y y))
 unfolding vanish all
@@ -38,6 +50,13 @@ plus-cancel (y ∷ ys) (z ∷ zs) l t =
     (plus-cancel ys zs (suc-inj l) (both-right (eqb (y ⊕ z) 0) (vanish (plus ys zs)) t))
 
 module _ (F : Field) where
+  pub dot-comm : (a b : List ℕ) → dot F a b ≡ dot F b a
+  unfolding dot
+  dot-comm [] [] = refl
+  dot-comm [] (y ∷ b) = refl
+  dot-comm (x ∷ a) [] = refl
+  dot-comm (x ∷ a) (y ∷ b) = ap₂ _⊕_ (mul-comm F x y) (dot-comm a b)
+
   pub dot-plus : (c y z : List ℕ) → dot F c (plus y z) ≡ dot F c y ⊕ dot F c z
   unfolding dot
   dot-plus [] y z = sym (⊕-zero 0)
@@ -79,3 +98,16 @@ module _ (F : Field) where
   plus-agrees (m ∷ ms) v (y ∷ ys) [] a b = absurd b
   plus-agrees (m ∷ ms) v (y ∷ ys) (z ∷ zs) a b =
       (plus-allowed m (first v) y z (a .0) (b .0), plus-agrees ms (rest v) ys zs (a .1) (b .1))
+
+module _ (F : Field) (K : IsField F) where
+  pub dot-scaled : (c : ℕ) (a u : List ℕ) → dot F (map (mul F c) a) u ≡ mul F c (dot F a u)
+  unfolding dot
+  dot-scaled c [] u = sym (mul-zero F K c)
+  dot-scaled c (x ∷ a) [] = sym (mul-zero F K c)
+  dot-scaled c (x ∷ a) (y ∷ u) = ap₂ _⊕_ (K .assoc c x y) (dot-scaled c a u) ∙ sym (mul-⊕ F K c (mul F x y) (dot F a u))
+
+  pub dot-zeros : (n : ℕ) (u : List ℕ) → dot F (replicate n 0) u ≡ 0
+  unfolding dot
+  dot-zeros zero u = refl
+  dot-zeros (suc n) [] = refl
+  dot-zeros (suc n) (x ∷ u) = ap₂ _⊕_ (zero-mul F K x) (dot-zeros n u) ∙ ⊕-self 0

@@ -1,25 +1,25 @@
--- `codeword::totals_hold` meets its contract: the invariant is that the totals of the checks passed are zero. Assumes nothing.
-use Prim.Native.Nat.{suc, _+_, _*_, _-_, _≤_}
-use mathlib.Core.Path.{sym, ap, _∙_}
+-- `codeword::totals_hold` meets its contract: the invariant is that the sums of the totals passed are zero. Assumes nothing.
+use Prim.Native.Nat.{_+_, _*_, _-_, _≤_}
+use mathlib.Core.Path.{_≡_, sym}
 use native.Mathlib.Numerals.{add-one}
 use native.Mathlib.Omega.{arith}
 use borrow.Author.Needs.{needs}
 use borrow.Author.Tests.{not-true, not-false}
-use lib.ListN.{length}
-use Rattle.plans.proofs.Plans.{rows-most}
-use Rattle.plans.proofs.Sizes.{checks-length, weights-length}
+use Rattle.plans.specs.Plan.{planOf}
+use Rattle.plans.specs.Tables.{checkTable}
+use Rattle.plans.proofs.Numbers.{numbers, weighing}
 use Rattle.codewords.proofs.Walk.{walking-starts}
-use Rattle.plans.proofs.Numbers.{weighing, check-within, check-rows, column-room, column-rows}
-use Rattle.codewords.proofs.Holding.{TotalsHolding, totals-here, totals-weights, totals-turn, totals-fail, totals-end}
+use Rattle.codewords.proofs.Holding.{TotalsHolding, checks-end, totals-order, totals-part, totals-room, weights-end, weights-within, totals-fit}
+use Rattle.codewords.proofs.Holding.{total-room, total-length, totals-checks, totals-turn, totals-fail, totals-end}
 use Rattle.codewords.proofs.codeword.totals_hold.Statement.{statement}
 use Rattle.codewords.proofs.codeword.totals_hold.Tie as tie
 
 abbrev Inv-loop : tie.InvT-loop
-Inv-loop plan t table checks stripe q rows n weights totals first last j₀ j =
-    TotalsHolding plan t q rows n weights totals last stripe j
+Inv-loop plan t table checks stripe q rows n weights totals first last from to i₀ i =
+    TotalsHolding plan t q rows n weights totals first last stripe i
 
 abbrev μ-loop : tie.MeasureT-loop
-μ-loop plan t table checks stripe q rows n weights totals first last j₀ j = last - j
+μ-loop plan t table checks stripe q rows n weights totals first last from to i₀ i = totals - i
 
 facts-of-requires : tie.Need-facts-of-requires Inv-loop μ-loop
 facts-of-requires c κs = search needs
@@ -45,112 +45,100 @@ add-sums-to c = search needs
 sums-to-requires-2 : tie.Need-sums-to-requires-2 Inv-loop μ-loop
 sums-to-requires-2 c κs = search needs
 
+mul-from : tie.Need-mul-from Inv-loop μ-loop
+mul-from c = omega (arith, checks-end (numbers _ (c .before .before .before .before .facts-of .ensures)) _ (c .before .sums-to .ensures))
+
+mul-to : tie.Need-mul-to Inv-loop μ-loop
+mul-to c = omega (arith, checks-end (numbers _ (c .before .before .before .before .facts-of .ensures)) _ (c .sums-to2 .ensures))
+
 loop-holds : tie.Need-loop-holds Inv-loop μ-loop
 loop-holds c =
-    let facts-of = c .before .before .before .before .facts-of in
-    let weights = c .before .before .before .weights in
-    let totals = c .before .before .totals in
     record {
-      by = weighing _ _ (facts-of .ensures) (weights .ensures) (totals .ensures);
-      end = rw add-one at (c .sums-to2 .ensures);
-      walk = rw (c .before .sums-to .ensures) (walking-starts _ _ _);
+      by = weighing _ _ (c .before .before .before .before .facts-of .ensures) (c .before .before .before .weights .ensures) (c .before .before .totals .ensures);
+      from = c .before .sums-to .ensures;
+      to = rw add-one at (c .sums-to2 .ensures);
+      walk = walking-starts _ _ _;
     }
 
--- check j stands in the table
-inside : (c : tie.In-loop Inv-loop μ-loop)
-    → let start = c .before .before .before .before .before .before .before .before .before in
-    let n = c .before .before .before .before .before .before .facts-of .result .columns in c .before .loop .j * n + n ≤ length (start .args .checks .now)
-inside c =
-    let start = c .before .before .before .before .before .before .before .before .before in
-    let s = c .before .loop .inv in
-    check-within (s .by .is) (start .pre .0 .1) (suc (start .args .t)) (totals-here (start .pre .0 .1) (c .loop-test .taken) s)
+-- the checks that the plan lends
+lent : (c : tie.In-loop Inv-loop μ-loop)
+    → let a = c .before .before .before .before .before .before .before .before .before .args in a .checks .now ≡ checkTable (planOf (a .plan))
+lent c = c .before .before .before .before .before .before .before .before .before .pre .0 .1
+
+-- the weights of total i end within the table
+end : (c : tie.In-loop Inv-loop μ-loop)
+    → let rows = c .before .before .before .before .before .before .facts-of .result .rows in c .before .loop .i * rows + rows ≤ 16
+end c = weights-end (lent c) (c .before .loop .inv) (c .loop-test .taken)
 
 mul-start : tie.Need-mul-start Inv-loop μ-loop
-mul-start c =
-    let start = c .before .before .before .before .before .before .before .before .before in
-    omega (arith, inside c, checks-length (start .args .plan), ap length (start .pre .0 .1))
+mul-start c = omega (arith, end c)
 
 add-end : tie.Need-add-end Inv-loop μ-loop
-add-end c =
-    let start = c .before .before .before .before .before .before .before .before .before in
-    omega (arith, inside c, checks-length (start .args .plan), ap length (start .pre .0 .1))
+add-end c = omega (arith, end c)
 
-sub-across : tie.Need-sub-across Inv-loop μ-loop
-sub-across c = omega arith
+sub-weighted : tie.Need-sub-weighted Inv-loop μ-loop
+sub-weighted c = omega arith
 
-part-across-start : tie.Need-part-across-start Inv-loop μ-loop
-part-across-start c = omega arith
+part-weighted-start : tie.Need-part-weighted-start Inv-loop μ-loop
+part-weighted-start c = omega arith
 
-part-across-end : tie.Need-part-across-end Inv-loop μ-loop
-part-across-end c = inside c
+part-weighted-end : tie.Need-part-weighted-end Inv-loop μ-loop
+part-weighted-end c =
+    weights-within (lent (c .before)) (c .before .before .loop .inv) (c .before .loop-test .taken)
 
-across-requires : tie.Need-across-requires Inv-loop μ-loop
-across-requires c κs =
-    let head = c .before .before .loop in
-    let start = c .before .before .before .before .before .before .before .before .before .before in
-    let s = head .inv in
-    let here = totals-here (start .pre .0 .1) (c .before .loop-test .taken) s in (
-      start .pre .0 .0,
-      (
-        rw (s .by .is .high) (rows-most (start .args .plan)),
-        check-rows (s .by .is) (start .pre .0 .1) (suc (start .args .t)) here (start .args .stripe .now) (start .pre .1 .0),
-      ),
-    )
+weighted-requires : tie.Need-weighted-requires Inv-loop μ-loop
+weighted-requires c κs =
+    let start = c .before .before .before .before .before .before .before .before .before .before .before in
+    (start .pre .0 .0, totals-fit (start .pre .0 .1) (c .before .before .before .loop .inv) (c .before .before .loop-test .taken) (start .pre .1 .0))
+
+sub-vanishes : tie.Need-sub-vanishes Inv-loop μ-loop
+sub-vanishes c = totals-part (lent (c .before .before .before)) (c .before .before .before .before .loop .inv)
+
+part-vanishes-start : tie.Need-part-vanishes-start Inv-loop μ-loop
+part-vanishes-start c = totals-part (lent (c .before .before .before)) (c .before .before .before .before .loop .inv)
+
+part-vanishes-end : tie.Need-part-vanishes-end Inv-loop μ-loop
+part-vanishes-end c = totals-room (lent (c .before .before .before)) (c .before .before .before .before .loop .inv)
+
+sub-vanishes-2 : tie.Need-sub-vanishes-2 Inv-loop μ-loop
+sub-vanishes-2 c = totals-order (lent (c .before .before .before .before)) (c .before .before .before .before .before .loop .inv)
+
+array-share-prefix-total : tie.Need-array-share-prefix-total Inv-loop μ-loop
+array-share-prefix-total c =
+    let turn = c .before .before .before .before in
+    total-room (lent turn) (turn .before .loop .inv) (turn .loop-test .taken) _ (c .before .weighted .ensures)
 
 slice-aggregate-vanishes : tie.Need-slice-aggregate-vanishes Inv-loop μ-loop
 slice-aggregate-vanishes c =
-    let start = c .before .before .before .before .before .before .before .before .before .before .before .before in
-    let head = c .before .before .before .before .loop in
-    sym (ap length (head .inv .by .weighs) ∙ weights-length (start .args .plan) (suc (start .args .t)))
-
-array-share-prefix-column : tie.Need-array-share-prefix-column Inv-loop μ-loop
-array-share-prefix-column c =
-    let head = c .before .before .before .before .loop in
-    let turn = c .before .before .before .loop-test in
-    let start = c .before .before .before .before .before .before .before .before .before .before .before .before in
-    let s = head .inv in
-    let here = totals-here (start .pre .0 .1) (turn .taken) s in
-    column-room (s .by .is) (start .pre .0 .1) (suc (start .args .t)) here (start .args .stripe .now) (c .before .across .ensures)
-
-slice-aggregate-vanishes-2 : tie.Need-slice-aggregate-vanishes-2 Inv-loop μ-loop
-slice-aggregate-vanishes-2 c =
-    let head = c .before .before .before .before .before .loop in
-    let turn = c .before .before .before .before .loop-test in
-    let across = c .before .before .across in
-    let start = c .before .before .before .before .before .before .before .before .before .before .before .before .before in
-    let s = head .inv in
-    let here = totals-here (start .pre .0 .1) (turn .taken) s in
-    sym (column-rows (s .by .is) (start .pre .0 .1) (suc (start .args .t)) here (start .args .stripe .now) (across .ensures))
+    let turn = c .before .before .before .before .before in
+    sym (total-length (lent turn) (turn .before .loop .inv) (turn .loop-test .taken) _ (c .before .before .weighted .ensures))
 
 vanishes-requires : tie.Need-vanishes-requires Inv-loop μ-loop
 vanishes-requires c κs =
-    let start = c .before .before .before .before .before .before .before .before .before .before .before .before .before in
-    let head = c .before .before .before .before .before .loop in
-    let turn = c .before .before .before .before .loop-test in
-    let across = c .before .before .across in
-    (start .pre .0 .0, totals-weights (start .pre .0 .1) (turn .taken) (head .inv) (across .ensures))
+    let turn = c .before .before .before .before .before in
+    let total = c .before .before .weighted in
+    let pre = turn .before .before .before .before .before .before .before .before .before .pre in
+    (pre .0 .0, totals-checks (lent turn) (turn .before .loop .inv) (turn .loop-test .taken) (total .result) (total .ensures))
 
 returns : tie.Need-returns Inv-loop μ-loop
 returns c =
-    let start = c .before .before .before .before .before .before .before .before .before .before .before .before .before .before .before in
-    let head = c .before .before .before .before .before .before .before .loop in
-    let turn = c .before .before .before .before .before .before .loop-test in
-    let across = c .before .before .before .before .across in
-    totals-fail (start .pre .0 .1) (turn .taken) (head .inv) (across .ensures) (c .before .vanishes .ensures) (not-true _ (c .if1 .taken))
+    let turn = c .before .before .before .before .before .before .before in
+    let total = c .before .before .before .before .weighted in
+    let s = turn .before .loop .inv in
+    totals-fail (lent turn) s (turn .loop-test .taken) (total .result) (total .ensures) (c .before .vanishes .ensures) (not-true _ (c .if1 .taken))
 
-add-j : tie.Need-add-j Inv-loop μ-loop
-add-j c = search needs
+add-i : tie.Need-add-i Inv-loop μ-loop
+add-i c = search needs
 
 loop-less : tie.Need-loop-less Inv-loop μ-loop
 loop-less c = search needs
 
 loop-again : tie.Need-loop-again Inv-loop μ-loop
 loop-again c =
-    let start = c .before .before .before .before .before .before .before .before .before .before .before .before .before .before .before in
-    let head = c .before .before .before .before .before .before .before .loop in
-    let turn = c .before .before .before .before .before .before .loop-test in
-    let across = c .before .before .before .before .across in
-    totals-turn (start .pre .0 .1) (turn .taken) (head .inv) (across .ensures) (c .before .vanishes .ensures) (not-false _ (c .if1 .left))
+    let turn = c .before .before .before .before .before .before .before in
+    let total = c .before .before .before .before .weighted in
+    let s = turn .before .loop .inv in
+    totals-turn (lent turn) s (turn .loop-test .taken) (total .result) (total .ensures) (c .before .vanishes .ensures) (not-false _ (c .if1 .left))
 
 returns-2 : tie.Need-returns-2 Inv-loop μ-loop
 returns-2 c = totals-end (c .loop-test .left) (c .before .loop .inv)
@@ -169,19 +157,24 @@ totals-hold-spec =
     sums-to-requires
     add-sums-to
     sums-to-requires-2
+    mul-from
+    mul-to
     loop-holds
     mul-start
     add-end
-    sub-across
-    part-across-start
-    part-across-end
-    across-requires
+    sub-weighted
+    part-weighted-start
+    part-weighted-end
+    weighted-requires
+    sub-vanishes
+    part-vanishes-start
+    part-vanishes-end
+    sub-vanishes-2
+    array-share-prefix-total
     slice-aggregate-vanishes
-    array-share-prefix-column
-    slice-aggregate-vanishes-2
     vanishes-requires
     returns
-    add-j
+    add-i
     loop-less
     loop-again
     returns-2)
