@@ -11,7 +11,8 @@ use Rattle.field.specs.Field.{_⊕_, Field, mul, dot}
 use Rattle.field.proofs.Sum.{⊕-assoc, ⊕-zero, zero-⊕}
 use Rattle.field.proofs.Laws.{IsField, mul-zero}
 use Rattle.linear.specs.Marks.{rowsOf}
-use Rattle.linear.proofs.Vectors.{plus, plus-length, plus-at, dot-comm, dot-plus, dot-scaled, dot-zeros}
+use Rattle.linear.specs.Lists.{plus}
+use Rattle.linear.proofs.Vectors.{plus-length, plus-at, dot-comm, dot-plus, dot-scaled, dot-zeros}
 use Rattle.plans.proofs.Copying.{Copying, copying-starts, copying-turns, copying-ends}
 use Rattle.plans.proofs.Parts.{part, part-of, part-length}
 use Rattle.codewords.specs.Totals.{withRows, totalRow}

@@ -2,8 +2,8 @@
 use Prim.Native.Nat.{ℕ}
 use mathlib.Core.List.{List, [], _∷_, map}
 use lib.ListN.{take, drop, replicate}
+use Rattle.linear.specs.Lists.{plus}
 use Rattle.field.specs.Field.{Field, mul}
-use Rattle.linear.proofs.Vectors.{plus}
 
 -- rows of n symbols added to a total one after the other, each times its weight
 unfoldable pub withRows : Field → (weights : List ℕ) → (n : ℕ) → (symbols total : List ℕ) → List ℕ

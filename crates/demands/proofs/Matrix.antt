@@ -13,10 +13,10 @@ use Rattle.field.proofs.Sum.{⊕-assoc, ⊕-self, ⊕-zero, zero-⊕, ⊕-left-
 use Rattle.field.proofs.Laws.{IsField, zero-mul, mul-zero, size-pos, dot-lt}
 use Rattle.field.proofs.Test.{both-left, both-right, both}
 use Rattle.field.proofs.Words.{Fit}
-use Rattle.linear.specs.Lists.{all, only, zeros, vanish, first, rest}
+use Rattle.linear.specs.Lists.{all, only, zeros, vanish, first, rest, plus}
 use Rattle.linear.specs.Fill.{sumsOf}
 use Rattle.linear.proofs.Choices.{Agrees}
-use Rattle.linear.proofs.Vectors.{plus, dot-comm, dot-plus, dot-scaled, dot-zeros}
+use Rattle.linear.proofs.Vectors.{dot-comm, dot-plus, dot-scaled, dot-zeros}
 pub use Rattle.linear.proofs.Vectors.{plus-length}
 use Rattle.demands.proofs.Marked.{marked}
 

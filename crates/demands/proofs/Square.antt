@@ -9,10 +9,9 @@ use Rattle.field.specs.Field.{Field, size}
 use Rattle.field.proofs.Laws.{IsField, size-pos}
 use Rattle.field.proofs.Test.{both-left, both-right, both}
 use Rattle.field.proofs.Words.{Fit}
-use Rattle.linear.specs.Lists.{all, zeros, vanish}
+use Rattle.linear.specs.Lists.{all, zeros, vanish, plus}
 use Rattle.linear.specs.Fill.{sumsOf, fill, one}
 use Rattle.linear.proofs.Choices.{areSymbols}
-use Rattle.linear.proofs.Vectors.{plus}
 use Rattle.linear.proofs.Filling.{Dependency, Independent, independent-of, Filling, fill-one}
 use Rattle.demands.proofs.Marked.{marked, agrees-fit}
 use Rattle.demands.proofs.Codewords.{sums-count}

@@ -9,12 +9,12 @@ use lib.ListN.{length}
 use Rattle.field.specs.Lists.{if_then_else_}
 use Rattle.field.specs.Field.{Field}
 use Rattle.field.proofs.Test.{both-left, both-right, both}
-use Rattle.linear.specs.Lists.{only, same, zeros, vanish}
+use Rattle.linear.specs.Lists.{only, same, zeros, vanish, plus}
 use Rattle.linear.specs.Fill.{sumsOf, choices, loose, dependent, fillings, Fill, tied, none, one, fillBy, fill}
 use Rattle.linear.proofs.Tests.{In, either, if-cases, any-in, in-any, only-in, in-only, same→eq, same-refl}
 use Rattle.linear.proofs.Choices.{Agrees, areSymbols, Alike, Inside}
 use Rattle.linear.proofs.Choices.{agrees-length, alike-agrees, inside-agrees, choices-in, in-choices, choices-alike}
-use Rattle.linear.proofs.Vectors.{plus, plus-cancel, plus-agrees, sums-plus-vanish, sums-fewer}
+use Rattle.linear.proofs.Vectors.{plus-cancel, plus-agrees, sums-plus-vanish, sums-fewer}
 
 -- ---- dependent columns
 

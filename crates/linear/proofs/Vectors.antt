@@ -12,16 +12,10 @@ use Rattle.field.proofs.Sum.{⊕-self, ⊕-zero, zero-⊕, ⊕-four, ⊕-cancel
 use Rattle.field.proofs.Test.{both-left, both-right, both}
 use Rattle.field.proofs.Ring.{mul-comm, ⊕-mul}
 use Rattle.field.proofs.Laws.{IsField, zero-mul, mul-zero, mul-⊕}
-use Rattle.linear.specs.Lists.{all, zeros, vanish, first, rest}
+use Rattle.linear.specs.Lists.{all, zeros, vanish, first, rest, plus}
 use Rattle.linear.specs.Fill.{sumsOf}
 use Rattle.linear.proofs.Tests.{all-left}
 use Rattle.linear.proofs.Choices.{Allowed, Agrees}
-
--- entry by entry, as far as the longer goes
-abbrev pub plus : List ℕ → List ℕ → List ℕ
-plus [] z = z
-plus (y ∷ ys) [] = y ∷ ys
-plus (y ∷ ys) (z ∷ zs) = (y ⊕ z) ∷ plus ys zs
 
 pub plus-length : (a b : List ℕ) → length a ≡ length b → length (plus a b) ≡ length b
 plus-length [] b e = refl

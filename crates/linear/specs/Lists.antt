@@ -4,6 +4,7 @@ use mathlib.Core.Bool.{Bool, true, false, _&&_, _||_}
 use mathlib.Core.List.{List, [], _∷_}
 use lib.Dec.{eqb}
 use Rattle.field.specs.Lists.{if_then_else_}
+use Rattle.field.specs.Field.{_⊕_}
 
 unfoldable pub any : {A : Type 0} → (A → Bool) → List A → Bool
 any p [] = false
@@ -41,3 +42,9 @@ first (x ∷ xs) = x
 unfoldable pub rest : List ℕ → List ℕ
 rest [] = []
 rest (x ∷ xs) = xs
+
+-- the sum of two vectors, as far as the longer goes
+abbrev pub plus : List ℕ → List ℕ → List ℕ
+plus [] z = z
+plus (y ∷ ys) [] = y ∷ ys
+plus (y ∷ ys) (z ∷ zs) = (y ⊕ z) ∷ plus ys zs

@@ -5,10 +5,10 @@ use mathlib.Core.List.{map}
 use native.Mathlib.Omega.{arith}
 use borrow.Author.Needs.{needs}
 use lib.ListN.{length}
+use Rattle.linear.specs.Lists.{plus}
 use Rattle.field.specs.Field.{_⊕_, mul}
 use Rattle.field.specs.Ours.{fieldOf}
 use Rattle.field.proofs.Fields.{our-field}
-use Rattle.linear.proofs.Vectors.{plus}
 use Rattle.plans.proofs.Copying.{Copying}
 use Rattle.codewords.proofs.Totals.{added-starts, added-turns, added-ends}
 use Rattle.codewords.proofs.codeword.add_in.Statement.{statement}
