@@ -19,7 +19,7 @@ use Rattle.linear.proofs.Tests.{In, either}
 use Rattle.linear.proofs.Choices.{Alike}
 use Rattle.linear.proofs.Vectors.{sums-append}
 use Rattle.linear.proofs.Filling.{fill-true}
-use Rattle.plans.specs.Plan.{Plan, Level, noLevel, known, planOf, levelOf, checksTo, rowAt, marksAt, across}
+use Rattle.plans.specs.Plan.{Plan, Level, known, planOf, levelOf, checksTo, rowAt, marksAt, across}
 use Rattle.plans.specs.Refusal.{allBelow, room, sumsAt}
 use Rattle.steps.specs.Steps.{fresh, stepped, rowFill, putRow, rowStepBy, rowStep, lossy, blocked, learned, join, joined, levelFill, raise, levelStepBy, levelStep}
 use Rattle.plans.specs.declared.Bench.{Bench}

@@ -1,11 +1,11 @@
 -- The second demand: what Restored, Clash and Stuck mean; which marks are always restored; encoding and extraction.
-use Prim.Native.Nat.{ℕ, suc, _≤_, _<_}
+use Prim.Native.Nat.{ℕ, _<_}
 use mathlib.Core.Path.{_≡_}
 use mathlib.Core.List.{List}
 use lib.ListN.{replicate}
-use Rattle.plans.specs.Plan.{planOf, known, carried, checkPlacesOf}
+use Rattle.plans.specs.Plan.{planOf}
 use Rattle.repair.specs.Mending.{mendReport, mendStripe, mendMarks}
-use Rattle.codewords.specs.Codeword.{encodeRefusal, extractRefusal, extractData, extracted, taken}
+use Rattle.codewords.specs.Codeword.{encodeRefusal, extractRefusal, extractData, extracted}
 use Rattle.repair.specs.Encoding.{encodeStripe, encoded}
 use Rattle.plans.specs.declared.Place.{Place}
 use Rattle.plans.specs.declared.Answer.the-variants.{Restored, Stuck, Clash}

@@ -4,7 +4,7 @@ use mathlib.Core.Bool.{Bool, true, false}
 use Prim.Native.Nat.{ℕ}
 use borrow.Author.Tests.{eq-eqb, ne-eqb}
 use lib.Dec.{eqb, lit<}
-use Rattle.field.specs.Field.{_⊕_, Field, size, double, times, mul, squares, inverse, gf2, gf8, gf16, gf32}
+use Rattle.field.specs.Field.{_⊕_, size, double, times, mul, squares, inverse, gf2, gf8, gf16, gf32}
 use Rattle.field.specs.Lists.{if_then_else_}
 use Rattle.field.specs.Ours.{fieldOf}
 use Rattle.field.proofs.Laws.{IsField, is-field}

@@ -7,7 +7,7 @@ use Prim.Native.Nat.{ℕ, zero, suc, pred, _/_, _<_}
 use native.Mathlib.Omega.{arith}
 use lib.Dec.{T, eqb, eqb→eq}
 use Rattle.field.specs.Field.{_⊕_, Field, size, mul, inverse, dot}
-use Rattle.field.proofs.Sum.{⊕-self, ⊕-lt, ⊕-zero}
+use Rattle.field.proofs.Sum.{⊕-self, ⊕-lt}
 use Rattle.field.proofs.Test.{below, at}
 use Rattle.field.proofs.Ring.{mul-comm, ⊕-mul, one-mul′, mul-lt, mul-assoc}
 

@@ -1,12 +1,12 @@
 -- Laws of the product, for every width and polynomial. Assumes nothing.
 use mathlib.Core.Path.{_≡_, refl, sym, ap, _∙_}
-use Prim.Native.Nat.{ℕ, zero, suc, _+_, _*_, _/_, _%_, _^_, _<_, _≤_}
+use Prim.Native.Nat.{ℕ, zero, suc, _*_, _/_, _%_, _^_, _<_, _≤_}
 use native.Mathlib.Nat.{mod-lt, mod-eq-of-lt, zero-mul, one-mul, div-eq-of-lt, mod-one, mul-one, le-refl, div-lt-iff-lt-mul, le-of-eq}
 use native.Mathlib.Omega.{arith}
 use native.Mathlib.Numerals.{add-one}
 use lib.Pow.{pow-pos, pow-mono, mod-pow-add}
 use Rattle.field.specs.Field.{_⊕_, Field, size, double, times, mul}
-use Rattle.field.proofs.Sum.{of-bits, bit, ⊕-self, ⊕-zero, zero-⊕, ⊕-lt, ⊕-shr, ⊕-half, ⊕-mod, ⊕-double, ⊕-digit, ⊕-four, last-⊕}
+use Rattle.field.proofs.Sum.{of-bits, bit, ⊕-self, ⊕-zero, zero-⊕, ⊕-lt, ⊕-shr, ⊕-mod, ⊕-double, ⊕-digit, ⊕-four, last-⊕}
 
 -- a bit times a sum
 bit-⊕ : (b u v : ℕ) → b % 2 * (u ⊕ v) ≡ b % 2 * u ⊕ b % 2 * v

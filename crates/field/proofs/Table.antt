@@ -1,17 +1,17 @@
 -- What the code's arithmetic reads is the field's: the table at an entry, and the steps of the inverse. Assumes nothing.
-use mathlib.Core.Path.{_≡_, refl, sym, ap, ap₂, _∙_}
+use mathlib.Core.Path.{_≡_, refl, ap, ap₂, _∙_}
 use mathlib.Core.List.{List}
 use Prim.Native.Nat.{ℕ, _+_, _*_, _/_, _%_, _<_}
 use native.Mathlib.Nat.{mod-lt}
 use lib.Arith.{digits-lt, digits-div, digits-mod}
 use lib.Dec.{lit<}
 use lib.ListN.{getD}
-use Rattle.field.specs.Field.{_⊕_, Field, size, double, times, mul, squares, inverse, gf2, gf16}
+use Rattle.field.specs.Field.{_⊕_, size, double, times, mul, squares, inverse, gf2, gf16}
 use Rattle.field.specs.Ours.{fieldOf, products}
 use Rattle.field.proofs.Sum.{of-bits, bit}
 use Rattle.field.proofs.Lists.{getD-map-below}
 use Rattle.field.proofs.Ring.{mul-low}
-use Rattle.field.proofs.Laws.{IsField, mul-one}
+use Rattle.field.proofs.Laws.{mul-one}
 use Rattle.field.proofs.Fields.{gf16-field, field-2, field-16}
 
 low4 : (a : ℕ) → a % 16 < 16

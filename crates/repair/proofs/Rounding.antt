@@ -1,25 +1,23 @@
 -- The rounds, level by level: the code's invariant, with a start, a turn for each finding, and its ends. Assumes nothing.
 use mathlib.Core.Path.{_≡_, refl, sym, ap, ap₂, _∙_, subst}
-use mathlib.Core.Bool.{Bool, true, false, not}
-use mathlib.Core.List.{List, [], _∷_, _++_, map}
+use mathlib.Core.List.{List, [], map}
 use Prim.Native.Nat.{ℕ, zero, suc, pred, _+_, _*_, _-_, _<_, _≤_}
-use native.Mathlib.Nat.{suc-mul, zero-add, add-suc, add-comm}
+use native.Mathlib.Nat.{suc-mul, zero-add, add-comm}
 use native.Mathlib.Numerals.{add-one, sub-one}
 use native.Mathlib.Omega.{arith}
 use borrow.Author.Tests.{eq-eqb, ne-eqb, lt-ltb, le-ltb}
-use lib.Dec.{eqb, ltb}
+use lib.Dec.{ltb}
 use lib.ListN.{length, getD, set, replicate, length-set}
 use lib.Seq.{getD-set-other}
 use Rattle.field.specs.Lists.{if_then_else_, upFrom}
 use Rattle.linear.specs.Lists.{only}
-use Rattle.plans.specs.Plan.{Plan, planOf}
+use Rattle.plans.specs.Plan.{planOf}
 use Rattle.steps.specs.Steps.{lossy, Learned, blocked, failing, learned, levelFill, raise}
-use Rattle.steps.specs.Rounds.{Standing, Turn, on, end, clash, turns}
+use Rattle.steps.specs.Rounds.{Turn, end, clash, turns}
 use Rattle.repair.specs.Mending.{rowsLeft, endReport, bare}
 use Rattle.steps.specs.Learned.{benchOf, learningOf, sumsAfter}
 use Rattle.steps.specs.Walk.{standingOf, Settled, more, Walked}
 use Rattle.repair.specs.Ended.{startOf, roundsOn, Ended}
-use Rattle.plans.specs.declared.Bench.{Bench}
 use Rattle.plans.specs.declared.Report.{Report}
 use Rattle.plans.specs.declared.Place.the-variants.{Row, Across}
 use Rattle.plans.specs.declared.Answer.the-variants.{Restored, Stuck, Clash}

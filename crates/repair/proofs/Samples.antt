@@ -1,10 +1,10 @@
 -- Plans 2 and 3 on samples: a codeword of each, found by another program from the rule of the code alone, and the plans' published sizes.
 -- And the orders of refusal, on samples that have two flaws at once.
 -- Assumes nothing.
-use Prim.Native.Nat.{ℕ, suc, _*_, _/_, _%_, _^_}
+use Prim.Native.Nat.{ℕ, suc, _/_, _%_, _^_}
 use mathlib.Core.Path.{_≡_, refl}
-use mathlib.Core.Bool.{Bool, true, false}
-use mathlib.Core.List.{List, [], _∷_, _++_, map, flatMap}
+use mathlib.Core.Bool.{true, false}
+use mathlib.Core.List.{List, [], _∷_, map, flatMap}
 use lib.ListN.{take, getD, replicate, set}
 use Rattle.field.specs.Lists.{if_then_else_, upFrom}
 use Rattle.field.specs.Field.{_⊕_, size, double, times, mul, dot, gf2, gf16, gf32}

@@ -6,7 +6,7 @@ use lib.Dec.{eqb, leb}
 use lib.ListN.{length, take, drop, getD}
 use Rattle.field.specs.Lists.{if_then_else_, upFrom}
 use Rattle.linear.specs.Lists.{same}
-use Rattle.plans.specs.Plan.{Plan, planOf, known, marksOf, marksOffset, symbolsOffset, fileLength}
+use Rattle.plans.specs.Plan.{planOf, known, marksOf, marksOffset, symbolsOffset, fileLength}
 use Rattle.plans.specs.Refusal.{inMemory, inFile, unasked, stripeFits, wordsFit, marksFit, symbolsFit}
 
 -- ---- the format

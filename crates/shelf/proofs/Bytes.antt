@@ -7,7 +7,6 @@ use lib.ListN.{length, getD}
 use Rattle.plans.specs.declared.Report.{Report}
 use Rattle.plans.specs.declared.Answer.{Answer}
 use Rattle.plans.specs.declared.Answer.the-variants.{Restored, Stuck, Clash, Refused}
-use Rattle.plans.specs.declared.Place.{Place}
 use Rattle.plans.specs.declared.Place.the-variants.{Row, Across}
 use Rattle.shelf.specs.Layout.{placeBytes, clashBytes, reportBytes}
 

@@ -1,5 +1,5 @@
 -- A bench and its bytes say the same, and a step that is neither Filled nor Raised leaves the buffer. Assumes nothing.
-use mathlib.Core.Path.{_≡_, refl, sym, ap, ap₂, subst, _∙_}
+use mathlib.Core.Path.{_≡_, refl, sym, ap, ap₂, _∙_}
 use mathlib.Core.Logic.{_≢_}
 use mathlib.Core.Bool.{Bool, true, false}
 use mathlib.Core.List.{List, [], _∷_, _++_, map, flatMap, append-assoc}
@@ -8,29 +8,24 @@ use native.Mathlib.Nat.{le-of-eq}
 use native.Mathlib.Omega.{arith}
 use borrow.Author.Tests.{eqb-true, eqb-false}
 use lib.Dec.{T, eqb, ltb, ltb→lt}
-use lib.ListN.{length, take, drop, getD, set, length-append, length-take, length-drop, length-map}
-use lib.Seq.{sets, take-add, take-all, take-at, drop-at, ext-getD, set-getD}
+use lib.ListN.{length, take, drop, getD, length-append, length-take, length-drop, length-map}
+use lib.Seq.{take-add, take-all, take-at, drop-at, ext-getD}
 use Rattle.field.specs.Lists.{if_then_else_, upFrom}
 use Rattle.field.proofs.Lists.{length-up, getD-map-below}
-use Rattle.field.proofs.Test.{both-left, both-right}
-use Rattle.field.proofs.Words.{Fit}
-use Rattle.linear.specs.Lists.{all, same}
-use Rattle.linear.specs.Marks.{bitsOf, vectorOf}
-use Rattle.linear.specs.Fill.{sumsOf, Fill, tied, none, one, fill}
-use Rattle.linear.proofs.Tests.{same→eq, same-refl}
-use Rattle.plans.specs.Plan.{Plan, planOf, checksTo, rowAt, marksAt}
+use Rattle.linear.specs.Lists.{same}
+use Rattle.linear.specs.Fill.{Fill, tied, none, one}
+use Rattle.plans.specs.Plan.{Plan, planOf}
 use Rattle.plans.specs.Answers.{stepNumber}
-use Rattle.plans.specs.Refusal.{unasked, allBelow, sumsAt, benchRefusal}
+use Rattle.plans.specs.Refusal.{unasked, allBelow, benchRefusal}
 use Rattle.repair.specs.File.{bytes4, wordAt}
 use Rattle.steps.specs.Steps.{stepped, unlessRefused, rowFill, putRow, rowStepBy, rowStep, Learned, blocked, failing, learned, levelFill, levelStepBy, levelStep}
 use Rattle.steps.specs.Learned.{benchOf}
 use Rattle.plans.specs.declared.Bench.{Bench}
 use Rattle.plans.specs.declared.Stepped.{Stepped}
 use Rattle.plans.specs.declared.Step.the-variants.{Whole, Filled, Top}
-use Rattle.plans.proofs.Rows.{row-length, row-again, marks-length}
 use Rattle.steps.proofs.Fit.{Sized, BenchFit, bench-fit}
-use Rattle.steps.proofs.Sound.{row-place}
-use Rattle.steps.proofs.Unmarked.{Clear, bits-clear, clear-one, clear-none}
+use Rattle.steps.proofs.Sound.{Sound}
+use Rattle.steps.proofs.Settled.{whole-row, put-whole}
 use Rattle.files.proofs.Laws.{bytes-fit}
 use Rattle.files.proofs.Files.{word-behind, words-bytes, words-at, length-bytes}
 use Rattle.shelf.specs.Layout.{benchSize, benchBytes, benchIn}
@@ -100,49 +95,9 @@ module _ (b : Bench) (s : Sized b) (r : ℕ) where
   abbrev P : Plan
   P = planOf (b .plan)
 
-  abbrev v : List ℕ
-  v = rowAt P (b .symbols) r
-
-  module _ (f : BenchFit b) (h : r < P .rows) (z : getD (b .marks) r 0 ≡ 0) where
-    place : r * P .columns + P .columns ≤ length (b .symbols)
-    place = row-place b f r h s
-
-    long : length v ≡ P .columns
-    long = row-length P (b .symbols) r place
-
-    clear : Clear (marksAt P (b .marks) r)
-    unfolding marksAt
-    clear = subst (λ w. Clear (bitsOf (P .columns) w)) (sym z) (bits-clear (P .columns))
-
-    -- a fill without marks leaves the row
-    row-left : vectorOf (rowFill b r) v ≡ v
-    unfolding rowFill vectorOf
-    row-left = go (same sums target) refl
-      where
-        sums : List ℕ
-        sums = sumsOf (P .field) (checksTo P (b .level)) v
-
-        target : List ℕ
-        target = sumsAt P (b .level) (b .sums) r
-
-        wide : length v ≡ length (marksAt P (b .marks) r)
-        wide = long ∙ sym (marks-length P (b .marks) r)
-
-        go : (c : Bool) → same sums target ≡ c → vectorOf (fill (P .field) (checksTo P (b .level)) target (marksAt P (b .marks) r) v) v ≡ v
-        go true e =
-            ap (λ f. vectorOf f v) (clear-one (P .field) (checksTo P (b .level)) target (marksAt P (b .marks) r) v clear wide
-            (same→eq sums target (subst T (sym e) tt)))
-        go false e =
-            ap (λ f. vectorOf f v) (clear-none (P .field) (checksTo P (b .level)) target (marksAt P (b .marks) r) v clear wide
-            (λ q. subst T (ap (same sums) q ∙ e) (same-refl sums)))
-
-    put-back : (row : List ℕ) → rowFill b r ≡ one row → putRow b r row ≡ b
-    unfolding putRow vectorOf
-    put-back row q =
-        let e : row ≡ v = sym (ap (λ f. vectorOf f v) q) ∙ row-left in
-        ap₂ (λ x m. benchOf (b .plan) (b .level) x m (b .sums))
-        (ap (sets (b .symbols) (r * P .columns)) e ∙ row-again P r v (b .symbols) long place refl)
-        (ap (set (b .marks) r) (sym z) ∙ set-getD (b .marks) r 0)
+  put-back : BenchFit b → r < P .rows → getD (b .marks) r 0 ≡ 0 → (row : List ℕ) → rowFill b r ≡ one row → putRow b r row ≡ b
+  put-back f h z row e =
+      let sound : Sound b = record { fit = f; sized = s } in ap (putRow b r) (whole-row b sound r h z row e) ∙ put-whole b sound r h z
 
   row-stays : stepNumber (rowStep b r .answer) ≢ 4 → rowStep b r .bench ≡ b
   unfolding if_then_else_ stepNumber stepped unlessRefused rowStepBy rowStep

@@ -1,6 +1,5 @@
 -- A row as it is lent to `fill`: the checks of levels 1 to t, its learned sums and its symbols are parts of the code's arrays. Assumes nothing.
 use mathlib.Core.Path.{_≡_, refl, sym, ap, ap₂, _∙_, subst}
-use mathlib.Core.Bool.{Bool}
 use mathlib.Core.List.{List, [], _∷_, _++_, map}
 use Prim.Native.Nat.{ℕ, zero, suc, _+_, _*_, _-_, _^_, _<_, _≤_}
 use native.Mathlib.Nat.{le-trans}
@@ -13,22 +12,20 @@ use Rattle.field.specs.Lists.{upFrom}
 use Rattle.field.specs.Field.{Field, size}
 use Rattle.field.specs.Ours.{fieldOf}
 use Rattle.field.proofs.Ring.{size-pos}
-use Rattle.linear.specs.Lists.{all}
 use Rattle.systems.specs.System.{vec, Elements}
 use Rattle.linear.specs.Marks.{rowsOf, bitsOf, Fit, fillOf, answerOf, vectorOf}
 use Rattle.linear.specs.declared.Outcome.the-variants.{Tied}
 use Rattle.linear.proofs.Answers.{wide-tied}
 use Rattle.linear.specs.Fill.{fill}
 use Rattle.plans.specs.Plan.{Plan, planOf, known, checksTo, rowAt}
-use Rattle.plans.specs.Refusal.{room, sumsAt, allBelow, sumsFit}
+use Rattle.plans.specs.Refusal.{sumsAt, allBelow, sumsFit}
 use Rattle.plans.specs.Tables.{checkTable, FactsOf}
 use Rattle.plans.specs.declared.plan.Facts.{Facts}
 use Rattle.plans.proofs.Flat.{rowIn, all-getD}
 use Rattle.plans.proofs.Tables.{checks-before, checks-in, checks-lt}
 use Rattle.plans.proofs.Rows.{row-end as rows-end, row-length, row-again}
-use Rattle.plans.proofs.Shape.{Shape, shape}
+use Rattle.plans.proofs.Shape.{shape}
 use Rattle.steps.proofs.Fit.{sums-fit}
-use Rattle.steps.proofs.Levels.{sums-length}
 use Rattle.plans.proofs.Sizes.{checks-room, checks-length}
 use Rattle.plans.proofs.Parts.{part, part-of, part-length, part-back, rows-of, rows-front}
 

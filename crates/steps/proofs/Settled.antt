@@ -1,29 +1,34 @@
--- Rows that have the sums learned for them: a row once it is filled, and every row without marks once a level is learned. Assumes nothing.
+-- Rows without marks and the sums learned for them: what a row step finds of such a row; a row has them once it is filled, and so has every
+-- row without marks once a level is learned. Assumes nothing.
 use mathlib.Core.Path.{_≡_, refl, sym, ap, ap₂, _∙_, subst}
 use mathlib.Core.Logic.{_≢_}
 use mathlib.Core.Bool.{Bool, true, false, not}
-use mathlib.Core.List.{List, [], _∷_, _++_, map}
-use Prim.Native.Nat.{ℕ, zero, suc, _<_}
+use mathlib.Core.List.{List, [], _∷_, _++_}
+use Prim.Native.Nat.{ℕ, zero, suc, _+_, _*_, _<_, _≤_}
 use native.Mathlib.Omega.{arith}
 use borrow.Author.Tests.{eq-eqb}
 use lib.Dec.{eqb}
-use lib.ListN.{length, getD}
-use Rattle.field.specs.Lists.{upFrom}
+use lib.ListN.{length, getD, set}
+use lib.Seq.{set-getD}
 use Rattle.field.specs.Field.{Field, dot}
 use Rattle.field.proofs.Lists.{getD-map-below}
 use Rattle.linear.specs.Lists.{zeros, first, rest}
-use Rattle.linear.specs.Fill.{sumsOf, one}
+use Rattle.linear.specs.Marks.{bitsOf}
+use Rattle.linear.specs.Fill.{sumsOf, tied, one}
 use Rattle.linear.proofs.Choices.{Agrees}
 use Rattle.linear.proofs.Filling.{Means, fill-means}
 use Rattle.linear.proofs.Vectors.{sums-append}
 use Rattle.plans.specs.Plan.{Plan, Level, planOf, levelOf, checksTo, rowAt, marksAt, across}
 use Rattle.plans.specs.Refusal.{sumsAt}
 use Rattle.steps.specs.Steps.{rowFill, putRow, lossy, learned, levelFill, raise}
+use Rattle.steps.specs.Learned.{benchOf}
 use Rattle.steps.specs.Walk.{HasSums, Settled}
 use Rattle.plans.specs.declared.Bench.{Bench}
+use Rattle.plans.proofs.Rows.{row-length, row-again, marks-length}
+use Rattle.steps.proofs.Unmarked.{Clear, bits-clear, clear-untied, clear-filled, clear-one}
 use Rattle.steps.proofs.Sums.{learnedAt}
 use Rattle.steps.proofs.Levels.{checks-suc}
-use Rattle.steps.proofs.Sound.{Sound, Ones, totalFill, filled-row, put-row, put-row-other, learned-ones, learned-length, raise-sums}
+use Rattle.steps.proofs.Sound.{Sound, Ones, totalFill, filled-row, row-place, put-row, put-row-other, learned-ones, learned-length, raise-sums}
 
 -- what agrees with a vector has its entry wherever no mark stands
 agrees-at : (F : Field) (ms : List Bool) (v w : List ℕ) → Agrees F ms v w → (i : ℕ) → getD ms i true ≡ false → getD w i 0 ≡ getD v i 0
@@ -40,11 +45,48 @@ module _ (b : Bench) where
   abbrev P : Plan
   P = planOf (b .plan)
 
+  -- ---- a row without marks
+
+  module _ (s : Sound b) (r : ℕ) (inside : r < P .rows) (z : getD (b .marks) r 0 ≡ 0) where
+    place : r * P .columns + P .columns ≤ length (b .symbols)
+    place = row-place b (s .fit) r inside (s .sized)
+
+    long : length (rowAt P (b .symbols) r) ≡ P .columns
+    long = row-length P (b .symbols) r place
+
+    clear : Clear (marksAt P (b .marks) r)
+    unfolding marksAt
+    clear = subst (λ w. Clear (bitsOf (P .columns) w)) (sym z) (bits-clear (P .columns))
+
+    pub whole-untied : rowFill b r ≡ tied → ⊥
+    unfolding rowFill
+    whole-untied = clear-untied (P .field) (checksTo P (b .level)) (sumsAt P (b .level) (b .sums) r) (marksAt P (b .marks) r) (rowAt P (b .symbols) r) clear
+
+    -- its fill is the row itself
+    pub whole-row : (v : List ℕ) → rowFill b r ≡ one v → v ≡ rowAt P (b .symbols) r
+    unfolding rowFill
+    whole-row v e =
+        clear-filled (P .field) (checksTo P (b .level)) (sumsAt P (b .level) (b .sums) r) (marksAt P (b .marks) r) (rowAt P (b .symbols) r) clear
+        (long ∙ sym (marks-length P (b .marks) r)) v e
+
+    pub whole-fill : HasSums b r → rowFill b r ≡ one (rowAt P (b .symbols) r)
+    unfolding rowFill
+    whole-fill h =
+        clear-one (P .field) (checksTo P (b .level)) (sumsAt P (b .level) (b .sums) r) (marksAt P (b .marks) r) (rowAt P (b .symbols) r) clear
+        (long ∙ sym (marks-length P (b .marks) r)) h
+
+    -- and putting it changes nothing
+    pub put-whole : putRow b r (rowAt P (b .symbols) r) ≡ b
+    unfolding putRow
+    put-whole =
+        ap₂ (λ x m. benchOf (b .plan) (b .level) x m (b .sums)) (row-again P r (rowAt P (b .symbols) r) (b .symbols) long place refl)
+        (ap (set (b .marks) r) (sym z) ∙ set-getD (b .marks) r 0)
+
   -- ---- a filled row
 
   module _ (s : Sound b) (r : ℕ) (inside : r < P .rows) (v : List ℕ) (e : rowFill b r ≡ one v) where
-    long : length v ≡ P .columns
-    long = filled-row b (s .fit) r inside v e .0
+    wide : length v ≡ P .columns
+    wide = filled-row b (s .fit) r inside v e .0
 
     pub put-has : HasSums (putRow b r v) r
     unfolding rowFill putRow
@@ -53,12 +95,12 @@ module _ (b : Bench) where
         let target = sumsAt P (b .level) (b .sums) r in
         let ms = marksAt P (b .marks) r in
         let row = rowAt P (b .symbols) r in
-        ap (sumsOf (P .field) C) (put-row b (s .fit) r inside (s .sized) v long)
+        ap (sumsOf (P .field) C) (put-row b (s .fit) r inside (s .sized) v wide)
         ∙ subst (Means (P .field) C target ms row) e (fill-means (P .field) C target ms row) .1 .meets
 
     pub put-has-other : (k : ℕ) → k ≢ r → HasSums b k → HasSums (putRow b r v) k
     unfolding putRow
-    put-has-other k ne h = ap (sumsOf (P .field) (checksTo P (b .level))) (put-row-other b (s .fit) r inside (s .sized) v long k ne) ∙ h
+    put-has-other k ne h = ap (sumsOf (P .field) (checksTo P (b .level))) (put-row-other b (s .fit) r inside (s .sized) v wide k ne) ∙ h
 
   -- ---- a learned level
 

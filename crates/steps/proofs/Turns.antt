@@ -1,25 +1,23 @@
 -- What a turn makes of a fit bench, by what was found of the row. Assumes nothing.
-use mathlib.Core.Path.{_≡_, refl, sym, ap, ap₂, _∙_, subst}
-use mathlib.Core.Bool.{Bool, true, false}
+use mathlib.Core.Path.{_≡_, sym, ap, _∙_}
 use mathlib.Core.List.{List}
-use Prim.Native.Nat.{ℕ, zero, suc, pred, _+_, _*_, _<_, _≤_}
+use Prim.Native.Nat.{ℕ, suc, pred, _+_, _<_}
 use native.Mathlib.Nat.{add-zero, add-suc, le-refl}
 use native.Mathlib.Omega.{arith}
 use borrow.Author.Tests.{lt-ltb, le-ltb, eq-eqb, ne-eqb}
-use lib.Dec.{eqb, ltb}
+use lib.Dec.{ltb}
 use lib.ListN.{length, getD, set}
 use lib.Seq.{set-getD, set-set, getD-set-same}
 use Rattle.field.specs.Lists.{if_then_else_}
 use Rattle.linear.specs.Fill.{Fill, tied, none, one}
-use Rattle.plans.specs.Plan.{Plan, planOf}
+use Rattle.plans.specs.Plan.{planOf}
 use Rattle.plans.specs.Answers.{stepNumber}
 use Rattle.steps.specs.Steps.{stepped, rowFill, putRow, rowStepBy, Learned, blocked, failing, learned, levelFill, raise, levelStepBy}
-use Rattle.steps.specs.Rounds.{Standing, Turn, on, end, clash, counted, afterRow, afterLevel, takeTurn, goOn, turns}
+use Rattle.steps.specs.Rounds.{end, clash, counted, afterRow, afterLevel, takeTurn, goOn, turns}
 use Rattle.steps.specs.Walk.{standingOf, more}
 use Rattle.plans.specs.declared.Bench.{Bench}
 use Rattle.plans.specs.declared.Stepped.{Stepped}
-use Rattle.plans.specs.declared.Step.{Step}
-use Rattle.plans.specs.declared.Step.the-variants.{Whole, Filled, Tied, Raised, Blocked, Top, Clash}
+use Rattle.plans.specs.declared.Step.the-variants.{Whole, Filled, Raised, Blocked, Top, Clash}
 use Rattle.plans.specs.declared.Place.the-variants.{Row, Across}
 use Rattle.steps.proofs.Fit.{BenchFit}
 use Rattle.steps.proofs.Sound.{row-step, level-step}

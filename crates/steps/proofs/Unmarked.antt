@@ -1,6 +1,6 @@
 -- A vector without marks: its fill is never tied, and the vector itself where its sums are the target. Assumes nothing.
-use mathlib.Core.Path.{_≡_, refl, sym, ap, ap₂, _∙_, subst}
-use mathlib.Core.Bool.{Bool, true, false, not}
+use mathlib.Core.Path.{_≡_, refl, sym, ap, ap₂, subst}
+use mathlib.Core.Bool.{Bool, true, false}
 use mathlib.Core.List.{List, [], _∷_, map}
 use Prim.Native.Nat.{ℕ, zero, suc, _/_, _%_, _^_}
 use native.Mathlib.Nat.{suc-inj, div-eq-of-lt}
@@ -10,12 +10,12 @@ use lib.ListN.{length}
 use lib.Pow.{pow-pos}
 use Rattle.field.specs.Lists.{upFrom}
 use Rattle.field.specs.Field.{Field}
-use Rattle.linear.specs.Lists.{all, vanish, zeros, first, rest}
+use Rattle.linear.specs.Lists.{vanish, zeros, first, rest}
 use Rattle.linear.specs.Marks.{bitsOf}
-use Rattle.linear.specs.Fill.{sumsOf, Fill, tied, none, one, fill}
+use Rattle.linear.specs.Fill.{sumsOf, tied, one, fill}
 use Rattle.linear.proofs.Tests.{zeros-vanish}
 use Rattle.linear.proofs.Choices.{Agrees}
-use Rattle.linear.proofs.Filling.{Dependency, Independent, no-dependency, independent-of, Filling, Means, fill-means, fill-none, fill-one}
+use Rattle.linear.proofs.Filling.{Independent, no-dependency, independent-of, Means, fill-means, fill-one}
 
 -- no place is marked
 abbrev pub Clear : List Bool → Type 0
@@ -62,16 +62,16 @@ module _ (F : Field) where
       independent-of F checks ms (λ w d.
       T-not (vanish w) (d .nonzero) (subst (λ z. T (vanish z)) (sym (clear-agrees ms (zeros ms) w c (length-zeros ms) (d .agrees))) (zeros-vanish ms)))
 
-  module _ (checks : List (List ℕ)) (target : List ℕ) (ms : List Bool) (v : List ℕ) (c : Clear ms) (l : length v ≡ length ms) where
-    pub clear-one : sumsOf F checks v ≡ target → fill F checks target ms v ≡ one v
-    clear-one e = fill-one F checks target ms v (clear-independent checks ms c) record { agrees = agrees-self ms v c l; meets = e }
-
-    -- what each answer says
+  module _ (checks : List (List ℕ)) (target : List ℕ) (ms : List Bool) (v : List ℕ) (c : Clear ms) where
     pub clear-untied : fill F checks target ms v ≡ tied → ⊥
     clear-untied e =
         let m = subst (Means F checks target ms v) e (fill-means F checks target ms v) in
         no-dependency F checks ms (clear-independent checks ms c) (m .1)
 
-    pub clear-filled : (w : List ℕ) → fill F checks target ms v ≡ one w → w ≡ v
-    clear-filled w e =
-        let m = subst (Means F checks target ms v) e (fill-means F checks target ms v) in clear-agrees ms v w c l (m .1 .agrees)
+    module _ (l : length v ≡ length ms) where
+      pub clear-one : sumsOf F checks v ≡ target → fill F checks target ms v ≡ one v
+      clear-one e = fill-one F checks target ms v (clear-independent checks ms c) record { agrees = agrees-self ms v c l; meets = e }
+
+      pub clear-filled : (w : List ℕ) → fill F checks target ms v ≡ one w → w ≡ v
+      clear-filled w e =
+          let m = subst (Means F checks target ms v) e (fill-means F checks target ms v) in clear-agrees ms v w c l (m .1 .agrees)

@@ -1,33 +1,29 @@
 -- The walk over the rows of a round: its invariant, with a start, a turn for each finding, and its two ends. Assumes nothing.
 use mathlib.Core.Path.{_≡_, refl, sym, ap, ap₂, _∙_, subst}
-use mathlib.Core.Bool.{Bool, true, false}
 use mathlib.Core.List.{List}
-use Prim.Native.Nat.{ℕ, zero, suc, pred, _+_, _*_, _-_, _<_, _≤_}
-use native.Mathlib.Nat.{le-refl}
+use Prim.Native.Nat.{ℕ, suc, pred, _+_, _*_, _-_, _<_, _≤_}
 use native.Mathlib.Numerals.{add-one}
 use native.Mathlib.Omega.{arith}
 use borrow.Author.Tests.{lt-ltb, le-ltb}
-use lib.Dec.{ltb}
 use lib.ListN.{length, getD, set}
-use lib.Seq.{sets, set-getD, getD-set-other}
+use lib.Seq.{sets, getD-set-other}
 use Rattle.field.specs.Lists.{if_then_else_}
 use Rattle.linear.specs.Marks.{bitsOf, answerOf, vectorOf}
 use Rattle.linear.specs.Fill.{Fill, tied, none, one, fill}
-use Rattle.plans.specs.Plan.{Plan, planOf, checksTo, rowAt, marksAt}
+use Rattle.plans.specs.Plan.{planOf, checksTo, rowAt, marksAt}
 use Rattle.plans.specs.Refusal.{sumsAt, unasked, benchRefusal}
 use Rattle.steps.specs.Steps.{rowFill, putRow}
-use Rattle.steps.specs.Rounds.{Standing, Turn, clash, turns}
+use Rattle.steps.specs.Rounds.{clash, turns}
 use Rattle.steps.specs.Learned.{benchOf}
 use Rattle.steps.specs.Walk.{standingOf, Arrays, HasSums, Settled, more, Walked}
 use Rattle.plans.specs.declared.Bench.{Bench}
 use Rattle.plans.specs.declared.Place.the-variants.{Row}
 use Rattle.linear.specs.declared.Outcome.{Outcome}
 use Rattle.linear.specs.declared.Outcome.the-variants.{Tied, None, One}
-use Rattle.plans.proofs.Rows.{of-rows, row-length, row-again, marks-length}
-use Rattle.steps.proofs.Fit.{Sized, bench-fit, fit-bench}
+use Rattle.plans.proofs.Rows.{of-rows, row-length, row-again}
+use Rattle.steps.proofs.Fit.{bench-fit, fit-bench}
 use Rattle.steps.proofs.Sound.{Sound, row-place, sound-put}
-use Rattle.steps.proofs.Settled.{put-has, put-has-other}
-use Rattle.steps.proofs.Unmarked.{Clear, bits-clear, clear-one, clear-untied, clear-filled}
+use Rattle.steps.proofs.Settled.{whole-untied, whole-row, whole-fill, put-whole, put-has, put-has-other}
 use Rattle.steps.proofs.Turns.{more-none, turn-tied, turn-none, turn-whole, turn-filled}
 
 -- a bench of the code's arrays that nothing is refused of
@@ -91,43 +87,21 @@ module _ (p t : ℕ) (sums symbols₀ marks₀ : List ℕ) where
 
     -- ---- a row without marks
 
-    unmarked : getD marks row 0 ≡ 0 → Clear (marksAt (planOf p) marks row)
-    unfolding marksAt
-    unmarked z = subst (λ w. Clear (bitsOf (planOf p .columns) w)) (sym z) (bits-clear (planOf p .columns))
-
-    row-long : length (rowAt (planOf p) symbols row) ≡ length (marksAt (planOf p) marks row)
-    row-long = row-length (planOf p) symbols row place ∙ sym (marks-length (planOf p) marks row)
-
-    -- the row that stands there, put there
-    put-same : getD marks row 0 ≡ 0 → putRow b row (rowAt (planOf p) symbols row) ≡ b
-    unfolding putRow
-    put-same e =
-        ap₂ (λ s m. benchOf p t s m sums) (row-again (planOf p) row (rowAt (planOf p) symbols row) symbols (row-length (planOf p) symbols row place) place refl)
-        (ap (set marks row) (sym e) ∙ set-getD marks row 0)
-
     pub walking-whole : getD marks row 0 ≡ 0 → rowFill b row ≡ one (rowAt (planOf p) symbols row)
         → Walking p t sums symbols₀ marks₀ symbols marks (row + 1) filled
     walking-whole z e =
-        stay (λ z. subst (λ c. HasSums c row) (put-same z) (put-has b (W .sound) row inside (rowAt (planOf p) symbols row) e))
-        (turn-whole b (W .sound .fit) row inside (rowAt (planOf p) symbols row) e z (put-same z))
+        let same = put-whole b (W .sound) row inside z in
+        stay (λ z. subst (λ c. HasSums c row) same (put-has b (W .sound) row inside (rowAt (planOf p) symbols row) e))
+        (turn-whole b (W .sound .fit) row inside (rowAt (planOf p) symbols row) e z same)
 
     -- above level 1 it is not looked at: it has its sums
     pub walking-passed : (t ≡ 1 → ⊥) → getD marks row 0 ≡ 0 → Walking p t sums symbols₀ marks₀ symbols marks (row + 1) filled
-    unfolding rowFill
-    walking-passed above z =
-        walking-whole z
-        (clear-one (planOf p .field) (checksTo (planOf p) t) (sumsAt (planOf p) t sums row) (marksAt (planOf p) marks row) (rowAt (planOf p) symbols row)
-        (unmarked z) row-long (W .settled row inside (λ e. absurd (above e)) z))
+    walking-passed above z = walking-whole z (whole-fill b (W .sound) row inside z (W .settled row inside (λ e. absurd (above e)) z))
 
     -- ---- a row with marks
 
     pub walking-tied : rowFill b row ≡ tied → Walking p t sums symbols₀ marks₀ symbols marks (row + 1) filled
-    unfolding rowFill
-    walking-tied e =
-        stay
-        (λ z. absurd (clear-untied (planOf p .field) (checksTo (planOf p) t) (sumsAt (planOf p) t sums row) (marksAt (planOf p) marks row)
-        (rowAt (planOf p) symbols row) (unmarked z) row-long e))
-        (turn-tied b (W .sound .fit) row inside e)
+    walking-tied e = stay (λ z. absurd (whole-untied b (W .sound) row inside z e)) (turn-tied b (W .sound .fit) row inside e)
 
     pub walking-filled : (v : List ℕ) → (getD marks row 0 ≡ 0 → ⊥) → rowFill b row ≡ one v
         → Walking p t sums symbols₀ marks₀ (sets symbols (row * planOf p .columns) v) (set marks row 0) (row + 1) (filled + 1)
@@ -216,8 +190,7 @@ module _ (p t : ℕ) (sums symbols₀ marks₀ : List ℕ) where
         go tied q h = let z : _≡_ {A = ℕ} 0 1 = cc in absurd (omega arith)
         go none q h = let z : _≡_ {A = ℕ} 0 1 = cc in absurd (omega arith)
         go (one w) q h =
-            let same = clear-filled (planOf p .field) (checksTo (planOf p) t) (sumsAt (planOf p) t sums row) (marksAt (planOf p) marks row)
-            (rowAt (planOf p) symbols row) (unmarked z) row-long w q in
+            let same = whole-row b (W .sound) row inside z w q in
             subst (λ s. Walking p t sums symbols₀ marks₀ s marks (row + 1) filled)
             (sym (l ∙ ap (λ f. sets symbols (row * planOf p .columns) (vectorOf f (rowAt (planOf p) symbols row))) q ∙ same-row (one w) same))
             (walking-whole z (q ∙ ap one same))

@@ -6,10 +6,9 @@ use lib.Dec.{eqb, ltb}
 use lib.ListN.{length, getD, set, replicate}
 use lib.Seq.{sets}
 use Rattle.field.specs.Lists.{if_then_else_, upFrom}
-use Rattle.field.specs.Field.{dot}
 use Rattle.linear.specs.Lists.{zeros}
-use Rattle.linear.specs.Fill.{sumsOf, Fill, tied, none, one, fill}
-use Rattle.plans.specs.Plan.{Plan, Level, planOf, levelOf, checksTo, rowAt, marksAt, across}
+use Rattle.linear.specs.Fill.{Fill, tied, none, one, fill}
+use Rattle.plans.specs.Plan.{Plan, planOf, levelOf, checksTo, rowAt, marksAt, across}
 use Rattle.plans.specs.Refusal.{room, sumsAt, unasked, lentRefusal, benchRefusal}
 use Rattle.plans.specs.declared.Bench.{Bench}
 use Rattle.plans.specs.declared.Stepped.{Stepped}

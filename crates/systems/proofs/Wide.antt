@@ -1,18 +1,12 @@
 -- More columns than equations are dependent, over any field. Assumes nothing.
 use mathlib.Core.Path.{_≡_, refl, sym, ap, ap₂, _∙_}
 use mathlib.Core.Logic.{_≢_, _⊎_, inl, inr, ⊎-elim}
-use mathlib.Core.Bool.{true}
-use mathlib.Core.List.{List}
-use Prim.Native.Nat.{ℕ, zero, suc, _+_, _^_, _<_}
+use Prim.Native.Nat.{ℕ, zero, suc, _<_}
 use native.Mathlib.Decide.{ℕ-discrete}
 use native.Mathlib.Omega.{arith}
-use lib.Count.{ones}
-use lib.ListN.{length}
 use Rattle.field.specs.Field.{Field, _⊕_, size, mul, inverse}
-use Rattle.field.specs.Ours.{fieldOf}
-use Rattle.field.proofs.Sum.{⊕-self, ⊕-zero, zero-⊕}
-use Rattle.field.proofs.Laws.{IsField, size-pos, zero-mul, mul-zero, mul-one}
-use Rattle.field.proofs.Fields.{our-field}
+use Rattle.field.proofs.Sum.{⊕-self}
+use Rattle.field.proofs.Laws.{IsField, size-pos, zero-mul, mul-zero}
 use Rattle.systems.specs.System.{Matrix, inner, Elements, Ker}
 use Rattle.systems.proofs.Inner.{put, put-same, put-other, inner-same, inner-zero, inner-row, inner-one}
 

@@ -2,7 +2,6 @@
 use mathlib.Core.Path.{sym, _∙_}
 use native.Mathlib.Nat.{le-of-eq}
 use borrow.Author.Needs.{needs}
-use borrow.Author.Tests.{not-true, not-false}
 use Rattle.codewords.proofs.Holding.{test-known, test-length, tested-refused, tested-yes, tested-no}
 use Rattle.codewords.proofs.is_codeword.Statement.{statement}
 use Rattle.codewords.proofs.is_codeword.Tie as tie

@@ -1,10 +1,10 @@
 -- `main` calls within every contract: what is printed has room in the buffer that it is put in. Assumes nothing.
 use mathlib.Core.Path.{_≡_, sym, ap, _∙_}
-use mathlib.Core.List.{List, _++_}
+use mathlib.Core.List.{List}
 use Prim.Native.Nat.{ℕ, _-_, _≤_}
 use native.Mathlib.Omega.{arith}
 use borrow.Author.Needs.{needs}
-use lib.ListN.{length, take, replicate, length-append}
+use lib.ListN.{length, replicate, length-append}
 use lib.Seq.{length-take-le}
 use Rattle.plans.specs.Tables.{padded}
 use Rattle.mend.proofs.main.Statement.{statement}

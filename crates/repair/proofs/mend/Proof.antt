@@ -1,10 +1,8 @@
 -- `repair::mend` meets its contract. Assumes nothing.
-use Prim.Native.Nat.{ℕ}
 use mathlib.Core.Path.{_≡_, sym, _∙_}
 use native.Mathlib.Omega.{arith}
 use borrow.Author.Needs.{needs}
 use denote.Ref.{now}
-use lib.ListN.{length}
 use Rattle.plans.specs.Refusal.{lentRefusal}
 use Rattle.plans.proofs.Shape.{shape}
 use Rattle.steps.proofs.Fit.{lent-fit}

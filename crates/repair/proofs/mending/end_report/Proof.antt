@@ -1,5 +1,5 @@
 -- `repair::mending::end_report` meets its contract. Assumes nothing.
-use mathlib.Core.Path.{_≡_, ap, _∙_}
+use mathlib.Core.Path.{ap, _∙_}
 use mathlib.Core.List.{map}
 use native.Mathlib.Omega.{arith}
 use borrow.Author.Needs.{needs}

@@ -3,11 +3,9 @@ use mathlib.Core.Path.{_≡_, sym, subst}
 use mathlib.Core.List.{List}
 use Prim.Native.Nat.{ℕ}
 use borrow.Author.Needs.{needs}
-use denote.Ref.{now}
 use Rattle.plans.specs.Refusal.{benchRefusal, unasked}
 use Rattle.plans.specs.declared.Report.{Report}
 use Rattle.plans.proofs.Shape.{third}
-use Rattle.steps.specs.Walk.{Arrays}
 use Rattle.steps.proofs.Walking.{sound-of}
 use Rattle.repair.specs.Ended.{startOf, roundsOn, Ended}
 use Rattle.repair.proofs.mending.rounds.Statement.{statement}

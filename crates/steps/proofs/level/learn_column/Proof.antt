@@ -10,7 +10,7 @@ use Rattle.plans.specs.Plan.{planOf}
 use Rattle.plans.proofs.Plans.{rows-most}
 use Rattle.plans.proofs.Sizes.{checks-length, weights-length}
 use Rattle.plans.proofs.Numbers.{Weighing, weighing, check-within, check-rows, column-room, column-rows}
-use Rattle.steps.proofs.Learning.{few-totals, weights-within, front-length, target-length, front-lt, target-lt, made-is, filled-is, column-fits}
+use Rattle.steps.proofs.Learning.{few-totals, weights-within, front-length, target-length, made-is, filled-is, column-fits}
 use Rattle.steps.proofs.level.learn_column.Statement.{statement}
 use Rattle.steps.proofs.level.learn_column.Tie as tie
 

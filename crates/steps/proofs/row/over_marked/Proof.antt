@@ -1,16 +1,15 @@
 -- `row::over_marked` meets its contract: each row that was passed has more marks than sums. Assumes nothing.
-use mathlib.Core.Path.{_≡_, sym, ap₂, _∙_}
-use mathlib.Core.Bool.{Bool}
-use Prim.Native.Nat.{ℕ, _-_}
+use mathlib.Core.Path.{_≡_, sym, _∙_}
+use Prim.Native.Nat.{_-_}
 use native.Mathlib.Omega.{arith}
 use borrow.Author.Tests.{lt-ltb, le-ltb}
 use denote.Ref.{now}
 use lib.Count.{ones, ones-le}
 use lib.Dec.{ltb}
-use lib.ListN.{length, getD}
+use lib.ListN.{getD}
 use Rattle.field.specs.Lists.{upFrom}
 use Rattle.linear.specs.Lists.{all}
-use Rattle.plans.specs.Plan.{planOf, checksTo}
+use Rattle.plans.specs.Plan.{planOf}
 use Rattle.plans.proofs.Scan.{Passing, passing-none, passing-more, passing-all, up-false}
 use Rattle.steps.specs.Walk.{overMarked}
 use borrow.Author.Needs.{needs}

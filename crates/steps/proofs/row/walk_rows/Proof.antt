@@ -1,6 +1,5 @@
 -- `row::walk_rows` meets its contract. Assumes nothing.
-use Prim.Native.Nat.{ℕ, _-_, _<_}
-use mathlib.Core.Path.{_≡_, refl, sym, ap, _∙_}
+use Prim.Native.Nat.{_-_, _<_}
 use mathlib.Core.Logic.{⊎-elim}
 use Rattle.plans.specs.Plan.{planOf}
 use Rattle.plans.proofs.Shape.{shape}
