@@ -3,12 +3,12 @@ use mathlib.Core.Path.{_≡_, refl, sym, ap, ap₂, _∙_, subst, fun-ext}
 use mathlib.Core.Bool.{Bool, true, false, _&&_}
 use mathlib.Core.List.{List, [], _∷_, map, map-map, flatMap}
 use Prim.Native.Nat.{ℕ, zero, suc, _+_, _*_, _-_, _≤_, _<_}
-use native.Mathlib.Nat.{le-trans, min-le-left, suc-mul, add-mul}
+use native.Mathlib.Nat.{le-trans, min-le-left, add-mul}
 use native.Mathlib.Omega.{arith}
 use borrow.Author.Tests.{eqb-true, eq-eqb, ne-eqb}
 use lib.Dec.{T, eqb}
 use lib.ListN.{length, getD, take, drop, length-take, length-drop}
-use lib.Seq.{length-take-le, drop-drop}
+use lib.Seq.{length-take-le}
 use Rattle.field.specs.Lists.{if_then_else_, upFrom}
 use Rattle.field.specs.Field.{Field, dot}
 use Rattle.field.specs.Ours.{fieldOf}
@@ -29,7 +29,7 @@ use Rattle.plans.proofs.Sizes.{checks-room, checks-length, weights-room, weight
 use Rattle.plans.proofs.Rows.{row-end}
 use Rattle.plans.proofs.Flat.{rowIn}
 use Rattle.plans.proofs.Tables.{checks-in, level-checks-in, weights-in, checks-more, sums-more}
-use Rattle.plans.proofs.Parts.{part, part-of, part-length, rows-of, rows-front, map-up-shift}
+use Rattle.plans.proofs.Parts.{part, part-of, part-length, rows-from, rows-of, rows-front, map-up-shift}
 use Rattle.plans.proofs.Numbers.{Numbers, Weighing, row-within}
 use Rattle.codewords.proofs.Walk.{all-map, Walking, walking-turns, walking-fails, walking-ends}
 use Rattle.codewords.proofs.Totals.{dot-total}
@@ -166,14 +166,6 @@ totals-walk p t K stripe =
     ∙ all-map (λ w. vanish (map (λ c. dot (P .field) w (across P stripe c)) (L .checks))) weights _
     ∙ ap (λ f. all f (upFrom 0 (length (L .weights))))
     (fun-ext (λ i. ap (λ f. vanish (map f (L .checks))) (fun-ext (λ c. total-of-sums P K stripe c (weights i) (rw length-take (min-le-left _ _))))))
-
--- rows taken off from row k on are those rows by their numbers
-rows-from : (k m n : ℕ) (l : List ℕ) → rowsOf m n (drop (k * n) l) ≡ map (rowIn n l) (upFrom k m)
-unfolding upFrom rowsOf
-rows-from k zero n l = refl
-rows-from k (suc m) n l =
-    ap (λ rows. take n (drop (k * n) l) ∷ rows)
-    (ap (rowsOf m n) (drop-drop n (k * n) l ∙ ap (λ i. drop i l) (sym (suc-mul k n))) ∙ rows-from (suc k) m n l)
 
 -- the checks of levels 1 to t end within the longest table
 pub checks-end : {p q rows n k : ℕ} → Numbers p q rows n → (t : ℕ) → k ≡ length (checksTo (planOf p) t) → k * n ≤ 512

@@ -7,7 +7,6 @@ use native.Mathlib.Omega.{arith}
 use lib.ListN.{length, take, drop, length-drop}
 use lib.Seq.{sets, sets-eq, take-all, take-nil, take-take, drop-drop}
 use Rattle.field.specs.Lists.{upFrom}
-use Rattle.field.proofs.Lists.{map-up-same}
 use Rattle.linear.specs.Marks.{rowsOf}
 pub use Rattle.linear.proofs.Flat.{part, part-of, part-length}
 use Rattle.plans.proofs.Flat.{rowIn}
@@ -34,16 +33,17 @@ unfolding upFrom
 map-up-shift f k zero = refl
 map-up-shift f k (suc n) = ap (λ l. f (suc k) ∷ l) (map-up-shift f (suc k) n)
 
--- rows taken off one by one are the rows by their numbers
-pub rows-of : (m n : ℕ) (l : List ℕ) → rowsOf m n l ≡ map (rowIn n l) (upFrom 0 m)
+-- rows taken off one by one, from row k on, are the rows by their numbers
+pub rows-from : (k m n : ℕ) (l : List ℕ) → rowsOf m n (drop (k * n) l) ≡ map (rowIn n l) (upFrom k m)
 unfolding upFrom rowsOf
-rows-of zero n l = refl
-rows-of (suc m) n l =
-    ap₂ _∷_ (ap (λ k. take n (drop k l)) (sym (zero-mul n)))
-    (rows-of m n (drop n l) ∙ map-up-same _ _ 0 m (λ i h. ap (take n) (behind (0 + i))) ∙ sym (map-up-shift (rowIn n l) 0 m))
-  where
-    behind : (j : ℕ) → drop (j * n) (drop n l) ≡ drop (suc j * n) l
-    behind j = drop-drop (j * n) n l ∙ ap (λ k. drop k l) (add-comm n (j * n) ∙ sym (suc-mul j n))
+rows-from k zero n l = refl
+rows-from k (suc m) n l =
+    ap (λ rows. take n (drop (k * n) l) ∷ rows)
+    (ap (rowsOf m n) (drop-drop n (k * n) l ∙ ap (λ i. drop i l) (sym (suc-mul k n))) ∙ rows-from (suc k) m n l)
+
+-- and from the first on
+pub rows-of : (m n : ℕ) (l : List ℕ) → rowsOf m n l ≡ map (rowIn n l) (upFrom 0 m)
+rows-of m n l = ap (λ i. rowsOf m n (drop i l)) (sym (zero-mul n)) ∙ rows-from 0 m n l
 
 drop-take : (n k : ℕ) (l : List ℕ) → drop n (take (n + k) l) ≡ take k (drop n l)
 drop-take zero k l = ap (λ i. take i l) (zero-add k)

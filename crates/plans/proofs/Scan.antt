@@ -9,13 +9,14 @@ use native.Mathlib.Omega.{arith}
 use borrow.Author.Count.{below-none, below-more}
 use borrow.Author.Tests.{ltb-true, lt-ltb, le-ltb, eq-eqb}
 use lib.Dec.{eqb, ltb, lit<}
-use lib.ListN.{length, getD, take, length-map}
+use lib.ListN.{length, getD, take}
 use lib.Seq.{take-all}
 use Rattle.field.specs.Lists.{upFrom}
 use Rattle.field.proofs.Sum.{bit}
-use Rattle.field.proofs.Lists.{length-up, getD-map-below}
+use Rattle.field.proofs.Lists.{getD-map-below}
 use Rattle.linear.specs.Lists.{all}
 use Rattle.linear.specs.Marks.{bitsOf}
+use Rattle.linear.proofs.Marked.{length-bits}
 use Rattle.plans.specs.Refusal.{allBelow, unmarkedBelow}
 
 pub true-and : (a b : Bool) → (a && b) ≡ true → (a ≡ true) × (b ≡ true)
@@ -91,10 +92,6 @@ unmarked-up q (m ∷ ms) (x ∷ xs) e =
 
 pub fits-below : (q : ℕ) (ms : List Bool) (xs : List ℕ) (k : ℕ) → getD xs k 0 < q → fitsAt q ms xs k ≡ true
 fits-below q ms xs k h = ap (λ b. getD ms k false || b) (lt-ltb _ _ h) ∙ or-true (getD ms k false)
-
-pub length-bits : (n w : ℕ) → length (bitsOf n w) ≡ n
-unfolding bitsOf
-length-bits n w = length-map (upFrom 0 n) _ ∙ length-up 0 n
 
 -- a row under a mark word: place k's mark is bit k
 module _ (q w : ℕ) (row : List ℕ) where

@@ -20,7 +20,7 @@ use Rattle.plans.proofs.Tables.{checks-before, sums-most}
 
 checks-all : (p : ℕ) → length (checkTable (planOf p)) ≡ length (checksTo (planOf p) (length (planOf p .levels))) * planOf p .columns
 unfolding upFrom flatMap _⊕_ size double times mul gf16 gf32 power
-    ones bitChecks locations1 plan1 locations2 powers2 plan2 locations3 powers3 plan3 noPlan checksTo padded flat checkTable
+    ones bitChecks locations1 plan1 locations2 powers2 plan2 locations3 powers3 plan3 noPlan checksTo checkTable
 checks-all = of-plans (λ P. length (checkTable P) ≡ length (checksTo P (length (P .levels))) * P .columns) refl refl refl refl
 
 pub checks-room : (p t : ℕ) → length (checksTo (planOf p) t) * planOf p .columns ≤ length (checkTable (planOf p))

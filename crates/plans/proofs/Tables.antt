@@ -2,11 +2,11 @@
 use mathlib.Core.Path.{_≡_, sym, ap, _∙_}
 use mathlib.Core.Bool.{Bool}
 use mathlib.Core.List.{List, [], _∷_, _++_, map, flatMap, append-assoc, append-nil}
-use Prim.Native.Nat.{ℕ, zero, suc, _+_, _≤_, _<_}
+use Prim.Native.Nat.{ℕ, zero, suc, _+_, _-_, _≤_, _<_}
 use native.Mathlib.Nat.{le-refl, zero-add}
 use native.Mathlib.Omega.{arith}
 use lib.Dec.{T, ltb, ltb→lt, lt→ltb, lit≤}
-use lib.ListN.{length, getD, take, drop, take-append-drop, length-append}
+use lib.ListN.{length, getD, take, drop, replicate, take-append-drop, length-append}
 use lib.Seq.{take-length, take-nil, take-append-seam}
 use Rattle.field.specs.Lists.{upFrom}
 use Rattle.field.specs.Field.{_⊕_, size, double, times, mul, gf2, gf16, gf32}
@@ -15,7 +15,7 @@ use Rattle.field.proofs.Ring.{size-pos}
 use Rattle.linear.specs.Lists.{all}
 use Rattle.plans.specs.Plan.{Plan, Level, ones, bitChecks, locations1, plan1, locations2, powers2, plan2, locations3, powers3, plan3, noPlan, planOf, noLevel, levelOf, checksTo}
 use Rattle.plans.specs.Refusal.{allBelow}
-use Rattle.plans.specs.Tables.{flat, checkTable, weightTable}
+use Rattle.plans.specs.Tables.{padded, flat, checkTable, weightTable}
 use Rattle.plans.proofs.Plans.{of-plans}
 use Rattle.plans.proofs.Flat.{all-getD, all-padded, flat-append, between, wide, rowIn, rows-in}
 
@@ -74,23 +74,30 @@ sums-most p t =
 
 -- ---- what the tables hold
 
+-- the table of checks is flat, with nothing behind it
+checks-flat : (P : Plan) → checkTable P ≡ flat 0 (checksTo P (length (P .levels)))
+unfolding checkTable flat padded
+checks-flat P =
+    let none : 0 - length (checkTable P) ≡ 0 = omega arith in
+    sym (ap (λ n. checkTable P ++ replicate n 0) none ∙ append-nil (checkTable P))
+
 -- the rows of levels 1 to t come first
 pub checks-in : (p t : ℕ) → let P = planOf p in map (rowIn (P .columns) (checkTable P)) (upFrom 0 (length (checksTo P t))) ≡ checksTo P t
-unfolding checkTable
 checks-in p t =
     let P = planOf p in
     let before = checks-before P t in
-    rows-in (P .columns) 0 _ (wide-checks p) 0 (length (checksTo P t)) (rw (before, length-append) (omega arith))
+    ap (λ table. map (rowIn (P .columns) table) (upFrom 0 (length (checksTo P t)))) (checks-flat P)
+    ∙ rows-in (P .columns) 0 _ (wide-checks p) 0 (length (checksTo P t)) (rw (before, length-append) (omega arith))
     ∙ ap (take (length (checksTo P t))) before ∙ take-append-seam (checksTo P t) _
 
 -- then those of level t + 1
 pub level-checks-in : (p t : ℕ) → let P = planOf p in
     map (rowIn (P .columns) (checkTable P)) (upFrom (length (checksTo P t)) (length (levelOf P (suc t) .checks))) ≡ levelOf P (suc t) .checks
-unfolding checkTable
 level-checks-in p t =
     let P = planOf p in
     let before = checks-before P (suc t) ∙ ap (λ cs. cs ++ checksIn (drop (suc t) (P .levels))) (checks-more P t) in
-    rows-in (P .columns) 0 _ (wide-checks p) (length (checksTo P t)) (length (levelOf P (suc t) .checks))
+    ap (λ table. map (rowIn (P .columns) table) (upFrom (length (checksTo P t)) (length (levelOf P (suc t) .checks)))) (checks-flat P)
+    ∙ rows-in (P .columns) 0 _ (wide-checks p) (length (checksTo P t)) (length (levelOf P (suc t) .checks))
     (rw (before, length-append, length-append) (omega arith))
     ∙ ap (λ cs. take (length (levelOf P (suc t) .checks)) (drop (length (checksTo P t)) cs)) before
     ∙ between (checksTo P t) (levelOf P (suc t) .checks) _
@@ -116,8 +123,7 @@ table-lt p n rows t i =
     ltb→lt _ _ (all-getD below 0 zero-lt (flat n rows) (all-padded below zero-lt n (flatMap (λ row. row) rows) t) i)
 
 pub checks-lt : (p i : ℕ) → getD (checkTable (planOf p)) i 0 < size (planOf p .field)
-unfolding checkTable
-checks-lt p i = table-lt p 0 _ (small-checks p) i
+checks-lt p i = rw (checks-flat (planOf p)) (table-lt p 0 _ (small-checks p) i)
 
 pub weights-lt : (p t i : ℕ) → getD (weightTable (planOf p) t) i 0 < size (planOf p .field)
 unfolding flatMap all noLevel levelOf allBelow weightTable

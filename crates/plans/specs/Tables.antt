@@ -37,13 +37,13 @@ pub record FactsOf (P : Plan) (f : Facts) : Type 0 where
 unfoldable pub padded : ℕ → List ℕ → List ℕ
 padded n xs = xs ++ replicate (n - length xs) 0
 
+-- the row checks of all levels, one behind the other
+unfoldable pub checkTable : Plan → List ℕ
+checkTable P = flatMap (λ row. row) (checksTo P (length (P .levels)))
+
 -- rows one behind the other, and zeros behind them up to n numbers
 unfoldable pub flat : ℕ → List (List ℕ) → List ℕ
 flat n rows = padded n (flatMap (λ row. row) rows)
-
--- the row checks of all levels, and nothing behind them
-unfoldable pub checkTable : Plan → List ℕ
-checkTable P = flat 0 (checksTo P (length (P .levels)))
 
 -- the weights of a level
 unfoldable pub weightTable : Plan → ℕ → List ℕ

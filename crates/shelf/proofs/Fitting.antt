@@ -11,11 +11,11 @@ use lib.ListN.{length}
 use Rattle.field.specs.Lists.{if_then_else_}
 use Rattle.field.proofs.Test.{both-left, both-right, both}
 use Rattle.linear.specs.Lists.{all}
-use Rattle.linear.specs.Fill.{Fill, tied, none, one}
+use Rattle.linear.specs.Fill.{one}
 use Rattle.plans.specs.Plan.{planOf}
 use Rattle.plans.specs.Answers.{placeValues, answerValues, reportValues}
 use Rattle.plans.specs.Refusal.{unasked, allBelow, lentRefusal, benchRefusal}
-use Rattle.steps.specs.Steps.{fresh, empty, startedBy, started, stepped, unlessRefused, rowFill, putRow, rowStepBy, rowStep, Learned, blocked, failing, learned, levelFill, raise, levelStepBy, levelStep}
+use Rattle.steps.specs.Steps.{fresh, empty, startedBy, started, stepped, unlessRefused, rowStep, Learned, blocked, failing, learned, levelFill, raise, levelStepBy, levelStep}
 use Rattle.repair.specs.Mending.{bare, mendReport}
 use Rattle.plans.specs.declared.Bench.{Bench}
 use Rattle.plans.specs.declared.Started.{Started}
@@ -28,9 +28,10 @@ use Rattle.plans.specs.declared.Place.the-variants.{Row, Across}
 use Rattle.plans.specs.declared.Step.the-variants.{Top}
 use Rattle.plans.proofs.Shape.{shape}
 use Rattle.steps.proofs.Fit.{lent-fit, bench-fit}
+use Rattle.steps.proofs.Sound.{row-keeps, level-plan}
 use Rattle.files.proofs.Stripes.{known-below}
 use Rattle.texts.proofs.Texts.{below-at, beside-below, row-below, across-below}
-use Rattle.texts.proofs.Printing.{row-plan, level-plan, report-below, beside-report}
+use Rattle.texts.proofs.Printing.{report-below, beside-report}
 use Rattle.shelf.specs.Layout.{placeBytes, clashBytes, reportBytes}
 
 -- ---- lists of small numbers
@@ -123,16 +124,6 @@ start-small p stripe marks e = subst (λ (s : Started). Small (s .bench)) (sym e
     go (suc n) e = (omega arith, omega arith)
 
 module _ (b : Bench) where
-  row-level : (r : ℕ) → rowStep b r .bench .level ≡ b .level
-  unfolding stepped unlessRefused putRow rowStepBy rowStep
-  row-level r = go (benchRefusal b (ltb r (planOf (b .plan) .rows))) (rowFill b r)
-    where
-      go : (n : ℕ) (f : Fill) → unlessRefused n b (rowStepBy b r f) .bench .level ≡ b .level
-      go zero tied = refl
-      go zero none = refl
-      go zero (one row) = refl
-      go (suc n) f = refl
-
   -- a level that is raised is the plan's last at most
   level-most : b .level < 256 → levelStep b .bench .level < 256
   unfolding if_then_else_ stepped unlessRefused raise levelStepBy levelStep
@@ -151,7 +142,7 @@ module _ (b : Bench) {s : Stepped} (small : Small b) where
   pub row-small : (r : ℕ) → s ≡ rowStep b r → Small (s .bench)
   row-small r e =
       subst (λ (s : Stepped). Small (s .bench)) (sym e)
-      (subst (λ p. p < 256) (sym (row-plan b r)) (small .0), subst (λ t. t < 256) (sym (row-level b r)) (small .1))
+      (subst (λ p. p < 256) (sym (row-keeps b r .0)) (small .0), subst (λ t. t < 256) (sym (row-keeps b r .1)) (small .1))
 
   pub level-small : s ≡ levelStep b → Small (s .bench)
   level-small e =

@@ -163,6 +163,28 @@ module _ (b : Bench) where
       go zero e = let l = ltb→lt r (P .rows) (bench-fit b (ltb r (P .rows)) e .1) in absurd (omega arith)
       go (suc n) e = refl
 
+  -- a row step keeps plan and level, a level step the plan
+  pub row-keeps : (r : ℕ) → (rowStep b r .bench .plan ≡ b .plan) × (rowStep b r .bench .level ≡ b .level)
+  unfolding rowStep rowStepBy unlessRefused stepped putRow
+  row-keeps r = go (benchRefusal b (ltb r (P .rows))) (rowFill b r)
+    where
+      go : (n : ℕ) (f : Fill) → let c = unlessRefused n b (rowStepBy b r f) .bench in (c .plan ≡ b .plan) × (c .level ≡ b .level)
+      go zero tied = (refl, refl)
+      go zero none = (refl, refl)
+      go zero (one row) = (refl, refl)
+      go (suc n) f = (refl, refl)
+
+  pub level-plan : levelStep b .bench .plan ≡ b .plan
+  unfolding if_then_else_ levelStep levelStepBy unlessRefused stepped raise
+  level-plan = go (benchRefusal b unasked) (ltb (b .level) (length (P .levels))) (levelFill b)
+    where
+      go : (n : ℕ) (c : Bool) (l : Learned) → unlessRefused n b (if c then levelStepBy b l else stepped b Top) .bench .plan ≡ b .plan
+      go zero true blocked = refl
+      go zero true failing = refl
+      go zero true (learned cs) = refl
+      go zero false l = refl
+      go (suc n) c l = refl
+
   pub sized-put : Sized b → (r : ℕ) (row : List ℕ) → Sized (putRow b r row)
   unfolding putRow
   sized-put s r row = record {

@@ -15,16 +15,15 @@ use Rattle.field.proofs.Lists.{length-up}
 use Rattle.field.proofs.Test.{both}
 use Rattle.linear.specs.Lists.{all, only}
 use Rattle.linear.specs.Marks.{bitsOf}
-use Rattle.linear.specs.Fill.{Fill, tied, none, one}
+use Rattle.linear.specs.Fill.{none, one}
 use Rattle.plans.specs.Plan.{Plan, planOf, known, rowAt, marksAt}
 use Rattle.plans.specs.Answers.{answerNumber, placeValues, answerValues, reportValues, stepNumber}
-use Rattle.plans.specs.Refusal.{unasked, allBelow, unmarkedBelow, symbolsFit, lentRefusal, benchRefusal}
-use Rattle.steps.specs.Steps.{fresh, stepped, unlessRefused, rowFill, putRow, rowStepBy, rowStep, lossy, Learned, blocked, failing, learned, levelFill, raise, levelStepBy, levelStep}
+use Rattle.plans.specs.Refusal.{unasked, allBelow, unmarkedBelow, symbolsFit, lentRefusal}
+use Rattle.steps.specs.Steps.{fresh, rowStep, lossy, levelStep}
 use Rattle.steps.specs.Rounds.{Standing, Turn, on, end, clash, counted, afterRow, afterLevel, takeTurn, goOn, turns}
 use Rattle.repair.specs.Mending.{mended, rowsLeft, endReport, bare, turnReport, turnStripe, turnMarks, mendReport, mendStripe, mendMarks}
 use Rattle.repair.specs.File.{planIn, symbolsIn, marksIn, fileRefusal}
 use Rattle.repair.specs.Text.{item, lineEnd, reportText, mendText, printed}
-use Rattle.plans.specs.declared.Bench.{Bench}
 use Rattle.plans.specs.declared.Step.{Step}
 use Rattle.plans.specs.declared.Step.the-variants.{Whole, Filled, Tied, Raised, Blocked, Top, Clash, Refused}
 use Rattle.plans.specs.declared.Place.the-variants.{Row}
@@ -33,31 +32,7 @@ use Rattle.plans.specs.declared.Report.{Report}
 use Rattle.plans.proofs.Rows.{row-end, row-append}
 use Rattle.plans.proofs.Shape.{Shape, shape}
 use Rattle.steps.proofs.Fit.{RowFits, LentFit, fit-symbols, lent-fit}
-use Rattle.steps.proofs.Sound.{Sound, sound-fresh, sound-row, sound-level}
-
--- ---- steps keep the plan
-
-module _ (b : Bench) where
-  pub row-plan : (r : ℕ) → rowStep b r .bench .plan ≡ b .plan
-  unfolding stepped unlessRefused putRow rowStepBy rowStep
-  row-plan r = go (benchRefusal b (ltb r (planOf (b .plan) .rows))) (rowFill b r)
-    where
-      go : (n : ℕ) (f : Fill) → unlessRefused n b (rowStepBy b r f) .bench .plan ≡ b .plan
-      go zero tied = refl
-      go zero none = refl
-      go zero (one row) = refl
-      go (suc n) f = refl
-
-  pub level-plan : levelStep b .bench .plan ≡ b .plan
-  unfolding if_then_else_ stepped unlessRefused raise levelStepBy levelStep
-  level-plan = go (benchRefusal b unasked) (ltb (b .level) (length (planOf (b .plan) .levels))) (levelFill b)
-    where
-      go : (n : ℕ) (c : Bool) (l : Learned) → unlessRefused n b (if c then levelStepBy b l else stepped b Top) .bench .plan ≡ b .plan
-      go zero true blocked = refl
-      go zero true failing = refl
-      go zero true (learned cs) = refl
-      go zero false l = refl
-      go (suc n) c l = refl
+use Rattle.steps.proofs.Sound.{Sound, sound-fresh, row-keeps, level-plan, sound-row, sound-level}
 
 only-length : (f : Bool → Bool) (l : List Bool) → length (only f l) ≤ length l
 unfolding if_then_else_ only
@@ -145,7 +120,7 @@ module _ (p n : ℕ) (m : Standing) (a : After p n m) where
           (below-more (m .turn) [] (omega (arith, sizes .rows-le)) below-none)
       go false = record {
         sound = sound-row (m .bench) (a .sound) (m .turn);
-        plan = row-plan (m .bench) (m .turn) ∙ a .plan;
+        plan = row-keeps (m .bench) (m .turn) .0 ∙ a .plan;
         three = counted-length (rowStep (m .bench) (m .turn) .answer) (m .bench .level) (m .restored) ∙ a .three;
         few = counted-le (rowStep (m .bench) (m .turn) .answer) (m .bench .level) (m .restored) n (a .few);
       }

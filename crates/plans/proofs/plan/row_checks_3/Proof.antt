@@ -5,12 +5,12 @@ use Rattle.field.specs.Lists.{upFrom}
 use Rattle.field.specs.Field.{_⊕_, size, double, times, mul, gf16}
 use Rattle.field.specs.Power.{power}
 use Rattle.plans.specs.Plan.{locations3, powers3, plan3, planOf, checksTo}
-use Rattle.plans.specs.Tables.{padded, flat, checkTable}
+use Rattle.plans.specs.Tables.{checkTable}
 use Rattle.plans.proofs.plan.row_checks_3.Statement.{statement}
 use Rattle.plans.proofs.plan.row_checks_3.Tie as tie
 
 returns : tie.Need-returns
-unfolding upFrom flatMap _⊕_ size double times mul gf16 power locations3 powers3 plan3 planOf checksTo padded flat checkTable
+unfolding upFrom flatMap _⊕_ size double times mul gf16 power locations3 powers3 plan3 planOf checksTo checkTable
 returns c = refl
 
 pub row-checks-3-spec : {M : Type 1} → statement M
