@@ -14,25 +14,28 @@ use Rattle.demands.specs.Third.{Premise, OrderNeverMatters, MendingEndsT
 use Rattle.demands.proofs.Alike.{inside-same}
 use Rattle.demands.proofs.Held.{Held, held-fresh, held-walk, held-mark-lt}
 use Rattle.demands.proofs.Order.{below-refl, fewer-marks}
-use Rattle.demands.proofs.Whole.{kept-refl, kept-walk, same-bench}
+use Rattle.demands.proofs.Whole.{rows-kept, same-bench}
+use Rattle.demands.proofs.Room.{walks-keep-room}
 use Rattle.demands.proofs.Rounds.{Ended, Out, mended-out}
 
 -- from one bench held to a codeword, walks that end quiet end with equal benches
-pub one-end : (p : ℕ) (X : List ℕ) (a : Bench) → Held p X a → (ms ns : List Move) → Quiet (walk ms a) → Quiet (walk ns a) → walk ms a ≡ walk ns a
+one-end : (X : List ℕ) (a : Bench) → Held (a .plan) X a → (ms ns : List Move) → Quiet (walk ms a) → Quiet (walk ns a) → walk ms a ≡ walk ns a
 unfolding marksAt
-one-end p X a h ms ns q q′ =
+one-end X a h ms ns q q′ =
+    let p = a .plan in
     let below = fewer-marks p X a a h h (below-refl p a) ms ns q′ in
     let above = fewer-marks p X a a h h (below-refl p a) ns ms q in
     let held = held-walk p X ms a h in
     let held′ = held-walk p X ns a h in
-    same-bench p X a (walk ms a) (walk ns a) held held′ (kept-walk p X a ms a h (kept-refl p a)) (kept-walk p X a ns a h (kept-refl p a))
+    same-bench X a (walk ms a) (walk ns a) held held′ (rows-kept p X a ms h) (rows-kept p X a ns h) (walks-keep-room ms a) (walks-keep-room ns a)
     (le-antisymm (below .level) (above .level)) (λ r l.
     inside-same (planOf p .columns) (getD (walk ms a .marks) r 0) (getD (walk ns a .marks) r 0) (held-mark-lt p X (walk ms a) held r l)
     (held-mark-lt p X (walk ns a) held′ r l) (above .marks r l) (below .marks r l))
 
 pub order-never-matters : OrderNeverMatters
+unfolding fresh
 order-never-matters p stripe marks premise =
-    one-end p (premise .true-stripe) (fresh p stripe marks)
+    one-end (premise .true-stripe) (fresh p stripe marks)
     (held-fresh p (premise .true-stripe) stripe marks (premise .fit) (premise .codeword) (premise .agrees))
 
 -- mending under the premise meets no Clash
