@@ -18,7 +18,7 @@ use Rattle.field.proofs.Sum.{of-bits, bit}
 use Rattle.field.proofs.Test.{both-left, both-right, both}
 use Rattle.linear.specs.Lists.{all, only, vanish, first, rest}
 use Rattle.linear.specs.Marks.{bitsOf}
-use Rattle.linear.proofs.Choices.{Alike, Inside}
+use Rattle.linear.proofs.Choices.{Alike, Inside, getD-first, getD-rest, alike-at}
 use Rattle.linear.proofs.Filling.{Independent, independent-of}
 use Rattle.plans.specs.Plan.{Plan, planOf, rowAt, marksAt, marksOf}
 use Rattle.plans.specs.Refusal.{allBelow, unmarkedBelow}
@@ -82,23 +82,6 @@ unmarked-independent F checks ms z =
     T-not (vanish w) (d .nonzero) (weightless-vanish w (omega (arith, agrees-weight F ms w (d .agrees))))
 
 -- ---- place by place
-
-getD-first : (v : List ℕ) → getD v 0 0 ≡ first v
-unfolding first
-getD-first [] = refl
-getD-first (x ∷ v) = refl
-
-getD-rest : (v : List ℕ) (i : ℕ) → getD v (suc i) 0 ≡ getD (rest v) i 0
-unfolding rest
-getD-rest [] i = refl
-getD-rest (x ∷ v) i = refl
-
-pub alike-at : (ms : List Bool) (v w : List ℕ) → Alike ms v w → (i : ℕ) → getD ms i true ≡ false → getD v i 0 ≡ getD w i 0
-alike-at [] v w a i e = absurd (subst T e tt)
-alike-at (true ∷ ms) v w a zero e = absurd (subst T e tt)
-alike-at (false ∷ ms) v w a zero e = getD-first v ∙ a .0 ∙ sym (getD-first w)
-alike-at (true ∷ ms) v w a (suc i) e = getD-rest v i ∙ alike-at ms (rest v) (rest w) a i e ∙ sym (getD-rest w i)
-alike-at (false ∷ ms) v w a (suc i) e = getD-rest v i ∙ alike-at ms (rest v) (rest w) (a .1) i e ∙ sym (getD-rest w i)
 
 pub at-alike : (ms : List Bool) (v w : List ℕ) → ((i : ℕ) → getD ms i true ≡ false → getD v i 0 ≡ getD w i 0) → Alike ms v w
 at-alike [] v w h = tt

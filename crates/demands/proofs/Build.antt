@@ -18,14 +18,13 @@ use Rattle.field.proofs.Laws.{IsField, size-pos, dot-lt}
 use Rattle.linear.specs.Lists.{zeros, vanish}
 use Rattle.linear.specs.Fill.{sumsOf}
 use Rattle.linear.proofs.Tests.{In, either, all-append, zeros-vanish}
-use Rattle.linear.proofs.Choices.{areSymbols, agrees-alike, agrees-length, agrees-symbols}
+use Rattle.linear.proofs.Choices.{areSymbols, agrees-alike, agrees-length, agrees-symbols, alike-at}
 use Rattle.linear.proofs.Vectors.{sums-append}
 use Rattle.linear.proofs.Filling.{Filling}
 use Rattle.plans.specs.Plan.{Plan, Level, planOf, levelOf, checksTo, marksAt}
 use Rattle.steps.proofs.Levels.{checks-suc}
 use Rattle.plans.proofs.Flat.{all-getD}
 use Rattle.demands.proofs.Lists.{map-in, all-map, append-same}
-use Rattle.demands.proofs.Alike.{alike-at}
 use Rattle.demands.proofs.Codewords.{sums-count}
 use Rattle.demands.proofs.Square.{Square, zeros-symbols, zeros-length}
 use Rattle.demands.proofs.Systems.{mendLevel, pending, row-square, level-square, mend-level-bounds}

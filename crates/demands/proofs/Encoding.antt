@@ -14,6 +14,7 @@ use Rattle.field.proofs.Test.{both-left, below, at}
 use Rattle.field.proofs.Ring.{size-pos}
 use Rattle.linear.proofs.Tests.{either}
 use Rattle.linear.proofs.Filling.{independent-inside}
+use Rattle.linear.proofs.Choices.{alike-at}
 use Rattle.plans.specs.Plan.{Plan, wordOf, plan1, plan2, plan3, known, planOf, levelOf, rowAt, marksAt, marksOf, checkPlacesOf, carried}
 use Rattle.steps.specs.Steps.{lossy}
 use Rattle.plans.specs.Refusal.{unasked, stripeFits, allBelow}
@@ -27,7 +28,7 @@ use Rattle.codewords.proofs.Carrying.{words-count}
 use Rattle.codewords.proofs.Data.{placed-length, placed-all, taken-length, taken-all, taken-placed, alike-taken, taken-alike}
 use Rattle.demands.specs.Words.{Codeword, Agree, Fit}
 use Rattle.demands.specs.Second.{IsEncoded, EncodingMeans, ExtractionMeans, CodewordsAreEncodings}
-use Rattle.demands.proofs.Alike.{alike-at, at-alike, inside-refl}
+use Rattle.demands.proofs.Alike.{at-alike, inside-refl}
 use Rattle.demands.proofs.Held.{rowTied, levelTied, LevelFree}
 use Rattle.demands.proofs.Order.{row-free-more}
 use Rattle.demands.proofs.Second.{restores}

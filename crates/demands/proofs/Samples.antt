@@ -14,7 +14,7 @@ use Rattle.field.proofs.Words.{weight}
 use Rattle.linear.specs.Lists.{any, all, only, same, zeros, vanish, first, rest}
 use Rattle.linear.specs.Marks.{bitsOf}
 use Rattle.linear.specs.Fill.{sumsOf, options, before, choices, loose, dependent, fillings, fillBy, fill}
-use Rattle.linear.proofs.Choices.{Alike}
+use Rattle.linear.proofs.Choices.{Alike, alike-at}
 use Rattle.plans.specs.Plan.{ones, bitChecks, wordOf, locations1, plan1, known, planOf, noLevel, levelOf, checksTo, rowAt, marksAt, marksOf, across, checkPlacesOf, carried, marksOffset, symbolsOffset, fileLength}
 use Rattle.plans.specs.Refusal.{firstFailed, unasked, inMemory, inFile, stripeFits, wordsFit, marksFit, allBelow, unmarkedBelow, symbolsFit, sumsAt, sumsFit, levelFits, lentRefusal, benchRefusal}
 use Rattle.steps.specs.Steps.{fresh, empty, stepped, unlessRefused, rowFill, putRow, rowStepBy, rowStep, lossy, join, joined, levelFill, keepSums, raise, levelStepBy, levelStep}
@@ -33,7 +33,6 @@ use Rattle.demands.specs.Third.{Premise}
 use Rattle.demands.specs.Silence.{SameUnmarked, SameButMarks}
 use Rattle.demands.specs.Room.{SameRead}
 use Rattle.demands.specs.Parameters.{RowWord}
-use Rattle.demands.proofs.Alike.{alike-at}
 use Rattle.demands.proofs.Third.{rounds-suffice}
 use Rattle.demands.proofs.Silence.{fresh-same}
 

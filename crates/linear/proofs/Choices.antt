@@ -1,15 +1,15 @@
 -- What `choices` lists: exactly the vectors that agree. Assumes nothing.
-use mathlib.Core.Path.{_≡_, refl, sym, ap, ap₂, subst}
+use mathlib.Core.Path.{_≡_, refl, sym, ap, ap₂, _∙_, subst}
 use mathlib.Core.Logic.{inl, inr}
 use mathlib.Core.Bool.{Bool, true, false}
 use mathlib.Core.List.{List, [], _∷_, map, Memᴰ·append-left, Memᴰ·append-right, Memᴰ·map, Memᴰ·of-map, Memᴰ·cast}
 use mathlib.Core.List.{List·Memᴰ·head, List·Memᴰ·tail, List·Memᴰ·not-nil, List·Memᴰ·cases-cons}
 use mathlib.Core.List.{List·Memᴰ·append-cases, List·Memᴰ·eq-of-singleton}
-use Prim.Native.Nat.{ℕ, suc, _<_}
+use Prim.Native.Nat.{ℕ, zero, suc, _<_}
 use native.Mathlib.Nat.{suc-inj}
 use native.Mathlib.Omega.{arith}
 use lib.Dec.{T, ltb, ltb→lt, lt→ltb}
-use lib.ListN.{length}
+use lib.ListN.{length, getD}
 use Rattle.field.specs.Lists.{upFrom}
 use Rattle.field.specs.Field.{Field, size}
 use Rattle.field.proofs.Test.{both-left, both-right, both}
@@ -46,6 +46,28 @@ Inside [] [] = Unit {0}
 Inside [] (n ∷ ns) = ⊥
 Inside (m ∷ ms) [] = ⊥
 Inside (m ∷ ms) (n ∷ ns) = (T m → T n) × Inside ms ns
+
+-- ---- place by place
+
+pub getD-first : (v : List ℕ) → getD v 0 0 ≡ first v
+unfolding first
+getD-first [] = refl
+getD-first (x ∷ v) = refl
+
+pub getD-rest : (v : List ℕ) (i : ℕ) → getD v (suc i) 0 ≡ getD (rest v) i 0
+unfolding rest
+getD-rest [] i = refl
+getD-rest (x ∷ v) i = refl
+
+-- alike vectors have the same entry wherever no mark stands
+pub alike-at : (ms : List Bool) (v w : List ℕ) → Alike ms v w → (i : ℕ) → getD ms i true ≡ false → getD v i 0 ≡ getD w i 0
+alike-at [] v w a i e = absurd (subst T e tt)
+alike-at (true ∷ ms) v w a zero e = absurd (subst T e tt)
+alike-at (false ∷ ms) v w a zero e = getD-first v ∙ a .0 ∙ sym (getD-first w)
+alike-at (true ∷ ms) v w a (suc i) e = getD-rest v i ∙ alike-at ms (rest v) (rest w) a i e ∙ sym (getD-rest w i)
+alike-at (false ∷ ms) v w a (suc i) e = getD-rest v i ∙ alike-at ms (rest v) (rest w) (a .1) i e ∙ sym (getD-rest w i)
+
+-- ---- choices
 
 module _ (F : Field) where
   pub agrees-length : (ms : List Bool) (v w : List ℕ) → Agrees F ms v w → length w ≡ length ms

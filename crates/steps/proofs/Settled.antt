@@ -2,20 +2,19 @@
 -- row without marks once a level is learned. Assumes nothing.
 use mathlib.Core.Path.{_≡_, refl, sym, ap, ap₂, _∙_, subst}
 use mathlib.Core.Logic.{_≢_}
-use mathlib.Core.Bool.{Bool, true, false, not}
+use mathlib.Core.Bool.{true, not}
 use mathlib.Core.List.{List, [], _∷_, _++_}
-use Prim.Native.Nat.{ℕ, zero, suc, _+_, _*_, _<_, _≤_}
-use native.Mathlib.Omega.{arith}
+use Prim.Native.Nat.{ℕ, suc, _+_, _*_, _<_, _≤_}
 use borrow.Author.Tests.{eq-eqb}
 use lib.Dec.{eqb}
 use lib.ListN.{length, getD, set}
 use lib.Seq.{set-getD}
-use Rattle.field.specs.Field.{Field, dot}
+use Rattle.field.specs.Field.{dot}
 use Rattle.field.proofs.Lists.{getD-map-below}
-use Rattle.linear.specs.Lists.{zeros, first, rest}
+use Rattle.linear.specs.Lists.{zeros}
 use Rattle.linear.specs.Marks.{bitsOf}
 use Rattle.linear.specs.Fill.{sumsOf, tied, one}
-use Rattle.linear.proofs.Choices.{Agrees}
+use Rattle.linear.proofs.Choices.{agrees-alike, alike-at}
 use Rattle.linear.proofs.Filling.{Means, fill-means}
 use Rattle.linear.proofs.Vectors.{sums-append}
 use Rattle.plans.specs.Plan.{Plan, Level, planOf, levelOf, checksTo, rowAt, marksAt, across}
@@ -29,17 +28,6 @@ use Rattle.steps.proofs.Unmarked.{Clear, bits-clear, clear-untied, clea
 use Rattle.steps.proofs.Sums.{learnedAt}
 use Rattle.steps.proofs.Levels.{checks-suc}
 use Rattle.steps.proofs.Sound.{Sound, Ones, totalFill, filled-row, row-place, put-row, put-row-other, learned-ones, learned-length, raise-sums}
-
--- what agrees with a vector has its entry wherever no mark stands
-agrees-at : (F : Field) (ms : List Bool) (v w : List ℕ) → Agrees F ms v w → (i : ℕ) → getD ms i true ≡ false → getD w i 0 ≡ getD v i 0
-unfolding first rest
-agrees-at F [] v w a i z = let n : _≡_ {A = ℕ} 0 1 = cc in absurd (omega arith)
-agrees-at F (m ∷ ms) v [] a i z = absurd a
-agrees-at F (true ∷ ms) v (y ∷ ys) a zero z = let n : _≡_ {A = ℕ} 0 1 = cc in absurd (omega arith)
-agrees-at F (false ∷ ms) [] (y ∷ ys) a zero z = a .0
-agrees-at F (false ∷ ms) (x ∷ v) (y ∷ ys) a zero z = a .0
-agrees-at F (m ∷ ms) [] (y ∷ ys) a (suc i) z = agrees-at F ms [] ys (a .1) i z
-agrees-at F (m ∷ ms) (x ∷ v) (y ∷ ys) a (suc i) z = agrees-at F ms v ys (a .1) i z
 
 module _ (b : Bench) where
   abbrev P : Plan
@@ -116,8 +104,9 @@ module _ (b : Bench) where
           let W = L .weights in
           let ms = lossy P (b .marks) in
           let own = across P (b .symbols) c in
-          agrees-at (P .field) ms own v (subst (Means (P .field) W (zeros W) ms own) q (fill-means (P .field) W (zeros W) ms own) .1 .agrees) r
-          (getD-map-below (λ r. not (eqb (getD (b .marks) r 0) 0)) (P .rows) r true inside ∙ ap not (eq-eqb (getD (b .marks) r 0) 0 z))
+          let filled = subst (Means (P .field) W (zeros W) ms own) q (fill-means (P .field) W (zeros W) ms own) .1 in
+          sym (alike-at ms own v (agrees-alike (P .field) ms own v (filled .agrees)) r
+          (getD-map-below (λ r. not (eqb (getD (b .marks) r 0) 0)) (P .rows) r true inside ∙ ap not (eq-eqb (getD (b .marks) r 0) 0 z)))
           ∙ getD-map-below (λ r. dot (P .field) c (rowAt P (b .symbols) r)) (P .rows) r 0 inside
 
       own-sums : (C vs : List (List ℕ)) → Ones (totalFill b L) C vs → learnedAt vs r ≡ sumsOf (P .field) C (rowAt P (b .symbols) r)
