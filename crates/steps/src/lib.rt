@@ -53,21 +53,21 @@ pub fn row_step(bench: Bench, row: usize) -> Stepped
 {
     let plan = bench.plan;
     let level = bench.level;
-    let number = refusal::bench_refusal(
-        plan,
-        level,
-        &bench.symbols,
-        &bench.marks,
-        &bench.sums,
-        row < plan::rows(plan),
-    );
-    if number != 0 {
-        return Stepped {
-            bench: bench,
-            answer: Step::Refused(number),
-        };
+    let mut symbols = bench.symbols;
+    let mut marks = bench.marks;
+    let sums = bench.sums;
+    let answer = row::step_row(plan, level, &mut symbols, &mut marks, &sums, row);
+    let after = Bench {
+        plan: plan,
+        level: level,
+        symbols: symbols,
+        marks: marks,
+        sums: sums,
+    };
+    Stepped {
+        bench: after,
+        answer: answer,
     }
-    row::step_row(bench, row)
 }
 
 // The level step: all rows' sums of the next level are learned and the level rises by one, or nothing changes.

@@ -1,8 +1,7 @@
-// Row steps: a row filled, the rows of a round, and the step on a bench.
-use plans::Bench;
+// Row steps: a row filled, the rows of a round, and the step on the parts of a bench.
 use plans::Step;
-use plans::Stepped;
 use plans::plan;
+use plans::refusal;
 ghost use mathlib.Core.Path.{_≡_};
 ghost use Prim.Native.Nat.{_+_, _*_, _^_, _<_, _≤_};
 ghost use lib.Dec.{T};
@@ -12,7 +11,7 @@ ghost use Rattle.field.specs.Ours.{products};
 ghost use Rattle.linear.specs.Marks.{answerOf, vectorOf};
 ghost use Rattle.plans.specs.Plan.{planOf, known, rowAt};
 ghost use Rattle.plans.specs.Refusal.{sumsFit, benchRefusal, unasked};
-ghost use Rattle.steps.specs.Steps.{stepped, rowFill, rowStepBy};
+ghost use Rattle.steps.specs.Steps.{stepped, rowStep};
 ghost use Rattle.plans.specs.Tables.{checkTable};
 ghost use Rattle.steps.specs.Learned.{benchOf};
 ghost use Rattle.steps.specs.Walk.{Arrays, overMarked, fillAt, Settled, Walked};
@@ -161,50 +160,36 @@ fn fill_by_plan(
     fill_row(3, level, &table, &checks, symbols, word, sums, row)
 }
 
-// A step's answer and the bench of these parts.
-fn after_step(
+// The row step on the parts of a bench: symbols and marks become those of the bench that it leaves, with its plan, level and sums as they were.
+pub fn step_row(
     plan: usize,
     level: usize,
-    symbols: [u8; 256],
-    marks: [u32; 8],
-    sums: [u8; 128],
-    answer: Step,
-) -> Stepped
-    ensures { λ r. ⌜ r ≡ stepped (benchOf plan level symbols marks sums) answer ⌝ }
+    symbols: &mut [u8; 256],
+    marks: &mut [u32; 8],
+    sums: &[u8; 128],
+    row: usize,
+) -> Step
+    ensures { λ r.
+        ⌜
+        stepped (benchOf plan level (now (symbols .exit)) (now (marks .exit)) (now (sums .entry))) r
+        ≡ rowStep (benchOf plan level (now (symbols .entry)) (now (marks .entry)) (now (sums .entry))) row
+        ⌝ }
 {
-    let bench = Bench {
-        plan: plan,
-        level: level,
-        symbols: symbols,
-        marks: marks,
-        sums: sums,
-    };
-    Stepped {
-        bench: bench,
-        answer: answer,
+    let inside = row < plan::rows(plan);
+    let number = refusal::bench_refusal(plan, level, symbols, marks, sums, inside);
+    if number != 0 {
+        return Step::Refused(number);
     }
-}
-
-// The row step on a row of a bench that nothing is refused of. Its symbols change only where the row is filled.
-pub fn step_row(bench: Bench, row: usize) -> Stepped
-    requires { ⌜ (benchRefusal bench unasked ≡ 0) × (row < planOf (bench .plan) .rows) ⌝ }
-    ensures { λ r. ⌜ r ≡ rowStepBy bench row (rowFill bench row) ⌝ }
-{
-    let plan = bench.plan;
-    let level = bench.level;
-    let mut symbols = bench.symbols;
-    let mut marks = bench.marks;
-    let sums = bench.sums;
     let word = marks[row];
-    match fill_by_plan(plan, level, &mut symbols[..], word, &sums[..], row) {
-        linear::Outcome::Tied => after_step(plan, level, symbols, marks, sums, Step::Tied),
-        linear::Outcome::None => after_step(plan, level, symbols, marks, sums, Step::Clash),
+    match fill_by_plan(plan, level, symbols, word, sums, row) {
+        linear::Outcome::Tied => Step::Tied,
+        linear::Outcome::None => Step::Clash,
         linear::Outcome::One => {
             marks[row] = 0;
             if word == 0 {
-                return after_step(plan, level, symbols, marks, sums, Step::Whole);
+                return Step::Whole;
             }
-            after_step(plan, level, symbols, marks, sums, Step::Filled)
+            Step::Filled
         }
     }
 }
