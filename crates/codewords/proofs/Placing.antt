@@ -12,7 +12,8 @@ use lib.Seq.{sets, length-sets, drop-cons}
 use Rattle.field.specs.Lists.{if_then_else_, upFrom}
 use Rattle.field.proofs.Sum.{bit}
 use Rattle.linear.specs.Lists.{only}
-use Rattle.linear.specs.Marks.{bitAt, bitsOf}
+use Rattle.systems.specs.Words.{bitAt}
+use Rattle.linear.specs.Marks.{bitsOf}
 use Rattle.linear.proofs.Marked.{length-bits}
 use Rattle.plans.specs.Plan.{Plan, planOf, marksAt, marksOf}
 use Rattle.codewords.specs.Codeword.{placed, taken}

@@ -20,7 +20,8 @@ use Rattle.field.proofs.Fields.{our-field}
 use Rattle.linear.specs.Lists.{same, zeros, vanish}
 use Rattle.linear.specs.Fill.{sumsOf, tied, none, one, fill}
 use Rattle.systems.specs.System.{vec, Matrix, ent, inner, Elements, Ker, Solves, Consistency, Dependence}
-use Rattle.linear.specs.Marks.{Fit, rowsOf, bitAt, bitsOf, fillOf, answerOf, vectorOf, Places, hidden, Gathered, scattered}
+use Rattle.systems.specs.Words.{bitAt}
+use Rattle.linear.specs.Marks.{Fit, rowsOf, bitsOf, fillOf, answerOf, vectorOf, Places, hidden, Gathered, scattered}
 use Rattle.linear.specs.declared.Outcome.{Outcome}
 use Rattle.linear.specs.declared.Outcome.the-variants.{Tied, None, One}
 use Rattle.linear.proofs.Tests.{same→eq, same-refl}

@@ -7,5 +7,5 @@ pub mod Flat
 pub mod Words
 pub mod Columns
 pub mod Marked
-pub mod Packed
+pub mod Wording
 pub mod Answers

@@ -11,7 +11,8 @@ use lib.Arith.{lt-one, le-zero}
 use lib.Count.{ones, ones-step, ones-le, trailingZeros, under}
 use lib.Pow.{pow-mono, shr-shr, shr-lt, shr-le}
 use Rattle.field.proofs.Sum.{of-bits, bit}
-use Rattle.linear.specs.Marks.{bitAt, Places}
+use Rattle.systems.specs.Words.{bitAt}
+use Rattle.linear.specs.Marks.{Places}
 use Rattle.systems.proofs.Inner.{put, put-same, put-other}
 
 -- bit d of a word that was shifted by c

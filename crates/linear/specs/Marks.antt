@@ -1,6 +1,6 @@
 -- What the code of `fill` is lent and answers, as the definition has it. The first part is all that the contract of `fill` cites;
 -- the second is what the steps around the solver say. Assumes nothing.
-use Prim.Native.Nat.{ℕ, zero, suc, _+_, _*_, _/_, _%_, _^_, _≤_, _<_}
+use Prim.Native.Nat.{ℕ, zero, suc, _+_, _*_, _^_, _≤_, _<_}
 use mathlib.Core.Path.{_≡_}
 use mathlib.Core.Logic.{_≢_, _⊎_}
 use mathlib.Core.Bool.{Bool}
@@ -11,6 +11,7 @@ use Rattle.field.specs.Lists.{if_then_else_, upFrom}
 use Rattle.field.specs.Field.{Field, _⊕_}
 use Rattle.field.specs.Ours.{fieldOf}
 use Rattle.linear.specs.Fill.{Fill, tied, none, one, fill}
+use Rattle.systems.specs.Words.{bitAt}
 use Rattle.systems.specs.System.{vec, Matrix, ent, inner, Elements}
 use Rattle.linear.specs.declared.Outcome.{Outcome}
 use Rattle.linear.specs.declared.Outcome.the-variants.{Tied, None, One}
@@ -28,10 +29,6 @@ mostColumns = 32
 unfoldable pub rowsOf : ℕ → ℕ → List ℕ → List (List ℕ)
 rowsOf zero n l = []
 rowsOf (suc m) n l = take n l ∷ rowsOf m n (drop n l)
-
--- bit c of a word
-abbrev pub bitAt : ℕ → ℕ → ℕ
-bitAt w c = w / 2 ^ c % 2
 
 -- the marks of n columns: bit c of the mark word marks column c
 unfoldable pub bitsOf : ℕ → ℕ → List Bool
@@ -87,10 +84,6 @@ pub record Copied (checks : List ℕ) (n i : ℕ) (at : ℕ → ℕ) (a₀ a : L
 pub record Gathered (F : Field) (checks target : List ℕ) (b : ℕ → ℕ) (n k : ℕ) (at : ℕ → ℕ) (M : Matrix) (m : ℕ) : Type 0 where
   pub coefficient : (i : ℕ) → i < m → (t : ℕ) → t < k → M i t ≡ ent checks n i (at t)
   pub remainder : (i : ℕ) → i < m → M i k ≡ vec target i ⊕ inner F (ent checks n i) b n
-
--- words as rows of bits: bit j of a word is the entry in column j
-abbrev pub wordRows : List ℕ → Matrix
-wordRows l i j = bitAt (vec l i) j
 
 -- x written to the first k places of `at`
 unfoldable pub scattered : List ℕ → (ℕ → ℕ) → (ℕ → ℕ) → ℕ → List ℕ

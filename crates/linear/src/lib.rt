@@ -1,6 +1,5 @@
 // Filling the marked places of a vector so that its sums are the target.
-mod binary;
-
+use systems::binary;
 ghost use mathlib.Core.Path.{_≡_};
 ghost use Prim.Native.Nat.{ℕ, _+_, _*_, _^_, _<_, _≤_};
 ghost use lib.ListN.{length};
@@ -11,7 +10,8 @@ ghost use Rattle.linear.specs.Lists.{same};
 ghost use Rattle.linear.specs.Fill.{sumsOf};
 ghost use Rattle.systems.specs.System.{vec, ent, inner, Elements};
 ghost use Rattle.linear.specs.Marks.{Fit, rowsOf, fillOf, answerOf, vectorOf};
-ghost use Rattle.linear.specs.Marks.{mostChecks, mostColumns, room, bitAt, wordRows, Places, hidden, Copied, Gathered, scattered};
+ghost use Rattle.systems.specs.Words.{bitAt, wordRows};
+ghost use Rattle.linear.specs.Marks.{mostChecks, mostColumns, room, Places, hidden, Copied, Gathered, scattered};
 
 // How many checks and columns `fill` takes at most, and the room that its system takes.
 pub const CHECKS: usize = 16;

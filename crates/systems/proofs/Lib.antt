@@ -4,3 +4,4 @@ pub mod Elimination
 pub mod Rows
 pub mod Turns
 pub mod Wide
+pub mod Packed

@@ -1,2 +1,3 @@
 -- What it is to answer a system of equations.
 pub mod System
+pub mod Words

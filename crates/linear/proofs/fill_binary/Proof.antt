@@ -7,11 +7,12 @@ use borrow.Author.Needs.{needs}
 use lib.ListN.{length}
 use Rattle.field.specs.Ours.{fieldOf}
 use Rattle.field.proofs.Fields.{our-field}
-use Rattle.linear.specs.Marks.{scattered, wordRows}
+use Rattle.systems.specs.Words.{wordRows}
+use Rattle.linear.specs.Marks.{scattered}
 use Rattle.systems.specs.System.{vec, Matrix, Consistency, Dependence, Form}
 use Rattle.linear.proofs.Answers.{Outcomes, outcomes}
 use Rattle.linear.proofs.Columns.{gathered-same}
-use Rattle.linear.proofs.Packed.{bit-small, reduced-tied, reduced-free, reduced-none, reduced-one}
+use Rattle.systems.proofs.Packed.{bit-small, reduced-tied, reduced-free, reduced-none, reduced-one}
 use Rattle.linear.proofs.Words.{bit-bound}
 use Rattle.linear.proofs.fill_binary.Statement.{statement}
 use Rattle.linear.proofs.fill_binary.Tie as tie

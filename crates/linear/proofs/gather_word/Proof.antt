@@ -4,7 +4,8 @@ use Prim.Native.Nat.{_-_, _^_, _<_}
 use native.Mathlib.Omega.{arith}
 use borrow.Author.Needs.{needs}
 use Rattle.systems.specs.System.{vec, ent}
-use Rattle.linear.proofs.Packed.{below-2, Wording, wording-start, wording-turn, wording-fits, wording-at, wording-last}
+use Rattle.systems.proofs.Packed.{below-2}
+use Rattle.linear.proofs.Wording.{Wording, wording-start, wording-turn, wording-fits, wording-at, wording-last}
 use Rattle.linear.proofs.gather_word.Statement.{statement}
 use Rattle.linear.proofs.gather_word.Tie as tie
 

@@ -7,10 +7,11 @@ use lib.ListN.{length, length-set}
 use Rattle.field.specs.Ours.{fieldOf}
 use Rattle.field.specs.Field.{_⊕_}
 use Rattle.field.proofs.Fields.{our-field}
-use Rattle.linear.specs.Marks.{Gathered, wordRows}
+use Rattle.systems.specs.Words.{wordRows}
+use Rattle.linear.specs.Marks.{Gathered}
 use Rattle.systems.specs.System.{vec}
 use Rattle.linear.proofs.Columns.{gathered-start}
-use Rattle.linear.proofs.Packed.{gathered-word}
+use Rattle.linear.proofs.Wording.{gathered-word}
 use Rattle.systems.proofs.Inner.{inner-lt}
 use Rattle.systems.proofs.Rows.{row-fits}
 use Rattle.linear.proofs.gather_words.Statement.{statement}

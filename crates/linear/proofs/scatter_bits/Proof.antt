@@ -4,7 +4,8 @@ use Prim.Native.Nat.{_-_, _≤_}
 use native.Mathlib.Omega.{arith}
 use borrow.Author.Needs.{needs}
 use lib.ListN.{length}
-use Rattle.linear.specs.Marks.{wordRows, scattered}
+use Rattle.systems.specs.Words.{wordRows}
+use Rattle.linear.specs.Marks.{scattered}
 use Rattle.systems.specs.System.{vec}
 use Rattle.linear.proofs.Columns.{scattered-more, length-scattered}
 use Rattle.linear.proofs.scatter_bits.Statement.{statement}

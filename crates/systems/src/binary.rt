@@ -1,15 +1,16 @@
-// Systems of equations over GF(2), a row to a word: bit j of it is the entry in column j, and the right-hand side is the last column.
+// Systems of equations over GF(2), a row to a word: bit j of it is the entry in column j, and the right-hand side is the last column, so
+// there is room for 31 columns beside it.
 ghost use mathlib.Core.Path.{_≡_};
 ghost use Prim.Native.Nat.{ℕ, _+_, _*_, _<_, _≤_};
 ghost use lib.ListN.{length};
 ghost use Rattle.field.specs.Field.{_⊕_};
 ghost use Rattle.field.specs.Ours.{fieldOf};
 ghost use Rattle.systems.specs.System.{vec, Same, Found, Form};
-ghost use Rattle.linear.specs.Marks.{mostChecks, bitAt, wordRows};
+ghost use Rattle.systems.specs.Words.{bitAt, wordRows};
 
 // The first row from c on whose bit c is 1, or m.
 pub fn find_row(rows: &[u32], m: usize, c: usize) -> usize
-    requires { ⌜ (m ≤ length (now rows)) × (m ≤ mostChecks) × (c ≤ m) ⌝ }
+    requires { ⌜ (m ≤ length (now rows)) × (m < 32) × (c ≤ m) ⌝ }
     ensures { λ i. ⌜ Found (wordRows (now (rows .entry))) m c c i ⌝ }
 {
     let mut i = c;
@@ -24,7 +25,7 @@ pub fn find_row(rows: &[u32], m: usize, c: usize) -> usize
 
 // Adds `own` to each of the m rows whose bit c is 1.
 fn add_to_rows(rows: &mut [u32], m: usize, own: u32, c: usize)
-    requires { ⌜ (m ≤ length (now rows)) × (c ≤ mostChecks) ⌝ }
+    requires { ⌜ (m ≤ length (now rows)) × (c < 32) ⌝ }
     ensures { λ _. ⌜ ((x : ℕ) → x < m → vec (now (rows .exit)) x ≡ vec (now (rows .entry)) x ⊕ own * bitAt (vec (now (rows .entry)) x) c) ⌝ }
 {
     let mut x = 0;
@@ -36,7 +37,7 @@ fn add_to_rows(rows: &mut [u32], m: usize, own: u32, c: usize)
 
 // Makes column after column the unit vector of its row, up to the first that depends on those before it, and gives how many it made.
 pub fn reduce(rows: &mut [u32], m: usize, k: usize) -> usize
-    requires { ⌜ (m ≤ length (now rows)) × (m ≤ mostChecks) × (k ≤ m) ⌝ }
+    requires { ⌜ (m ≤ length (now rows)) × (m < 32) × (k ≤ m) ⌝ }
     ensures { λ c. ⌜ (c ≤ k) × Form (wordRows (now (rows .exit))) m (λ t. t) c c ⌝ }
     ensures { λ c. ⌜ (c < k → (x : ℕ) → c ≤ x → x < m → wordRows (now (rows .exit)) x c ≡ 0) ⌝ }
     ensures { λ _. ⌜ Same (fieldOf 2) (wordRows (now (rows .entry))) (wordRows (now (rows .exit))) m (k + 1) ⌝ }

@@ -4,10 +4,10 @@ use native.Mathlib.Omega.{arith}
 use borrow.Author.Needs.{needs}
 use Rattle.field.specs.Field.{_⊕_}
 use Rattle.field.proofs.Sum.{bit}
 use Rattle.systems.specs.System.{vec}
-use Rattle.linear.proofs.Packed.{AddingWords, adding-words-start, adding-words-turn, times-le}
-use Rattle.linear.proofs.binary.add_to_rows.Statement.{statement}
-use Rattle.linear.proofs.binary.add_to_rows.Tie as tie
+use Rattle.systems.proofs.Packed.{AddingWords, adding-words-start, adding-words-turn, times-le}
+use Rattle.systems.proofs.binary.add_to_rows.Statement.{statement}
+use Rattle.systems.proofs.binary.add_to_rows.Tie as tie
 
 abbrev Inv-loop : tie.InvT-loop
 Inv-loop rows₀ m own c x₀ rows x = (x ≤ m) × AddingWords rows₀ rows own c x

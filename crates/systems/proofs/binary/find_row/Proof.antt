@@ -4,9 +4,9 @@ use Prim.Native.Nat.{ℕ, _≤_, _<_, _-_}
 use native.Mathlib.Omega.{arith}
 use borrow.Author.Count.{below-more}
 use borrow.Author.Needs.{needs}
-use Rattle.linear.specs.Marks.{wordRows}
-use Rattle.linear.proofs.binary.find_row.Statement.{statement}
-use Rattle.linear.proofs.binary.find_row.Tie as tie
+use Rattle.systems.specs.Words.{wordRows}
+use Rattle.systems.proofs.binary.find_row.Statement.{statement}
+use Rattle.systems.proofs.binary.find_row.Tie as tie
 
 abbrev Inv-loop : tie.InvT-loop
 Inv-loop rows m c i₀ i = (c ≤ i) × (i ≤ m) × ((x : ℕ) → x < i → c ≤ x → wordRows rows x c ≡ 0)

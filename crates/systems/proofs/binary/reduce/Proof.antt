@@ -4,11 +4,11 @@ use Prim.Native.Nat.{_-_}
 use native.Mathlib.Omega.{arith}
 use borrow.Author.Needs.{needs}
 use Rattle.field.specs.Field.{_⊕_}
 use Rattle.systems.specs.System.{vec}
-use Rattle.linear.specs.Marks.{bitAt}
-use Rattle.linear.proofs.Packed.{Packing, packing-start, packing-turn, times-le}
-use Rattle.linear.proofs.binary.reduce.Statement.{statement}
-use Rattle.linear.proofs.binary.reduce.Tie as tie
+use Rattle.systems.specs.Words.{bitAt}
+use Rattle.systems.proofs.Packed.{Packing, packing-start, packing-turn, times-le}
+use Rattle.systems.proofs.binary.reduce.Statement.{statement}
+use Rattle.systems.proofs.binary.reduce.Tie as tie
 
 abbrev Inv-loop : tie.InvT-loop
 Inv-loop rows₀ m k c₀ rows c = Packing rows₀ rows m k c
