@@ -20,8 +20,8 @@ use Rattle.steps.specs.Steps.{fresh, lossy}
 use Rattle.steps.specs.Learned.{benchOf}
 use Rattle.steps.specs.Rounds.{Turn, on, end, clash, turns}
 use Rattle.steps.specs.Walk.{Arrays, standingOf, overMarked}
-use Rattle.repair.specs.Mending.{mended, rowsLeft, endReport, bare, turnReport, turnStripe, turnMarks, mendReport, mendStripe, mendMarks}
-use Rattle.repair.specs.Ended.{startOf, roundsOn, Ended, clashes}
+use Rattle.repair.specs.Mending.{roundsOn, mended, rowsLeft, endReport, bare, turnReport, turnStripe, turnMarks, mendReport, mendStripe, mendMarks}
+use Rattle.repair.specs.Ended.{startOf, Ended, clashes}
 use Rattle.plans.specs.declared.Report.{Report}
 use Rattle.plans.specs.declared.Answer.the-variants.{Restored, Stuck, Refused as Unmended}
 use Rattle.plans.proofs.Scan.{up-each}
@@ -89,9 +89,9 @@ module _ (p : ℕ) (stripe marks : List ℕ) (n : ℕ) (e : n ≡ lentRefusal p 
 
   -- they are those on a bench of the code's arrays
   pub ended-lent : {symbols words : List ℕ} → symbols ≡ padded 256 stripe → words ≡ padded 8 marks
-      → (r : Report) (symbols′ words′ : List ℕ) → Ended (roundsOn (startOf p symbols words)) r symbols′ words′ → Ended (mended p stripe marks) r symbols′ words′
+      → (r : Report) (symbols′ words′ : List ℕ) → Ended (roundsOn p (startOf p symbols words)) r symbols′ words′ → Ended (mended p stripe marks) r symbols′ words′
   unfolding mended fresh padded
-  ended-lent es em r symbols′ words′ = subst₂ (λ s w. Ended (roundsOn (startOf p s w)) r symbols′ words′) es em
+  ended-lent es em r symbols′ words′ = subst₂ (λ s w. Ended (roundsOn p (startOf p s w)) r symbols′ words′) es em
 
   -- the bench that they start from is fit
   module _ (z : n ≡ 0) {symbols words : List ℕ} (es : symbols ≡ padded 256 stripe) (em : words ≡ padded 8 marks) where

@@ -14,10 +14,10 @@ use Rattle.linear.specs.Lists.{only}
 use Rattle.plans.specs.Plan.{planOf}
 use Rattle.steps.specs.Steps.{lossy, Learned, blocked, failing, learned, levelFill, raise}
 use Rattle.steps.specs.Rounds.{Turn, end, clash, turns}
-use Rattle.repair.specs.Mending.{rowsLeft, endReport, bare}
+use Rattle.repair.specs.Mending.{roundsOn, rowsLeft, endReport, bare}
 use Rattle.steps.specs.Learned.{benchOf, learningOf, sumsAfter}
 use Rattle.steps.specs.Walk.{standingOf, Settled, more, Walked}
-use Rattle.repair.specs.Ended.{startOf, roundsOn, Ended}
+use Rattle.repair.specs.Ended.{startOf, Ended}
 use Rattle.plans.specs.declared.Report.{Report}
 use Rattle.plans.specs.declared.Place.the-variants.{Row, Across}
 use Rattle.plans.specs.declared.Answer.the-variants.{Restored, Stuck, Clash}
@@ -57,7 +57,7 @@ pub record Rounding (p : ℕ) (whole : Turn) (symbols marks sums restored : List
   pub turned : whole ≡ turns (suc (length (planOf p .levels) - t) * suc (planOf p .rows)) (standingOf (benchOf p t symbols marks sums) 0 restored)
 
 pub rounding-starts : (p : ℕ) (symbols marks : List ℕ) → Sound (startOf p symbols marks)
-    → Rounding p (roundsOn (startOf p symbols marks)) symbols marks (replicate 128 0) (replicate 3 0) 1
+    → Rounding p (roundsOn p (startOf p symbols marks)) symbols marks (replicate 128 0) (replicate 3 0) 1
 rounding-starts p symbols marks s = record {
   low = omega arith;
   high = s .fit .level-le;

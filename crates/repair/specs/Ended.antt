@@ -1,13 +1,11 @@
 -- What the code of mending says where its rounds end.
-use Prim.Native.Nat.{ℕ, suc, _*_}
+use Prim.Native.Nat.{ℕ}
 use mathlib.Core.Path.{_≡_}
 use mathlib.Core.Bool.{Bool, true, false}
 use mathlib.Core.List.{List}
-use lib.ListN.{length, replicate}
-use Rattle.plans.specs.Plan.{planOf}
+use lib.ListN.{replicate}
 use Rattle.steps.specs.Learned.{benchOf}
 use Rattle.steps.specs.Rounds.{Turn, on, end, clash, turns}
-use Rattle.steps.specs.Walk.{standingOf}
 use Rattle.repair.specs.Mending.{endReport, bare}
 use Rattle.plans.specs.declared.Bench.{Bench}
 use Rattle.plans.specs.declared.Report.{Report}
@@ -17,10 +15,6 @@ use Rattle.plans.specs.declared.Answer.the-variants.{Restored, Stuck, Clash, Re
 -- a bench at level 1, all sums zero
 abbrev pub startOf : (plan : ℕ) → (symbols marks : List ℕ) → Bench
 startOf plan symbols marks = benchOf plan 1 symbols marks (replicate 128 0)
-
--- as many rounds on it as the plan has levels
-abbrev pub roundsOn : Bench → Turn
-roundsOn b = let P = planOf (b .plan) in turns (length (P .levels) * suc (P .rows)) (standingOf b 0 (replicate 3 0))
 
 -- what the code answers where the turns end, and the symbols and marks that it has then
 abbrev pub Ended : Turn → Report → (symbols marks : List ℕ) → Type 0

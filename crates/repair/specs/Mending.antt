@@ -13,11 +13,12 @@ use Rattle.plans.specs.declared.Report.{Report}
 use Rattle.plans.specs.declared.Answer.the-variants.{Restored, Stuck, Clash as Clashing, Refused as Unmended}
 use Rattle.steps.specs.Rounds.{Standing, Turn, on, end, clash, turns}
 
--- as many rounds as the plan has levels, from row 0 of a fresh bench
+-- as many rounds on a bench as the plan has levels, from row 0
+abbrev pub roundsOn : (plan : ℕ) → Bench → Turn
+roundsOn p b = let P = planOf p in turns (length (P .levels) * suc (P .rows)) (record { bench = b; turn = 0; restored = replicate 3 0 })
+
 unfoldable pub mended : ℕ → List ℕ → List ℕ → Turn
-mended p stripe marks =
-    let P = planOf p in
-    turns (length (P .levels) * suc (P .rows)) (record { bench = fresh p stripe marks; turn = 0; restored = replicate 3 0 })
+mended p stripe marks = roundsOn p (fresh p stripe marks)
 
 -- how many rows have marks
 unfoldable pub rowsLeft : Bench → ℕ

@@ -18,10 +18,10 @@ ghost use Rattle.linear.specs.Lists.{only};
 ghost use Rattle.plans.specs.Plan.{planOf};
 ghost use Rattle.plans.specs.Tables.{checkTable};
 ghost use Rattle.plans.specs.Refusal.{benchRefusal, unasked};
-ghost use Rattle.repair.specs.Mending.{bare, endReport};
+ghost use Rattle.repair.specs.Mending.{roundsOn, bare, endReport};
 ghost use Rattle.steps.specs.Learned.{benchOf};
 ghost use Rattle.steps.specs.Walk.{Arrays, standingOf};
-ghost use Rattle.repair.specs.Ended.{startOf, roundsOn, Ended, clashes};
+ghost use Rattle.repair.specs.Ended.{startOf, Ended, clashes};
 
 // How many of the rows have marks.
 fn rows_left(rows: usize, marks: &[u32]) -> usize
@@ -85,7 +85,7 @@ fn rounds_by(
     requires { ⌜ (now table ≡ products) × (now checks ≡ checkTable (planOf plan)) ⌝ }
     requires { ⌜ benchRefusal (startOf plan (now symbols) (now marks)) unasked ≡ 0 ⌝ }
     requires { ⌜ Arrays (startOf plan (now symbols) (now marks)) ⌝ }
-    ensures { λ r. ⌜ Ended (roundsOn (startOf plan (now (symbols .entry)) (now (marks .entry)))) r (now (symbols .exit)) (now (marks .exit)) ⌝ }
+    ensures { λ r. ⌜ Ended (roundsOn plan (startOf plan (now (symbols .entry)) (now (marks .entry)))) r (now (symbols .exit)) (now (marks .exit)) ⌝ }
     ensures { λ _. ⌜ (length (now (symbols .exit)) ≡ 256) × (length (now (marks .exit)) ≡ 8) ⌝ }
 {
     let rows = plan::rows(plan);
@@ -126,7 +126,7 @@ fn rounds_by(
 pub fn rounds(plan: usize, symbols: &mut [u8; 256], marks: &mut [u32; 8]) -> Report
     requires { ⌜ benchRefusal (startOf plan (now symbols) (now marks)) unasked ≡ 0 ⌝ }
     requires { ⌜ Arrays (startOf plan (now symbols) (now marks)) ⌝ }
-    ensures { λ r. ⌜ Ended (roundsOn (startOf plan (now (symbols .entry)) (now (marks .entry)))) r (now (symbols .exit)) (now (marks .exit)) ⌝ }
+    ensures { λ r. ⌜ Ended (roundsOn plan (startOf plan (now (symbols .entry)) (now (marks .entry)))) r (now (symbols .exit)) (now (marks .exit)) ⌝ }
     ensures { λ _. ⌜ (length (now (symbols .exit)) ≡ 256) × (length (now (marks .exit)) ≡ 8) ⌝ }
 {
     let table = field::products();

@@ -7,7 +7,8 @@ use Rattle.plans.specs.Refusal.{benchRefusal, unasked}
 use Rattle.plans.specs.declared.Report.{Report}
 use Rattle.plans.proofs.Shape.{third}
 use Rattle.steps.proofs.Walking.{sound-of}
-use Rattle.repair.specs.Ended.{startOf, roundsOn, Ended}
+use Rattle.repair.specs.Mending.{roundsOn}
+use Rattle.repair.specs.Ended.{startOf, Ended}
 use Rattle.repair.proofs.mending.rounds.Statement.{statement}
 use Rattle.repair.proofs.mending.rounds.Tie as tie
 
@@ -17,8 +18,8 @@ fit-at e symbols marks = subst (λ p. benchRefusal (startOf p symbols marks) una
 
 -- and what is answered for plan n, of plan p
 ended-at : {p n : ℕ} → p ≡ n → (symbols marks : List ℕ) (r : Report) (symbols′ marks′ : List ℕ)
-    → Ended (roundsOn (startOf n symbols marks)) r symbols′ marks′ → Ended (roundsOn (startOf p symbols marks)) r symbols′ marks′
-ended-at e symbols marks r symbols′ marks′ = subst (λ p. Ended (roundsOn (startOf p symbols marks)) r symbols′ marks′) (sym e)
+    → Ended (roundsOn n (startOf n symbols marks)) r symbols′ marks′ → Ended (roundsOn p (startOf p symbols marks)) r symbols′ marks′
+ended-at e symbols marks r symbols′ marks′ = subst (λ p. Ended (roundsOn p (startOf p symbols marks)) r symbols′ marks′) (sym e)
 
 -- a plan that is neither 1 nor 2
 is-third : (c : tie.Else2) → c .before .before .before .args .plan ≡ 3

@@ -9,7 +9,8 @@ use Rattle.plans.proofs.Shape.{shape}
 use Rattle.steps.proofs.Fit.{fit-bench}
 use Rattle.steps.proofs.Walking.{sound-of}
 use Rattle.steps.proofs.Arms.{arm-blocked, arm-failing, arm-learned}
-use Rattle.repair.specs.Ended.{startOf, roundsOn}
+use Rattle.repair.specs.Mending.{roundsOn}
+use Rattle.repair.specs.Ended.{startOf}
 use Rattle.repair.proofs.Rounding.{Rounding, rounding-starts, rounded-clash, rounded-top, rounded-blocked, rounded-failing, rounding-turns}
 use native.Mathlib.Omega.{arith}
 use borrow.Author.Needs.{needs}
@@ -18,7 +19,7 @@ use Rattle.repair.proofs.mending.rounds_by.Tie as tie
 
 abbrev Inv-loop : tie.InvT-loop
 Inv-loop plan table checks symbols₀ marks₀ rows levels sums₀ restored₀ level₀ symbols marks sums restored level =
-    Rounding plan (roundsOn (startOf plan symbols₀ marks₀)) symbols marks sums restored level
+    Rounding plan (roundsOn plan (startOf plan symbols₀ marks₀)) symbols marks sums restored level
 
 abbrev μ-loop : tie.MeasureT-loop
 μ-loop plan table checks symbols₀ marks₀ rows levels sums₀ restored₀ level₀ symbols marks sums restored level =
