@@ -43,7 +43,10 @@ same-length-4 : tie.Need-same-length-4
 same-length-4 c = search needs
 
 returns-2 : tie.Need-returns-2
-returns-2 c = mends-over _ _ _ _ (c .before .before .before .before .before .before .lent-refusal .ensures) (c .before .before .before .before .before .if1 .left) (sym (c .before .before .before .over-marked .ensures) ∙ c .before .before .if2 .taken) _ (c .end-report .ensures)
+returns-2 c =
+    let else1 = c .before .before .before .before .before in
+    mends-over _ _ _ _ (else1 .before .lent-refusal .ensures) (else1 .if1 .left) (sym (c .before .before .before .over-marked .ensures) ∙ c .before .before .if2 .taken) _
+    (c .end-report .ensures)
 
 symbols-of-requires : tie.Need-symbols-of-requires
 symbols-of-requires c κs = let f = lent-fit _ _ _ (accepted (c .before .before .before .before)) in omega (arith, f .long, shape _ (f .plan-known) .symbols-le)
@@ -53,11 +56,13 @@ words-of-requires c κs = let f = lent-fit _ _ _ (accepted (c .before .before .b
 
 rounds-requires : tie.Need-rounds-requires
 rounds-requires c κs =
-    let es = c .before .before .before .before .symbols-of .ensures in
-    let em = c .before .before .words-of .ensures in
-    let e = c .before .before .before .before .before .before .before .before .before .before .lent-refusal .ensures in
-    let z = c .before .before .before .before .before .before .before .before .before .if1 .left in
-    (start-fit _ _ _ _ e z es em, start-sized _ _ _ _ e z es em)
+    let words = c .before .before in
+    let symbols = words .before .before in
+    let else1 = symbols .before .before .before .before .before in
+    let e = else1 .before .lent-refusal .ensures in
+    let es = symbols .symbols-of .ensures in
+    let em = words .words-of .ensures in
+    (start-fit _ _ _ _ e (else1 .if1 .left) es em, start-sized _ _ _ _ e (else1 .if1 .left) es em)
 
 is-clash-requires : tie.Need-is-clash-requires
 is-clash-requires c κs = search needs
@@ -70,8 +75,13 @@ same-length-6 c = search needs
 
 returns-3 : tie.Need-returns-3
 returns-3 c =
-    mends-clash _ _ _ _ (c .before .before .before .before .before .before .before .before .before .before .before .before .before .lent-refusal .ensures) (c .before .before .before .before .before .before .before .before .before .before .before .before .if1 .left) _ _ _
-    (ended-lent _ _ _ _ (c .before .before .before .before .before .before .before .before .before .before .before .before .before .lent-refusal .ensures) (c .before .before .before .before .before .before .before .symbols-of .ensures) (c .before .before .before .before .before .words-of .ensures) _ _ _ (c .before .before .rounds .ensures .0))
+    let rounds = c .before .before in
+    let words = rounds .before .before .before in
+    let symbols = words .before .before in
+    let else1 = symbols .before .before .before .before .before in
+    let e = else1 .before .lent-refusal .ensures in
+    mends-clash _ _ _ _ e (else1 .if1 .left) _ _ _
+    (ended-lent _ _ _ _ e (symbols .symbols-of .ensures) (words .words-of .ensures) _ _ _ (rounds .rounds .ensures .0))
     (sym (c .if3 .taken) ∙ c .before .is-clash .ensures)
 
 slice-aggregate-put-symbols : tie.Need-slice-aggregate-put-symbols
@@ -94,9 +104,15 @@ same-length-8 c = search needs
 
 returns-4 : tie.Need-returns-4
 returns-4 c =
-    let m = mends-end _ _ _ _ (c .before .before .before .before .before .before .before .before .before .before .before .before .before .before .before .before .before .before .before .before .before .before .before .lent-refusal .ensures) (c .before .before .before .before .before .before .before .before .before .before .before .before .before .before .before .before .before .before .before .before .before .before .if1 .left) _ _ _
-    (ended-lent _ _ _ _ (c .before .before .before .before .before .before .before .before .before .before .before .before .before .before .before .before .before .before .before .before .before .before .before .lent-refusal .ensures) (c .before .before .before .before .before .before .before .before .before .before .before .before .before .before .before .before .before .symbols-of .ensures) (c .before .before .before .before .before .before .before .before .before .before .before .before .before .before .before .words-of .ensures) _ _ _ (c .before .before .before .before .before .before .before .before .before .before .before .before .rounds .ensures .0))
-    (sym (c .before .before .before .before .before .before .before .before .before .before .if3 .left) ∙ c .before .before .before .before .before .before .before .before .before .before .before .is-clash .ensures) in
+    let is-clash = c .before .before .before .before .before .before .before .before .before .before .before in
+    let rounds = is-clash .before in
+    let words = rounds .before .before .before in
+    let symbols = words .before .before in
+    let else1 = symbols .before .before .before .before .before in
+    let e = else1 .before .lent-refusal .ensures in
+    let m = mends-end _ _ _ _ e (else1 .if1 .left) _ _ _
+    (ended-lent _ _ _ _ e (symbols .symbols-of .ensures) (words .words-of .ensures) _ _ _ (rounds .rounds .ensures .0))
+    (sym (c .before .before .before .before .before .before .before .before .before .before .if3 .left) ∙ is-clash .is-clash .ensures) in
     (m .0, (c .before .before .before .before .before .before .before .put-symbols .ensures ∙ m .1 .0, c .before .before .put-words .ensures ∙ m .1 .1))
 
 pub mend-spec : {M : Type 1} → statement M

@@ -36,10 +36,14 @@ slice-aggregate-rounds-by : tie.Need-slice-aggregate-rounds-by
 slice-aggregate-rounds-by c = search needs
 
 rounds-by-requires : tie.Need-rounds-by-requires
-rounds-by-requires c κs = ((c .before .before .before .before .before .before .products .ensures, c .before .before .before .before .row-checks-1 .ensures), (fit-at (c .before .before .before .before .before .if1 .taken) _ _ (c .before .before .before .before .before .before .before .pre .0), c .before .before .before .before .before .before .before .pre .1))
+rounds-by-requires c κs =
+    let made = c .before .before .before .before in
+    let start = made .before .before .before in
+    ((made .before .before .products .ensures, made .row-checks-1 .ensures), (fit-at (made .before .if1 .taken) _ _ (start .pre .0), start .pre .1))
 
 returns : tie.Need-returns
-returns c = (ended-at (c .before .before .before .before .before .before .if1 .taken) _ _ _ _ _ (c .rounds-by .ensures .0), c .rounds-by .ensures .1)
+returns c =
+    let made = c .before .before .before .before .before in (ended-at (made .before .if1 .taken) _ _ _ _ _ (c .rounds-by .ensures .0), c .rounds-by .ensures .1)
 
 row-checks-2-requires : tie.Need-row-checks-2-requires
 row-checks-2-requires c κs = search needs
@@ -48,10 +52,14 @@ slice-aggregate-rounds-by-2 : tie.Need-slice-aggregate-rounds-by-2
 slice-aggregate-rounds-by-2 c = search needs
 
 rounds-by-requires-2 : tie.Need-rounds-by-requires-2
-rounds-by-requires-2 c κs = ((c .before .before .before .before .before .before .before .products .ensures, c .before .before .before .before .row-checks-2 .ensures), (fit-at (c .before .before .before .before .before .if2 .taken) _ _ (c .before .before .before .before .before .before .before .before .pre .0), c .before .before .before .before .before .before .before .before .pre .1))
+rounds-by-requires-2 c κs =
+    let made = c .before .before .before .before in
+    let start = made .before .before .before .before in
+    ((made .before .before .before .products .ensures, made .row-checks-2 .ensures), (fit-at (made .before .if2 .taken) _ _ (start .pre .0), start .pre .1))
 
 returns-2 : tie.Need-returns-2
-returns-2 c = (ended-at (c .before .before .before .before .before .before .if2 .taken) _ _ _ _ _ (c .rounds-by2 .ensures .0), c .rounds-by2 .ensures .1)
+returns-2 c =
+    let made = c .before .before .before .before .before in (ended-at (made .before .if2 .taken) _ _ _ _ _ (c .rounds-by2 .ensures .0), c .rounds-by2 .ensures .1)
 
 row-checks-3-requires : tie.Need-row-checks-3-requires
 row-checks-3-requires c κs = search needs
@@ -60,10 +68,14 @@ slice-aggregate-rounds-by-3 : tie.Need-slice-aggregate-rounds-by-3
 slice-aggregate-rounds-by-3 c = search needs
 
 rounds-by-requires-3 : tie.Need-rounds-by-requires-3
-rounds-by-requires-3 c κs = ((c .before .before .before .before .before .before .before .products .ensures, c .before .before .before .before .row-checks-3 .ensures), (fit-at (is-third (c .before .before .before .before .before)) _ _ (c .before .before .before .before .before .before .before .before .pre .0), c .before .before .before .before .before .before .before .before .pre .1))
+rounds-by-requires-3 c κs =
+    let made = c .before .before .before .before in
+    let start = made .before .before .before .before in
+    ((made .before .before .before .products .ensures, made .row-checks-3 .ensures), (fit-at (is-third (made .before)) _ _ (start .pre .0), start .pre .1))
 
 returns-3 : tie.Need-returns-3
-returns-3 c = (ended-at (is-third (c .before .before .before .before .before .before)) _ _ _ _ _ (c .rounds-by3 .ensures .0), c .rounds-by3 .ensures .1)
+returns-3 c =
+    let made = c .before .before .before .before .before in (ended-at (is-third (made .before)) _ _ _ _ _ (c .rounds-by3 .ensures .0), c .rounds-by3 .ensures .1)
 
 pub rounds-spec : {M : Type 1} → statement M
 rounds-spec =
