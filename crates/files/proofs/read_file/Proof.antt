@@ -16,10 +16,12 @@ refusal : (c : tie.After-file-refusal)
     → let a = c .before .before .before .before .before .before .before .before .args in c .file-refusal .result ≡ readRefusal (now (a .file)) (now (a .stripe)) (now (a .marks))
 unfolding readRefusal
 refusal c =
-    let a = c .before .before .before .before .before .before .before .before .args in
+    let plan-in = c .before .before .before .before .plan-in in
+    let args = c .before .before .before .before .before .before .before .before .args in
+    let a = args in
     c .file-refusal .ensures
     ∙ ap (fileRefusal (now (a .file))) (c .before .lengths-fit .ensures
-    ∙ ap (λ p. stripeFits (planOf p) (now (a .stripe)) && wordsFit (planOf p) (now (a .marks))) (c .before .before .before .before .plan-in .ensures))
+    ∙ ap (λ p. stripeFits (planOf p) (now (a .stripe)) && wordsFit (planOf p) (now (a .marks))) (plan-in .ensures))
 
 plan-in-requires : tie.Need-plan-in-requires
 plan-in-requires c κs = search needs

@@ -18,7 +18,9 @@ returns c = let s = c .before .before .before .before in
     wide-tied (s .args .q) (s .args .checks .now) (s .args .target .now) (s .args .v .now) (s .args .marks) (s .pre .1) (search needs)
 
 fill-binary-requires : tie.Need-fill-binary-requires
-fill-binary-requires c κs = let s = c .before .before .before .before .before .before .before in (s .pre .0, (rw (c .before .if3 .taken) at (s .pre .1), c .before .before .before .if1 .left))
+fill-binary-requires c κs =
+    let if1 = c .before .before .before .if1 in
+    let s = c .before .before .before .before .before .before .before in (s .pre .0, (rw (c .before .if3 .taken) at (s .pre .1), if1 .left))
 
 returns-2 : tie.Need-returns-2
 returns-2 c = rw (c .before .before .before .before .if3 .taken) (c .before .before .fill-binary .ensures)

@@ -115,9 +115,13 @@ same-length-2 : tie.Need-same-length-2
 same-length-2 c = search needs
 
 returns-2 : tie.Need-returns-2
-returns-2 c = let found = c .before .find-row .ensures in
-    said (c .before .before .before .before .before) false false (λ _. 0) (λ _. 0) (free (c .before .before .before .before .before) (c .before .before .before .if1 .left))
-    (λ _. reduced-none _ (our-field 2) _ _ _ _ (whole (c .before .before .before .before .before) (c .before .before .before .if1 .left)) (c .before .before .before .before .before .reduce .ensures .1 .1)
+returns-2 c =
+    let if1 = c .before .before .before .if1 in
+    let here = c .before .before .before .before .before in
+    let reduce = c .before .before .before .before .before .reduce in
+    let found = c .before .find-row .ensures in
+    said here false false (λ _. 0) (λ _. 0) (free here (if1 .left))
+    (λ _. reduced-none _ (our-field 2) _ _ _ _ (whole here (if1 .left)) (reduce .ensures .1 .1)
     (λ i j. bit-small _ j) (λ i j. bit-small _ j) _ _ (found .least) (c .if2 .taken) (found .nonzero (c .if2 .taken)))
     .none refl refl
 
@@ -143,12 +147,18 @@ same-length-3 : tie.Need-same-length-3
 same-length-3 c = search needs
 
 returns-3 : tie.Need-returns-3
-returns-3 c = let found = c .before .before .before .before .before .before .before .find-row .ensures in
-    let a = said (c .before .before .before .before .before .before .before .before .before .before .before) false true _ (λ _. 0) (free (c .before .before .before .before .before .before .before .before .before .before .before) (c .before .before .before .before .before .before .before .before .before .if1 .left))
-    (λ _. reduced-one _ (our-field 2) _ _ _ _ (whole (c .before .before .before .before .before .before .before .before .before .before .before) (c .before .before .before .before .before .before .before .before .before .if1 .left)) (c .before .before .before .before .before .before .before .before .before .before .before .reduce .ensures .1 .1)
+returns-3 c =
+    let scatter-bits = c .before .before .scatter-bits in
+    let find-row = c .before .before .before .before .before .before .before .find-row in
+    let if1 = c .before .before .before .before .before .before .before .before .before .if1 in
+    let here = c .before .before .before .before .before .before .before .before .before .before .before in
+    let reduce = c .before .before .before .before .before .before .before .before .before .before .before .reduce in
+    let found = find-row .ensures in
+    let a = said here false true _ (λ _. 0) (free here (if1 .left))
+    (λ _. reduced-one _ (our-field 2) _ _ _ _ (whole here (if1 .left)) (reduce .ensures .1 .1)
     (λ i j. bit-small _ j) (λ i j. bit-small _ j) (λ i l h. found .skipped i (omega arith) l))
     .one refl refl in
-    (a .0, c .before .before .scatter-bits .ensures ∙ a .1)
+    (a .0, scatter-bits .ensures ∙ a .1)
 
 pub fill-binary-spec : {M : Type 1} → statement M
 fill-binary-spec =

@@ -71,7 +71,9 @@ same-length : tie.Need-same-length Inv-loop μ-loop
 same-length c = search needs
 
 returns : tie.Need-returns Inv-loop μ-loop
-returns c = let e : c .before .loop .i ≡ length (c .before .before .before .before .before .before .before .args .target .now) = omega arith in rw e at (c .before .loop .inv .2)
+returns c =
+    let args = c .before .before .before .before .before .before .before .args in
+    let e : c .before .loop .i ≡ length (args .target .now) = omega arith in rw e at (c .before .loop .inv .2)
 
 pub gather-words-spec : {M : Type 1} → statement M
 gather-words-spec =

@@ -52,7 +52,9 @@ symbols-of-requires : tie.Need-symbols-of-requires
 symbols-of-requires c κs = let f = lent-fit _ _ _ (accepted (c .before .before .before .before)) in omega (arith, f .long, shape _ (f .plan-known) .symbols-le)
 
 words-of-requires : tie.Need-words-of-requires
-words-of-requires c κs = let f = lent-fit _ _ _ (accepted (c .before .before .before .before .before .before)) in omega (arith, f .words, shape _ (f .plan-known) .rows-le)
+words-of-requires c κs =
+    let here = c .before .before .before .before .before .before in
+    let f = lent-fit _ _ _ (accepted here) in omega (arith, f .words, shape _ (f .plan-known) .rows-le)
 
 rounds-requires : tie.Need-rounds-requires
 rounds-requires c κs =
@@ -88,13 +90,19 @@ slice-aggregate-put-symbols : tie.Need-slice-aggregate-put-symbols
 slice-aggregate-put-symbols c = sym (c .before .before .before .before .rounds .ensures .1 .0)
 
 put-symbols-requires : tie.Need-put-symbols-requires
-put-symbols-requires c κs = let f = lent-fit _ _ _ (accepted (c .before .before .before .before .before .before .before .before .before .before .before .before .before .before)) in omega (arith, f .long, shape _ (f .plan-known) .symbols-le, c .before .before .before .before .rounds .ensures .1 .0)
+put-symbols-requires c κs =
+    let rounds = c .before .before .before .before .rounds in
+    let here = c .before .before .before .before .before .before .before .before .before .before .before .before .before .before in
+    let f = lent-fit _ _ _ (accepted here) in omega (arith, f .long, shape _ (f .plan-known) .symbols-le, rounds .ensures .1 .0)
 
 slice-aggregate-put-words : tie.Need-slice-aggregate-put-words
 slice-aggregate-put-words c = sym (c .before .before .before .before .before .before .before .before .before .rounds .ensures .1 .1)
 
 put-words-requires : tie.Need-put-words-requires
-put-words-requires c κs = let f = lent-fit _ _ _ (accepted (c .before .before .before .before .before .before .before .before .before .before .before .before .before .before .before .before .before .before .before)) in omega (arith, f .words, shape _ (f .plan-known) .rows-le, c .before .before .before .before .before .before .before .before .before .rounds .ensures .1 .1)
+put-words-requires c κs =
+    let rounds = c .before .before .before .before .before .before .before .before .before .rounds in
+    let here = c .before .before .before .before .before .before .before .before .before .before .before .before .before .before .before .before .before .before .before in
+    let f = lent-fit _ _ _ (accepted here) in omega (arith, f .words, shape _ (f .plan-known) .rows-le, rounds .ensures .1 .1)
 
 same-length-7 : tie.Need-same-length-7
 same-length-7 c = search needs

@@ -31,9 +31,12 @@ same-length-2 c = search needs
 
 returns-2 : tie.Need-returns-2
 returns-2 c =
-    let mend = c .before .before .before .before .before .before .before .mend in
+    let of-answer = c .before .before .of-answer in
+    let mend2 = c .before .before .before .before .before .before .before .mend in
+    let if1 = c .before .before .before .before .before .before .before .before .before .before .if1 in
+    let mend = mend2 in
     let refuses = sym (c .before .is-refusal .ensures) ∙ c .if2 .taken in
-    mends-fit _ _ _ _ (c .before .before .before .before .before .before .before .before .before .before .if1 .left) _ (mend .ensures .0) (c .before .before .of-answer .ensures) (mend .ensures .1 .0) (mend .ensures .1 .1)
+    mends-fit _ _ _ _ (if1 .left) _ (mend .ensures .0) (of-answer .ensures) (mend .ensures .1 .0) (mend .ensures .1 .1)
     (after-refusal _ _ refuses)
 
 report-bytes-requires : tie.Need-report-bytes-requires
@@ -56,12 +59,19 @@ same-length-5 c = search needs
 
 returns-3 : tie.Need-returns-3
 returns-3 c =
-    let mend = c .before .before .before .before .before .before .before .before .before .before .before .before .before .mend in
-    let fits = c .before .before .before .before .before .before .before .before .before .before .before .before .before .before .before .before .if1 .left in
-    let bytes = c .before .before .before .before .before .report-bytes .ensures in
-    let refuses = sym (c .before .before .before .before .before .before .before .is-refusal .ensures) ∙ c .before .before .before .before .before .before .if2 .left in
-    mends-fit _ _ _ _ fits _ (mend .ensures .0) (c .before .before .before .before .before .before .before .before .of-answer .ensures) (mend .ensures .1 .0) (mend .ensures .1 .1)
-    (put-whole (c .before .before .put .ensures) (omega (arith, fits)) ∙ bytes ∙ after-answer _ _ refuses)
+    let put = c .before .before .put in
+    let report-bytes = c .before .before .before .before .before .report-bytes in
+    let if2 = c .before .before .before .before .before .before .if2 in
+    let is-refusal = c .before .before .before .before .before .before .before .is-refusal in
+    let of-answer = c .before .before .before .before .before .before .before .before .of-answer in
+    let mend2 = c .before .before .before .before .before .before .before .before .before .before .before .before .before .mend in
+    let if1 = c .before .before .before .before .before .before .before .before .before .before .before .before .before .before .before .before .if1 in
+    let mend = mend2 in
+    let fits = if1 .left in
+    let bytes = report-bytes .ensures in
+    let refuses = sym (is-refusal .ensures) ∙ if2 .left in
+    mends-fit _ _ _ _ fits _ (mend .ensures .0) (of-answer .ensures) (mend .ensures .1 .0) (mend .ensures .1 .1)
+    (put-whole (put .ensures) (omega (arith, fits)) ∙ bytes ∙ after-answer _ _ refuses)
 
 pub shelf-mend-spec : {M : Type 1} → statement M
 shelf-mend-spec =

@@ -17,7 +17,9 @@ same-length-2 : tie.Need-same-length-2
 same-length-2 c = search needs
 
 returns : tie.Need-returns
-returns c = let call = c .before .before .before .before .before .read-file in (outcome-told _ (c .of-outcome .ensures) (call .ensures .0), (call .ensures .1 .0, call .ensures .1 .1))
+returns c =
+    let read-file = c .before .before .before .before .before .read-file in
+    let call = read-file in (outcome-told _ (c .of-outcome .ensures) (call .ensures .0), (call .ensures .1 .0, call .ensures .1 .1))
 
 pub shelf-read-file-spec : {M : Type 1} → statement M
 shelf-read-file-spec =

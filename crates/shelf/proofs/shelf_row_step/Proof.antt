@@ -28,8 +28,12 @@ same-length c = search needs
 
 returns-2 : tie.Need-returns-2
 returns-2 c =
-    steps-fit _ _ _ _ (c .before .before .before .before .before .before .before .before .before .if1 .left) (c .before .before .before .before .before .before .before .bench-in .ensures .0) (c .before .before .before .before .before .before .row-step .ensures)
-    (c .of-step .ensures) (c .before .before .before .put-bench .ensures)
+    let put-bench = c .before .before .before .put-bench in
+    let row-step = c .before .before .before .before .before .before .row-step in
+    let bench-in = c .before .before .before .before .before .before .before .bench-in in
+    let if1 = c .before .before .before .before .before .before .before .before .before .if1 in
+    steps-fit _ _ _ _ (if1 .left) (bench-in .ensures .0) (row-step .ensures)
+    (c .of-step .ensures) (put-bench .ensures)
 
 pub shelf-row-step-spec : {M : Type 1} → statement M
 shelf-row-step-spec =

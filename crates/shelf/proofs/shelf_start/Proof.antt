@@ -26,7 +26,10 @@ same-length c = search needs
 
 returns-2 : tie.Need-returns-2
 returns-2 c =
-    starts-fit _ _ _ _ _ (c .before .before .before .before .before .before .before .if1 .left) (c .before .before .before .before .before .before .start .ensures) (c .of-outcome .ensures) (c .before .before .before .put-bench .ensures)
+    let put-bench = c .before .before .before .put-bench in
+    let start = c .before .before .before .before .before .before .start in
+    let if1 = c .before .before .before .before .before .before .before .if1 in
+    starts-fit _ _ _ _ _ (if1 .left) (start .ensures) (c .of-outcome .ensures) (put-bench .ensures)
 
 pub shelf-start-spec : {M : Type 1} → statement M
 shelf-start-spec =

@@ -37,11 +37,17 @@ same-length-2 c = search needs
 
 returns-3 : tie.Need-returns-3
 returns-3 c =
-    let text = c .before .before .before .before .before .before .before .before .before .before .before .text in
-    let bytes = c .before .before .before .before .before .before .before .before .before .before .size-bytes .ensures in
-    let fits = c .before .before .before .before .before .before .before .before .before .before .before .before .before .if2 .left in
-    tells _ _ _ (c .before .before .before .before .before .before .before .before .before .before .before .before .before .before .if1 .left) fits (c .before .before .before .before .before .before .before .put-room .ensures ∙ text .ensures .1)
-    (put-whole (c .before .before .put .ensures) (omega (arith, fits)) ∙ bytes ∙ ap bytes2 (text .ensures .0))
+    let put = c .before .before .put in
+    let put-room = c .before .before .before .before .before .before .before .put-room in
+    let size-bytes = c .before .before .before .before .before .before .before .before .before .before .size-bytes in
+    let text2 = c .before .before .before .before .before .before .before .before .before .before .before .text in
+    let if2 = c .before .before .before .before .before .before .before .before .before .before .before .before .before .if2 in
+    let if1 = c .before .before .before .before .before .before .before .before .before .before .before .before .before .before .if1 in
+    let text = text2 in
+    let bytes = size-bytes .ensures in
+    let fits = if2 .left in
+    tells _ _ _ (if1 .left) fits (put-room .ensures ∙ text .ensures .1)
+    (put-whole (put .ensures) (omega (arith, fits)) ∙ bytes ∙ ap bytes2 (text .ensures .0))
 
 pub shelf-text-spec : {M : Type 1} → statement M
 shelf-text-spec =

@@ -24,11 +24,18 @@ slice-aggregate-holds-by : tie.Need-slice-aggregate-holds-by
 slice-aggregate-holds-by c = search needs
 
 holds-by-requires : tie.Need-holds-by-requires
-holds-by-requires c κs = let s = c .before .before .before .before .before .before in
-    ((c .before .before .before .before .products .ensures, c .before .before .row-checks-1 .ensures), subst (λ p. Sized p (s .args .stripe .now)) (c .before .before .before .if1 .taken) (s .pre .1))
+holds-by-requires c κs =
+    let row-checks-1 = c .before .before .row-checks-1 in
+    let if1 = c .before .before .before .if1 in
+    let products = c .before .before .before .before .products in
+    let s = c .before .before .before .before .before .before in
+    ((products .ensures, row-checks-1 .ensures), subst (λ p. Sized p (s .args .stripe .now)) (if1 .taken) (s .pre .1))
 
 returns : tie.Need-returns
-returns c = c .holds-by .ensures ∙ ap (λ p. isCodeword (planOf p) (c .before .before .before .before .before .before .before .args .stripe .now)) (sym (c .before .before .before .before .if1 .taken))
+returns c =
+    let if1 = c .before .before .before .before .if1 in
+    let args = c .before .before .before .before .before .before .before .args in
+    c .holds-by .ensures ∙ ap (λ p. isCodeword (planOf p) (args .stripe .now)) (sym (if1 .taken))
 
 row-checks-2-requires : tie.Need-row-checks-2-requires
 row-checks-2-requires c κs = search needs
@@ -37,11 +44,18 @@ slice-aggregate-holds-by-2 : tie.Need-slice-aggregate-holds-by-2
 slice-aggregate-holds-by-2 c = search needs
 
 holds-by-requires-2 : tie.Need-holds-by-requires-2
-holds-by-requires-2 c κs = let s = c .before .before .before .before .before .before .before in
-    ((c .before .before .before .before .before .products .ensures, c .before .before .row-checks-2 .ensures), subst (λ p. Sized p (s .args .stripe .now)) (c .before .before .before .if2 .taken) (s .pre .1))
+holds-by-requires-2 c κs =
+    let row-checks-2 = c .before .before .row-checks-2 in
+    let if2 = c .before .before .before .if2 in
+    let products = c .before .before .before .before .before .products in
+    let s = c .before .before .before .before .before .before .before in
+    ((products .ensures, row-checks-2 .ensures), subst (λ p. Sized p (s .args .stripe .now)) (if2 .taken) (s .pre .1))
 
 returns-2 : tie.Need-returns-2
-returns-2 c = c .holds-by2 .ensures ∙ ap (λ p. isCodeword (planOf p) (c .before .before .before .before .before .before .before .before .args .stripe .now)) (sym (c .before .before .before .before .if2 .taken))
+returns-2 c =
+    let if2 = c .before .before .before .before .if2 in
+    let args = c .before .before .before .before .before .before .before .before .args in
+    c .holds-by2 .ensures ∙ ap (λ p. isCodeword (planOf p) (args .stripe .now)) (sym (if2 .taken))
 
 row-checks-3-requires : tie.Need-row-checks-3-requires
 row-checks-3-requires c κs = search needs
@@ -50,11 +64,21 @@ slice-aggregate-holds-by-3 : tie.Need-slice-aggregate-holds-by-3
 slice-aggregate-holds-by-3 c = search needs
 
 holds-by-requires-3 : tie.Need-holds-by-requires-3
-holds-by-requires-3 c κs = let s = c .before .before .before .before .before .before .before in
-    ((c .before .before .before .before .before .products .ensures, c .before .before .row-checks-3 .ensures), subst (λ p. Sized p (s .args .stripe .now)) (third _ (c .before .before .before .before .before .before .before .pre .0) (c .before .before .before .before .if1 .left) (c .before .before .before .if2 .left)) (s .pre .1))
+holds-by-requires-3 c κs =
+    let row-checks-3 = c .before .before .row-checks-3 in
+    let if2 = c .before .before .before .if2 in
+    let if1 = c .before .before .before .before .if1 in
+    let products = c .before .before .before .before .before .products in
+    let s = c .before .before .before .before .before .before .before in
+    ((products .ensures, row-checks-3 .ensures), subst (λ p. Sized p (s .args .stripe .now)) (third _ (s .pre .0) (if1 .left) (if2 .left)) (s .pre .1))
 
 returns-3 : tie.Need-returns-3
-returns-3 c = c .holds-by3 .ensures ∙ ap (λ p. isCodeword (planOf p) (c .before .before .before .before .before .before .before .before .args .stripe .now)) (sym (third _ (c .before .before .before .before .before .before .before .before .pre .0) (c .before .before .before .before .before .if1 .left) (c .before .before .before .before .if2 .left)))
+returns-3 c =
+    let if2 = c .before .before .before .before .if2 in
+    let if1 = c .before .before .before .before .before .if1 in
+    let args = c .before .before .before .before .before .before .before .before .args in
+    let pre = c .before .before .before .before .before .before .before .before .pre in
+    c .holds-by3 .ensures ∙ ap (λ p. isCodeword (planOf p) (args .stripe .now)) (sym (third _ (pre .0) (if1 .left) (if2 .left)))
 
 pub holds-spec : {M : Type 1} → statement M
 holds-spec =

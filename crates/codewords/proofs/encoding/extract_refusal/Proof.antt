@@ -71,17 +71,25 @@ holds-requires c κs =
 returns-4 : tie.Need-returns-4
 unfolding unasked inMemory extractRefusal
 returns-4 c =
+    let if3 = c .before .before .if3 in
+    let here = c .before .before .before in
+    let here2 = c .before .before .before .before .before in
+    let here3 = c .before .before .before .before .before .before .before in
     sym
-    (passes 10 _ (is-known (c .before .before .before .before .before .before .before)) ∙ passes 11 _ (fit (c .before .before .before .before .before)) ∙ passes 15 _ refl ∙ passes 12 _ refl
-    ∙ passes 13 _ (below (c .before .before .before) ∙ not-false _ (c .before .before .if3 .left))
+    (passes 10 _ (is-known here3) ∙ passes 11 _ (fit here2) ∙ passes 15 _ refl ∙ passes 12 _ refl
+    ∙ passes 13 _ (below here ∙ not-false _ (if3 .left))
     ∙ passes 14 _ refl ∙ fails 16 _ (sym (c .before .holds .ensures) ∙ not-true _ (c .if4 .taken)))
 
 returns-5 : tie.Need-returns-5
 unfolding unasked inMemory extractRefusal
 returns-5 c =
+    let if3 = c .before .before .if3 in
+    let here = c .before .before .before in
+    let here2 = c .before .before .before .before .before in
+    let here3 = c .before .before .before .before .before .before .before in
     sym
-    (passes 10 _ (is-known (c .before .before .before .before .before .before .before)) ∙ passes 11 _ (fit (c .before .before .before .before .before)) ∙ passes 15 _ refl ∙ passes 12 _ refl
-    ∙ passes 13 _ (below (c .before .before .before) ∙ not-false _ (c .before .before .if3 .left))
+    (passes 10 _ (is-known here3) ∙ passes 11 _ (fit here2) ∙ passes 15 _ refl ∙ passes 12 _ refl
+    ∙ passes 13 _ (below here ∙ not-false _ (if3 .left))
     ∙ passes 14 _ refl ∙ passes 16 _ (sym (c .before .holds .ensures) ∙ not-false _ (c .if4 .left)) ∙ none-fails)
 
 pub extract-refusal-spec : {M : Type 1} → statement M

@@ -39,7 +39,9 @@ mul-place-row : tie.Need-mul-place-row Inv-loop μ-loop
 mul-place-row c = let start = c .before .before .before .before .before .before in omega (arith, start .pre .0, c .before .before .facts-of .ensures .rows, start .good)
 
 shared-slice-read-place-row : tie.Need-shared-slice-read-place-row Inv-loop μ-loop
-shared-slice-read-place-row c = let start = c .before .before .before .before .before .before .before in omega (arith, start .pre .0, c .before .before .before .facts-of .ensures .rows)
+shared-slice-read-place-row c =
+    let facts-of = c .before .before .before .facts-of in
+    let start = c .before .before .before .before .before .before .before in omega (arith, start .pre .0, facts-of .ensures .rows)
 
 sub-place-row : tie.Need-sub-place-row Inv-loop μ-loop
 sub-place-row c = omega (arith, here (c .before) .room)
@@ -64,8 +66,10 @@ place-row-requires c κs = here (c .before .before .before) .lent
 
 add-next : tie.Need-add-next Inv-loop μ-loop
 add-next c =
+    let place-row = c .before .before .place-row in
+    let here2 = c .before .before .before .before .before .before in
     let at = c .before .before .before .before .before .before .before in
-    omega (arith, here (c .before .before .before .before .before .before) .room, c .before .before .place-row .ensures .0, at .before .before .before .before .before .good)
+    omega (arith, here here2 .room, place-row .ensures .0, at .before .before .before .before .before .good)
 
 add-r : tie.Need-add-r Inv-loop μ-loop
 add-r c = search needs

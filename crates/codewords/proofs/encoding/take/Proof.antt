@@ -39,7 +39,9 @@ mul-take-row : tie.Need-mul-take-row Inv-loop μ-loop
 mul-take-row c = let start = c .before .before .before .before .before .before in omega (arith, start .pre .0, c .before .before .facts-of .ensures .rows, start .good)
 
 shared-slice-read-take-row : tie.Need-shared-slice-read-take-row Inv-loop μ-loop
-shared-slice-read-take-row c = let start = c .before .before .before .before .before .before .before in omega (arith, start .pre .0, c .before .before .before .facts-of .ensures .rows)
+shared-slice-read-take-row c =
+    let facts-of = c .before .before .before .facts-of in
+    let start = c .before .before .before .before .before .before .before in omega (arith, start .pre .0, facts-of .ensures .rows)
 
 sub-take-row : tie.Need-sub-take-row Inv-loop μ-loop
 sub-take-row c = search needs
@@ -64,8 +66,10 @@ take-row-requires c κs = here (c .before .before .before) .lent
 
 add-next : tie.Need-add-next Inv-loop μ-loop
 add-next c =
+    let take-row = c .before .before .take-row in
+    let here2 = c .before .before .before .before .before .before in
     let at = c .before .before .before .before .before .before .before in
-    omega (arith, here (c .before .before .before .before .before .before) .room, c .before .before .take-row .ensures .0, at .before .before .before .before .before .good, taking-length (at .loop .inv .1))
+    omega (arith, here here2 .room, take-row .ensures .0, at .before .before .before .before .before .good, taking-length (at .loop .inv .1))
 
 add-r : tie.Need-add-r Inv-loop μ-loop
 add-r c = search needs

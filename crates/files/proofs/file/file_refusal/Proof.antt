@@ -24,14 +24,19 @@ is-plan : (c : tie.Else2) → known (planIn (now (c .before .before .before .bef
 is-plan c = ap known (sym (c .before .before .plan-in .ensures)) ∙ sym (c .before .is-known .ensures) ∙ not-false _ (c .if2 .left)
 
 header : (c : tie.After-same) → c .same .result ≡ same (take 8 (now (c .before .before .before .before .before .before .before .before .before .args .file))) (headerOf (planIn (now (c .before .before .before .before .before .before .before .before .before .args .file))))
-header c = c .same .ensures ∙ ap (same _) (c .before .before .before .header-of .ensures ∙ ap headerOf (c .before .before .before .before .before .before .plan-in .ensures))
+header c =
+    let header-of = c .before .before .before .header-of in
+    let plan-in = c .before .before .before .before .before .before .plan-in in
+    c .same .ensures ∙ ap (same _) (header-of .ensures ∙ ap headerOf (plan-in .ensures))
 
 agrees : (c : tie.Else3) → let file = now (c .before .before .before .before .before .before .before .before .before .before .args .file) in
     same (take 8 file) (headerOf (planIn file)) ≡ true
 agrees c = sym (header (c .before)) ∙ not-false _ (c .if3 .left)
 
 whole : (c : tie.Else4) → length (now (c .before .before .before .before .before .before .before .before .before .before .before .before .args .file)) ≡ fileLength (planOf (planIn (now (c .before .before .before .before .before .before .before .before .before .before .before .before .args .file))))
-whole c = c .if4 .left ∙ c .before .file-length .ensures ∙ ap (λ p. fileLength (planOf p)) (c .before .before .before .before .before .before .before .before .before .plan-in .ensures)
+whole c =
+    let plan-in = c .before .before .before .before .before .before .before .before .before .plan-in in
+    c .if4 .left ∙ c .before .file-length .ensures ∙ ap (λ p. fileLength (planOf p)) (plan-in .ensures)
 
 returns : tie.Need-returns
 unfolding inFile fileRefusal
@@ -46,25 +51,36 @@ is-known-requires c κs = search needs
 returns-2 : tie.Need-returns-2
 unfolding inFile fileRefusal
 returns-2 c =
-    sym (passes 20 _ (long (c .before .before .before)) ∙ fails 10 _ (ap known (sym (c .before .before .plan-in .ensures)) ∙ sym (c .before .is-known .ensures) ∙ not-true _ (c .if2 .taken)))
+    let plan-in = c .before .before .plan-in in
+    let here = c .before .before .before in
+    sym (passes 20 _ (long here) ∙ fails 10 _ (ap known (sym (plan-in .ensures)) ∙ sym (c .before .is-known .ensures) ∙ not-true _ (c .if2 .taken)))
 
 header-of-requires : tie.Need-header-of-requires
 header-of-requires c κs = subst (λ b. T b) (sym (sym (c .before .is-known .ensures) ∙ not-false _ (c .if2 .left))) tt
 
 slice-aggregate-same : tie.Need-slice-aggregate-same
-slice-aggregate-same c = sym (length-take-le 8 (now (c .before .before .before .before .before .before .before .args .file)) (c .before .before .before .before .before .if1 .left))
+slice-aggregate-same c =
+    let if1 = c .before .before .before .before .before .if1 in
+    let args = c .before .before .before .before .before .before .before .args in
+    sym (length-take-le 8 (now (args .file)) (if1 .left))
 
 slice-aggregate-same-2 : tie.Need-slice-aggregate-same-2
 slice-aggregate-same-2 c = search needs
 
 same-requires : tie.Need-same-requires
 unfolding bytes2 headerOf
-same-requires c κs = length-take-le 8 (now (c .before .before .before .before .before .before .before .before .args .file)) (c .before .before .before .before .before .before .if1 .left) ∙ sym (ap length (c .before .before .header-of .ensures))
+same-requires c κs =
+    let header-of = c .before .before .header-of in
+    let if1 = c .before .before .before .before .before .before .if1 in
+    let args = c .before .before .before .before .before .before .before .before .args in
+    length-take-le 8 (now (args .file)) (if1 .left) ∙ sym (ap length (header-of .ensures))
 
 returns-3 : tie.Need-returns-3
 unfolding inFile fileRefusal
 returns-3 c =
-    sym (passes 20 _ (long (c .before .before .before .before .before .before .before .before)) ∙ passes 10 _ (is-plan (c .before .before .before .before .before)) ∙ fails 21 _ (sym (header (c .before)) ∙ not-true _ (c .if3 .taken)))
+    let here = c .before .before .before .before .before in
+    let here2 = c .before .before .before .before .before .before .before .before in
+    sym (passes 20 _ (long here2) ∙ passes 10 _ (is-plan here) ∙ fails 21 _ (sym (header (c .before)) ∙ not-true _ (c .if3 .taken)))
 
 file-length-requires : tie.Need-file-length-requires
 file-length-requires c κs = search needs
@@ -72,13 +88,20 @@ file-length-requires c κs = search needs
 returns-4 : tie.Need-returns-4
 unfolding inFile fileRefusal
 returns-4 c =
-    sym (passes 20 _ (long (c .before .before .before .before .before .before .before .before .before .before)) ∙ passes 10 _ (is-plan (c .before .before .before .before .before .before .before)) ∙ passes 21 _ (agrees (c .before .before))
-    ∙ fails 20 _ (ne-eqb _ _ (λ e. c .if4 .taken (e ∙ sym (c .before .file-length .ensures ∙ ap (λ p. fileLength (planOf p)) (c .before .before .before .before .before .before .before .before .before .plan-in .ensures))))))
+    let here = c .before .before in
+    let here2 = c .before .before .before .before .before .before .before in
+    let plan-in = c .before .before .before .before .before .before .before .before .before .plan-in in
+    let here3 = c .before .before .before .before .before .before .before .before .before .before in
+    sym (passes 20 _ (long here3) ∙ passes 10 _ (is-plan here2) ∙ passes 21 _ (agrees here)
+    ∙ fails 20 _ (ne-eqb _ _ (λ e. c .if4 .taken (e ∙ sym (c .before .file-length .ensures ∙ ap (λ p. fileLength (planOf p)) (plan-in .ensures))))))
 
 returns-5 : tie.Need-returns-5
 unfolding inFile fileRefusal
 returns-5 c =
-    sym (passes 20 _ (long (c .before .before .before .before .before .before .before .before .before .before .before)) ∙ passes 10 _ (is-plan (c .before .before .before .before .before .before .before .before)) ∙ passes 21 _ (agrees (c .before .before .before))
+    let here = c .before .before .before in
+    let here2 = c .before .before .before .before .before .before .before .before in
+    let here3 = c .before .before .before .before .before .before .before .before .before .before .before in
+    sym (passes 20 _ (long here3) ∙ passes 10 _ (is-plan here2) ∙ passes 21 _ (agrees here)
     ∙ passes 20 _ (eq-eqb _ _ (whole (c .before))) ∙ fails 11 _ (not-true _ (c .if5 .taken)))
 
 whole-refusal-requires : tie.Need-whole-refusal-requires

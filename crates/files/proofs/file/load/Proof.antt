@@ -43,8 +43,10 @@ part-put-end c = search needs
 
 put-requires : tie.Need-put-requires
 put-requires c κs =
-    let w = whole (c .before .before .before .before .before .before) in
-    omega (arith, ap length (whole-cut w) ∙ whole-symbols w ∙ ap (λ p. planOf p .rows * planOf p .columns) (w .plan), c .before .before .before .before .before .before .before .before .before .before .before .pre .1 .0)
+    let here = c .before .before .before .before .before .before in
+    let pre = c .before .before .before .before .before .before .before .before .before .before .before .pre in
+    let w = whole here in
+    omega (arith, ap length (whole-cut w) ∙ whole-symbols w ∙ ap (λ p. planOf p .rows * planOf p .columns) (w .plan), pre .1 .0)
 
 same-length : tie.Need-same-length
 same-length c = search needs
@@ -54,7 +56,10 @@ same-length-2 c = search needs
 
 returns : tie.Need-returns
 returns c =
-    (c .before .before .put .ensures .written ∙ ap (sets _ 0) (whole-cut (whole (c .before .before .before .before .before .before .before .before .before))), c .before .before .before .before .before .before .before .read-marks .ensures)
+    let put = c .before .before .put in
+    let read-marks = c .before .before .before .before .before .before .before .read-marks in
+    let here = c .before .before .before .before .before .before .before .before .before in
+    (put .ensures .written ∙ ap (sets _ 0) (whole-cut (whole here)), read-marks .ensures)
 
 pub load-spec : {M : Type 1} → statement M
 load-spec =

@@ -30,8 +30,11 @@ put-requires c κs = omega (arith, ap length (c .before .before .header-of .ensu
 put-words-requires : tie.Need-put-words-requires
 unfolding bytes2 marksOffset symbolsOffset fileLength headerOf
 put-words-requires c κs =
-    let put = c .before .before .before .put in
-    omega (arith, put .ensures .reached, put .kept .1 .0, ap length (c .before .before .before .before .before .before .header-of .ensures), fit (c .before .before .before .before .before .before .before .before .before .before) .0 .words, fit (c .before .before .before .before .before .before .before .before .before .before) .1)
+    let put2 = c .before .before .before .put in
+    let header-of = c .before .before .before .before .before .before .header-of in
+    let here = c .before .before .before .before .before .before .before .before .before .before in
+    let put = put2 in
+    omega (arith, put .ensures .reached, put .kept .1 .0, ap length (header-of .ensures), fit here .0 .words, fit here .1)
 
 put-symbols-requires : tie.Need-put-symbols-requires
 unfolding bytes2 marksOffset symbolsOffset fileLength headerOf
@@ -67,9 +70,14 @@ same-length c = search needs
 returns : tie.Need-returns
 unfolding fileOf
 returns c =
-    let f = fit (c .before .before .before .before .before .before .before .before .before .before .before .before .before .before .before .before .before) in
-    let header = put-is (sym (c .before .before .before .before .before .before .before .before .before .before .before .before .before .header-of .ensures)) (c .before .before .before .before .before .before .before .before .before .before .put .ensures) in
-    put-then (put-then header (c .before .before .before .before .before .before .put-words .ensures)) (c .before .before .put-symbols .ensures) .written
+    let put-symbols = c .before .before .put-symbols in
+    let put-words = c .before .before .before .before .before .before .put-words in
+    let put = c .before .before .before .before .before .before .before .before .before .before .put in
+    let header-of = c .before .before .before .before .before .before .before .before .before .before .before .before .before .header-of in
+    let here = c .before .before .before .before .before .before .before .before .before .before .before .before .before .before .before .before .before in
+    let f = fit here in
+    let header = put-is (sym (header-of .ensures)) (put .ensures) in
+    put-then (put-then header (put-words .ensures)) (put-symbols .ensures) .written
     ∙ sets-whole _ _ (length-written _ _ _ (f .0) ∙ sym (f .1))
 
 pub put-file-spec : {M : Type 1} → statement M

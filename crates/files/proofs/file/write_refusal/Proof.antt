@@ -21,7 +21,9 @@ file-length-requires c κs = search needs
 
 returns-2 : tie.Need-returns-2
 returns-2 c =
-    sym (room-refused _ _ _ _ (sym (c .before .before .before .is-known .ensures) ∙ not-false _ (c .before .before .if1 .left)) (λ e. c .if2 .taken (e ∙ sym (c .before .file-length .ensures))))
+    let if1 = c .before .before .if1 in
+    let is-known = c .before .before .before .is-known in
+    sym (room-refused _ _ _ _ (sym (is-known .ensures) ∙ not-false _ (if1 .left)) (λ e. c .if2 .taken (e ∙ sym (c .before .file-length .ensures))))
 
 lent-refusal-requires : tie.Need-lent-refusal-requires
 lent-refusal-requires c κs = search needs

@@ -32,7 +32,10 @@ slice-aggregate-put c = search needs
 
 put-requires : tie.Need-put-requires Inv-loop μ-loop
 unfolding bytes4
-put-requires c κs = omega (arith, ap length (c .before .before .word-bytes .ensures), joining-length bytes4 _ _ _ (c .before .before .before .before .before .loop .inv .2))
+put-requires c κs =
+    let word-bytes = c .before .before .word-bytes in
+    let loop = c .before .before .before .before .before .loop in
+    omega (arith, ap length (word-bytes .ensures), joining-length bytes4 _ _ _ (loop .inv .2))
 
 add-r : tie.Need-add-r Inv-loop μ-loop
 add-r c = search needs

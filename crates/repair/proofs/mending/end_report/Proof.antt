@@ -20,13 +20,17 @@ rows-left-requires c κs = omega (arith, c .rows .ensures)
 
 returns : tie.Need-returns
 returns c =
+    let rows = c .before .before .rows in
+    let args = c .before .before .before .before .args in
     report-restored _ _ _ _ _
-    (c .before .rows-left .ensures ∙ ap (λ n. length (only (λ m. m) (map (lossyAt (now (c .before .before .before .before .args .marks))) (upFrom 0 n)))) (c .before .before .rows .ensures)) (c .if1 .taken)
+    (c .before .rows-left .ensures ∙ ap (λ n. length (only (λ m. m) (map (lossyAt (now (args .marks))) (upFrom 0 n)))) (rows .ensures)) (c .if1 .taken)
 
 returns-2 : tie.Need-returns-2
 returns-2 c =
+    let rows = c .before .before .rows in
+    let args = c .before .before .before .before .args in
     report-stuck _ _ _ _ _
-    (c .before .rows-left .ensures ∙ ap (λ n. length (only (λ m. m) (map (lossyAt (now (c .before .before .before .before .args .marks))) (upFrom 0 n)))) (c .before .before .rows .ensures)) (c .if1 .left)
+    (c .before .rows-left .ensures ∙ ap (λ n. length (only (λ m. m) (map (lossyAt (now (args .marks))) (upFrom 0 n)))) (rows .ensures)) (c .if1 .left)
 
 pub end-report-spec : {M : Type 1} → statement M
 end-report-spec = tie.close (tie.spec rows-requires rows-left-requires returns returns-2)

@@ -27,7 +27,9 @@ abbrev μ-loop : tie.MeasureT-loop
 
 -- a round's rows are walked, and none of them fails
 through : (c : tie.Else1 Inv-loop μ-loop) → planOf (c .before .before .before .before .before .before .before .before .before .args .plan) .rows ≤ c .before .walk-rows .result .row
-through c = omega (arith, c .if1 .left, c .before .before .before .before .before .before .before .rows .ensures)
+through c =
+    let rows = c .before .before .before .before .before .before .before .rows in
+    omega (arith, c .if1 .left, rows .ensures)
 
 -- there is a level above
 below : (c : tie.Else2 Inv-loop μ-loop) → c .before .before .before .before .before .before .loop .level ≡ length (planOf (c .before .before .before .before .before .before .before .before .before .before .args .plan) .levels) → ⊥
@@ -58,8 +60,11 @@ bare-report-requires c κs = search needs
 
 returns : tie.Need-returns Inv-loop μ-loop
 returns c =
-    let sized = c .before .before .walk-rows .ensures .sized in (
-      rounded-clash _ _ _ _ _ _ _ (c .before .before .before .before .before .before .loop .inv) _ _ _ _ (c .before .before .walk-rows .ensures) (omega (arith, c .before .if1 .taken, c .before .before .before .before .before .before .before .before .rows .ensures)) _
+    let walk-rows = c .before .before .walk-rows in
+    let loop = c .before .before .before .before .before .before .loop in
+    let rows = c .before .before .before .before .before .before .before .before .rows in
+    let sized = walk-rows .ensures .sized in (
+      rounded-clash _ _ _ _ _ _ _ (loop .inv) _ _ _ _ (walk-rows .ensures) (omega (arith, c .before .if1 .taken, rows .ensures)) _
           (c .bare-report .ensures),
       (sized .0, sized .1),
     )
@@ -68,13 +73,22 @@ sub-restored : tie.Need-sub-restored Inv-loop μ-loop
 sub-restored c = search needs
 
 mul-restored : tie.Need-mul-restored Inv-loop μ-loop
-mul-restored c = record { fits = omega (arith, c .before .before .before .before .before .loop .inv .high, c .before .before .before .before .before .loop .inv .low, shape _ (c .before .before .before .before .before .loop .inv .sound .fit .plan-known) .levels-le) }
+mul-restored c =
+    let loop = c .before .before .before .before .before .loop in
+    record { fits = omega (arith, loop .inv .high, loop .inv .low, shape _ (loop .inv .sound .fit .plan-known) .levels-le) }
 
 array-write-restored : tie.Need-array-write-restored Inv-loop μ-loop
-array-write-restored c = omega (arith, c .before .before .before .before .before .loop .inv .high, c .before .before .before .before .before .loop .inv .low, shape _ (c .before .before .before .before .before .loop .inv .sound .fit .plan-known) .levels-le)
+array-write-restored c =
+    let loop = c .before .before .before .before .before .loop in
+    omega (arith, loop .inv .high, loop .inv .low, shape _ (loop .inv .sound .fit .plan-known) .levels-le)
 
 learn-requires : tie.Need-learn-requires Inv-loop μ-loop
-learn-requires c κs = (c .before .before .before .before .before .before .before .before .before .before .before .before .before .pre .0, omega (arith, c .before .before .before .if2 .left, c .before .before .before .before .before .before .before .before .before .before .levels .ensures, c .before .before .before .before .before .before .before .before .before .loop .inv .high))
+learn-requires c κs =
+    let if2 = c .before .before .before .if2 in
+    let loop = c .before .before .before .before .before .before .before .before .before .loop in
+    let levels = c .before .before .before .before .before .before .before .before .before .before .levels in
+    let pre = c .before .before .before .before .before .before .before .before .before .before .before .before .before .pre in
+    (pre .0, omega (arith, if2 .left, levels .ensures, loop .inv .high))
 
 enum-told : tie.Need-enum-told Inv-loop μ-loop
 enum-told c = search needs
@@ -90,9 +104,15 @@ bare-report-requires-2 c κs = search needs
 
 returns-2 : tie.Need-returns-2 Inv-loop μ-loop
 returns-2 c =
-    let sized = c .before .before .before .before .before .before .before .before .before .walk-rows .ensures .sized in (
-      rounded-failing _ _ _ _ _ _ _ (c .before .before .before .before .before .before .before .before .before .before .before .before .before .loop .inv) _ _ _ _ (c .before .before .before .before .before .before .before .before .before .walk-rows .ensures) (through (c .before .before .before .before .before .before .before .before)) (below (c .before .before .before .before .before .before .before)) _ _
-          (c .before .before .before .learn .ensures .0) (c .before .before .before .learn .ensures .1) (arm-failing _ (c .before .before .match .keys2)) _ (c .bare-report2 .ensures),
+    let match = c .before .before .match in
+    let learn = c .before .before .before .learn in
+    let here = c .before .before .before .before .before .before .before in
+    let here2 = c .before .before .before .before .before .before .before .before in
+    let walk-rows = c .before .before .before .before .before .before .before .before .before .walk-rows in
+    let loop = c .before .before .before .before .before .before .before .before .before .before .before .before .before .loop in
+    let sized = walk-rows .ensures .sized in (
+      rounded-failing _ _ _ _ _ _ _ (loop .inv) _ _ _ _ (walk-rows .ensures) (through here2) (below here) _ _
+          (learn .ensures .0) (learn .ensures .1) (arm-failing _ (match .keys2)) _ (c .bare-report2 .ensures),
       (sized .0, sized .1),
     )
 
@@ -107,22 +127,35 @@ loop-less c = search needs
 
 loop-again : tie.Need-loop-again Inv-loop μ-loop
 loop-again c =
-    rounding-turns _ _ _ _ _ _ _ (c .before .before .before .before .before .before .before .before .before .before .before .before .loop .inv) _ _ _ _ (c .before .before .before .before .before .before .before .before .walk-rows .ensures) (through (c .before .before .before .before .before .before .before)) (below (c .before .before .before .before .before .before)) _ _
-    (c .before .before .learn .ensures .0) (c .before .before .learn .ensures .1) (arm-learned _ (c .before .match .keys3))
+    let learn = c .before .before .learn in
+    let here = c .before .before .before .before .before .before in
+    let here2 = c .before .before .before .before .before .before .before in
+    let walk-rows = c .before .before .before .before .before .before .before .before .walk-rows in
+    let loop = c .before .before .before .before .before .before .before .before .before .before .before .before .loop in
+    rounding-turns _ _ _ _ _ _ _ (loop .inv) _ _ _ _ (walk-rows .ensures) (through here2) (below here) _ _
+    (learn .ensures .0) (learn .ensures .1) (arm-learned _ (c .before .match .keys3))
 
 end-report-requires : tie.Need-end-report-requires Inv-loop μ-loop
-end-report-requires c κs = omega (arith, c .before .before .before .before .walk-rows .ensures .sized .1, shape _ (c .before .before .before .before .before .before .before .before .loop .inv .sound .fit .plan-known) .rows-le)
+end-report-requires c κs =
+    let walk-rows = c .before .before .before .before .walk-rows in
+    let loop = c .before .before .before .before .before .before .before .before .loop in
+    omega (arith, walk-rows .ensures .sized .1, shape _ (loop .inv .sound .fit .plan-known) .rows-le)
 
 returns-3 : tie.Need-returns-3 Inv-loop μ-loop
 returns-3 c =
-    let r = c .before .before .before .before .before .before .before .before .before .loop .inv in
-    let w = c .before .before .before .before .before .walk-rows .ensures in
-    let h = through (c .before .before .before .before) in (
+    let if2 = c .before .before .before .if2 in
+    let here = c .before .before .before .before in
+    let walk-rows = c .before .before .before .before .before .walk-rows in
+    let loop = c .before .before .before .before .before .before .before .before .before .loop in
+    let levels = c .before .before .before .before .before .before .before .before .before .before .levels in
+    let r = loop .inv in
+    let w = walk-rows .ensures in
+    let h = through here in (
       ⊎-elim
-          (λ v. rounded-top _ _ _ _ _ _ _ r _ _ _ _ w h (v .taken ∙ c .before .before .before .before .before .before .before .before .before .before .levels .ensures) _ (c .end-report .ensures))
-          (λ v. rounded-blocked _ _ _ _ _ _ _ r _ _ _ _ w h (λ e. v .0 .left (e ∙ sym (c .before .before .before .before .before .before .before .before .before .before .levels .ensures))) _ _ (v .4 .ensures .0) (v .4 .ensures .1)
+          (λ v. rounded-top _ _ _ _ _ _ _ r _ _ _ _ w h (v .taken ∙ levels .ensures) _ (c .end-report .ensures))
+          (λ v. rounded-blocked _ _ _ _ _ _ _ r _ _ _ _ w h (λ e. v .0 .left (e ∙ sym (levels .ensures))) _ _ (v .4 .ensures .0) (v .4 .ensures .1)
           (arm-blocked _ (v .5 .keys1)) _ (c .end-report .ensures))
-          (c .before .before .before .if2 .came),
+          (if2 .came),
       (w .sized .0, w .sized .1),
     )
 

@@ -53,10 +53,13 @@ slice-aggregate-put-3 c = search needs
 
 put-requires-3 : tie.Need-put-requires-3
 put-requires-3 c κs =
+    let put-words = c .before .before .before .before .put-words in
+    let put2 = c .before .before .before .before .before .before .before .before .before .put2 in
+    let put = c .before .before .before .before .before .before .before .before .before .before .before .before .before .before .put in
     let start = c .before .before .before .before .before .before .before .before .before .before .before .before .before .before .before .before .before .before .before .before .before .before .before in
-    let head = c .before .before .before .before .before .before .before .before .before .before .before .before .before .before .put in
-    let symbols = c .before .before .before .before .before .before .before .before .before .put2 in
-    let marks = c .before .before .before .before .put-words in
+    let head = put in
+    let symbols = put2 in
+    let marks = put-words in
     omega (
       arith,
       symbols-long start,
@@ -77,9 +80,13 @@ same-length c = search needs
 
 returns : tie.Need-returns
 returns c =
+    let put3 = c .before .before .put3 in
+    let put-words = c .before .before .before .before .before .before .before .put-words in
+    let put2 = c .before .before .before .before .before .before .before .before .before .before .before .before .put2 in
+    let put = c .before .before .before .before .before .before .before .before .before .before .before .before .before .before .before .before .before .put in
     let start = c .before .before .before .before .before .before .before .before .before .before .before .before .before .before .before .before .before .before .before .before .before .before .before .before .before .before in
-    bench-put _ (symbols-long start) (marks-long start) (sums-long start) (start .pre .0) (c .before .before .before .before .before .before .before .before .before .before .before .before .before .before .before .before .before .put .ensures) (c .before .before .before .before .before .before .before .before .before .before .before .before .put2 .ensures)
-    (c .before .before .before .before .before .before .before .put-words .ensures) (c .before .before .put3 .ensures)
+    bench-put _ (symbols-long start) (marks-long start) (sums-long start) (start .pre .0) (put .ensures) (put2 .ensures)
+    (put-words .ensures) (put3 .ensures)
 
 pub put-bench-spec : {M : Type 1} → statement M
 put-bench-spec =

@@ -57,11 +57,18 @@ cast-if1 c =
 
 returns : tie.Need-returns Inv-loop μ-loop
 returns c =
-    learned-lossy (weighed (c .before .before .before .before)) (c .before .before .before .before .before .before .before .pre .1) _ _ _ (c .before .before .before .before .before .facts-of .ensures .rows) (c .before .lossy-word .ensures) (c .if1 .taken)
+    let here = c .before .before .before .before in
+    let facts-of = c .before .before .before .before .before .facts-of in
+    let pre = c .before .before .before .before .before .before .before .pre in
+    learned-lossy (weighed here) (pre .1) _ _ _ (facts-of .ensures .rows) (c .before .lossy-word .ensures) (c .if1 .taken)
 
 loop-holds : tie.Need-loop-holds Inv-loop μ-loop
 loop-holds c =
-    learned-starts _ _ _ _ (c .before .before .before .before .before .before .facts-of .ensures .rows) (c .before .before .before .before .sums-to .ensures) (rw add-one at (c .before .before .before .sums-to2 .ensures)) (c .before .before .lossy-word .ensures)
+    let lossy-word = c .before .before .lossy-word in
+    let sums-to2 = c .before .before .before .sums-to2 in
+    let sums-to = c .before .before .before .before .sums-to in
+    let facts-of = c .before .before .before .before .before .before .facts-of in
+    learned-starts _ _ _ _ (facts-of .ensures .rows) (sums-to .ensures) (rw add-one at (sums-to2 .ensures)) (lossy-word .ensures)
 
 learn-column-requires : tie.Need-learn-column-requires Inv-loop μ-loop
 learn-column-requires c κs =
@@ -79,39 +86,53 @@ enum-told c = search needs
 
 returns-2 : tie.Need-returns-2 Inv-loop μ-loop
 returns-2 c =
-    learned-blocked (c .before .before .before .before .before .before .loop .inv) (c .before .before .before .before .before .loop-test .taken) (c .before .before .learn-column .ensures .0) (c .enum-told .given .1)
+    let learn-column = c .before .before .learn-column in
+    let loop-test = c .before .before .before .before .before .loop-test in
+    let loop = c .before .before .before .before .before .before .loop in
+    learned-blocked (loop .inv) (loop-test .taken) (learn-column .ensures .0) (c .enum-told .given .1)
 
 enum-told-2 : tie.Need-enum-told-2 Inv-loop μ-loop
 enum-told-2 c = search needs
 
 returns-3 : tie.Need-returns-3 Inv-loop μ-loop
 returns-3 c =
-    learned-failing (c .before .before .before .before .before .before .loop .inv) (c .before .before .before .before .before .loop-test .taken) (c .before .before .learn-column .ensures .0) (c .enum-told2 .given .1)
+    let learn-column = c .before .before .learn-column in
+    let loop-test = c .before .before .before .before .before .loop-test in
+    let loop = c .before .before .before .before .before .before .loop in
+    learned-failing (loop .inv) (loop-test .taken) (learn-column .ensures .0) (c .enum-told2 .given .1)
 
 enum-told-3 : tie.Need-enum-told-3 Inv-loop μ-loop
 enum-told-3 c = search needs
 
 keep-column-requires : tie.Need-keep-column-requires Inv-loop μ-loop
 keep-column-requires c κs =
-    let s = c .before .before .before .before .before .before .before .before .loop .inv in
+    let loop-test = c .before .before .before .before .before .before .before .loop-test in
+    let loop = c .before .before .before .before .before .before .before .before .loop in
+    let s = loop .inv in
     let start = c .before .before .before .before .before .before .before .before .before .before .before .before .before .before .before .before .before in (
       rw (s .high) (rows-most (start .args .plan)),
-      omega (arith, learned-here s (c .before .before .before .before .before .before .before .loop-test .taken), sums-most (start .args .plan) (suc (start .args .level))),
+      omega (arith, learned-here s (loop-test .taken), sums-most (start .args .plan) (suc (start .args .level))),
     )
 
 add-j : tie.Need-add-j Inv-loop μ-loop
 add-j c =
+    let loop-test = c .before .before .before .before .before .before .before .before .loop-test in
+    let loop = c .before .before .before .before .before .before .before .before .before .loop in
     let start = c .before .before .before .before .before .before .before .before .before .before .before .before .before .before .before .before .before .before in
-    omega (arith, learned-here (c .before .before .before .before .before .before .before .before .before .loop .inv) (c .before .before .before .before .before .before .before .before .loop-test .taken), sums-most (start .args .plan) (suc (start .args .level)))
+    omega (arith, learned-here (loop .inv) (loop-test .taken), sums-most (start .args .plan) (suc (start .args .level)))
 
 loop-less : tie.Need-loop-less Inv-loop μ-loop
 loop-less c = search needs
 
 loop-again : tie.Need-loop-again Inv-loop μ-loop
 loop-again c =
-    let learn-column = c .before .before .before .before .before .learn-column in
+    let enum-told3 = c .before .before .before .enum-told3 in
+    let learn-column2 = c .before .before .before .before .before .learn-column in
+    let loop-test = c .before .before .before .before .before .before .before .before .loop-test in
+    let loop = c .before .before .before .before .before .before .before .before .before .loop in
+    let learn-column = learn-column2 in
     let column = learn-column .last .1 .1 .1 .1 .1 .1 .1 .0 in
-    learned-more (c .before .before .before .before .before .before .before .before .before .loop .inv) (c .before .before .before .before .before .before .before .before .loop-test .taken) (learn-column .ensures .0) column (c .before .before .before .enum-told3 .given .1)
+    learned-more (loop .inv) (loop-test .taken) (learn-column .ensures .0) column (enum-told3 .given .1)
     (learn-column .ensures .1) (c .keep-column .ensures)
 
 returns-4 : tie.Need-returns-4 Inv-loop μ-loop

@@ -32,11 +32,19 @@ slice-aggregate-learn : tie.Need-slice-aggregate-learn
 slice-aggregate-learn c = search needs
 
 learn-requires : tie.Need-learn-requires
-learn-requires c κs = ((c .before .before .before .before .before .products .ensures, c .before .before .before .row-checks-1 .ensures), subst (λ p. c .before .before .before .before .before .before .args .level < length (planOf p .levels)) (c .before .before .before .before .if1 .taken) (c .before .before .before .before .before .before .pre))
+learn-requires c κs =
+    let row-checks-1 = c .before .before .before .row-checks-1 in
+    let if1 = c .before .before .before .before .if1 in
+    let products = c .before .before .before .before .before .products in
+    let args = c .before .before .before .before .before .before .args in
+    let pre = c .before .before .before .before .before .before .pre in
+    ((products .ensures, row-checks-1 .ensures), subst (λ p. args .level < length (planOf p .levels)) (if1 .taken) (pre))
 
 returns : tie.Need-returns
-returns c = let s = c .before .before .before .before .before .before .before in
-    learns-at (c .before .before .before .before .before .if1 .taken) (s .args .level) (s .args .symbols .now) (s .args .marks .now) (s .args .sums .now) (c .learn .ensures)
+returns c =
+    let if1 = c .before .before .before .before .before .if1 in
+    let s = c .before .before .before .before .before .before .before in
+    learns-at (if1 .taken) (s .args .level) (s .args .symbols .now) (s .args .marks .now) (s .args .sums .now) (c .learn .ensures)
 
 row-checks-2-requires : tie.Need-row-checks-2-requires
 row-checks-2-requires c κs = search needs
@@ -45,11 +53,19 @@ slice-aggregate-learn-2 : tie.Need-slice-aggregate-learn-2
 slice-aggregate-learn-2 c = search needs
 
 learn-requires-2 : tie.Need-learn-requires-2
-learn-requires-2 c κs = ((c .before .before .before .before .before .before .products .ensures, c .before .before .before .row-checks-2 .ensures), subst (λ p. c .before .before .before .before .before .before .before .args .level < length (planOf p .levels)) (c .before .before .before .before .if2 .taken) (c .before .before .before .before .before .before .before .pre))
+learn-requires-2 c κs =
+    let row-checks-2 = c .before .before .before .row-checks-2 in
+    let if2 = c .before .before .before .before .if2 in
+    let products = c .before .before .before .before .before .before .products in
+    let args = c .before .before .before .before .before .before .before .args in
+    let pre = c .before .before .before .before .before .before .before .pre in
+    ((products .ensures, row-checks-2 .ensures), subst (λ p. args .level < length (planOf p .levels)) (if2 .taken) (pre))
 
 returns-2 : tie.Need-returns-2
-returns-2 c = let s = c .before .before .before .before .before .before .before .before in
-    learns-at (c .before .before .before .before .before .if2 .taken) (s .args .level) (s .args .symbols .now) (s .args .marks .now) (s .args .sums .now) (c .learn2 .ensures)
+returns-2 c =
+    let if2 = c .before .before .before .before .before .if2 in
+    let s = c .before .before .before .before .before .before .before .before in
+    learns-at (if2 .taken) (s .args .level) (s .args .symbols .now) (s .args .marks .now) (s .args .sums .now) (c .learn2 .ensures)
 
 row-checks-3-requires : tie.Need-row-checks-3-requires
 row-checks-3-requires c κs = search needs
@@ -58,11 +74,21 @@ slice-aggregate-learn-3 : tie.Need-slice-aggregate-learn-3
 slice-aggregate-learn-3 c = search needs
 
 learn-requires-3 : tie.Need-learn-requires-3
-learn-requires-3 c κs = ((c .before .before .before .before .before .before .products .ensures, c .before .before .before .row-checks-3 .ensures), subst (λ p. c .before .before .before .before .before .before .before .args .level < length (planOf p .levels)) (third _ (levels-known _ _ (c .before .before .before .before .before .before .before .pre)) (c .before .before .before .before .before .if1 .left) (c .before .before .before .before .if2 .left)) (c .before .before .before .before .before .before .before .pre))
+learn-requires-3 c κs =
+    let row-checks-3 = c .before .before .before .row-checks-3 in
+    let if2 = c .before .before .before .before .if2 in
+    let if1 = c .before .before .before .before .before .if1 in
+    let products = c .before .before .before .before .before .before .products in
+    let args = c .before .before .before .before .before .before .before .args in
+    let pre = c .before .before .before .before .before .before .before .pre in
+    ((products .ensures, row-checks-3 .ensures), subst (λ p. args .level < length (planOf p .levels)) (third _ (levels-known _ _ (pre)) (if1 .left) (if2 .left)) (pre))
 
 returns-3 : tie.Need-returns-3
-returns-3 c = let s = c .before .before .before .before .before .before .before .before in
-    learns-at (third _ (levels-known _ _ (c .before .before .before .before .before .before .before .before .pre)) (c .before .before .before .before .before .before .if1 .left) (c .before .before .before .before .before .if2 .left)) (s .args .level) (s .args .symbols .now) (s .args .marks .now) (s .args .sums .now) (c .learn3 .ensures)
+returns-3 c =
+    let if2 = c .before .before .before .before .before .if2 in
+    let if1 = c .before .before .before .before .before .before .if1 in
+    let s = c .before .before .before .before .before .before .before .before in
+    learns-at (third _ (levels-known _ _ (s .pre)) (if1 .left) (if2 .left)) (s .args .level) (s .args .symbols .now) (s .args .marks .now) (s .args .sums .now) (c .learn3 .ensures)
 
 pub learn-by-plan-spec : {M : Type 1} → statement M
 learn-by-plan-spec =

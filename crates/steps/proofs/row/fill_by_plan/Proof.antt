@@ -49,9 +49,12 @@ same-length : tie.Need-same-length
 same-length c = search needs
 
 returns : tie.Need-returns
-returns c = let s = c .before .before .before .before .before .before .before .before .before .before .before in
-    fills-at (c .before .before .before .before .before .before .before .if1 .taken) (s .args .level) (s .args .row) (s .args .word) (s .args .sums .now) (s .args .symbols .now)
-    (c .before .before .fill-row .ensures)
+returns c =
+    let fill-row = c .before .before .fill-row in
+    let if1 = c .before .before .before .before .before .before .before .if1 in
+    let s = c .before .before .before .before .before .before .before .before .before .before .before in
+    fills-at (if1 .taken) (s .args .level) (s .args .row) (s .args .word) (s .args .sums .now) (s .args .symbols .now)
+    (fill-row .ensures)
 
 row-checks-2-requires : tie.Need-row-checks-2-requires
 row-checks-2-requires c κs = search needs
@@ -72,9 +75,12 @@ same-length-2 : tie.Need-same-length-2
 same-length-2 c = search needs
 
 returns-2 : tie.Need-returns-2
-returns-2 c = let s = c .before .before .before .before .before .before .before .before .before .before .before .before in
-    fills-at (c .before .before .before .before .before .before .before .if2 .taken) (s .args .level) (s .args .row) (s .args .word) (s .args .sums .now) (s .args .symbols .now)
-    (c .before .before .fill-row2 .ensures)
+returns-2 c =
+    let fill-row2 = c .before .before .fill-row2 in
+    let if2 = c .before .before .before .before .before .before .before .if2 in
+    let s = c .before .before .before .before .before .before .before .before .before .before .before .before in
+    fills-at (if2 .taken) (s .args .level) (s .args .row) (s .args .word) (s .args .sums .now) (s .args .symbols .now)
+    (fill-row2 .ensures)
 
 row-checks-3-requires : tie.Need-row-checks-3-requires
 row-checks-3-requires c κs = search needs
@@ -83,21 +89,30 @@ slice-aggregate-fill-row-3 : tie.Need-slice-aggregate-fill-row-3
 slice-aggregate-fill-row-3 c = search needs
 
 fill-row-requires-3 : tie.Need-fill-row-requires-3
-fill-row-requires-3 c κs = let s = c .before .before .before .before .before .before .before .before .before in (
-  c .before .before .before .before .before .before .products .ensures,
-  (
-    c .before .before .before .row-checks-3 .ensures,
-    (subst (λ p. Fits p (s .args .level) (s .args .row) (s .args .word) (s .args .sums .now)) (third _ (c .before .before .before .before .before .before .before .before .before .pre .0 .0) (c .before .before .before .before .before .if1 .left) (c .before .before .before .before .if2 .left)) (s .pre .0), s .pre .1),
-  ),
-)
+fill-row-requires-3 c κs =
+    let row-checks-3 = c .before .before .before .row-checks-3 in
+    let if2 = c .before .before .before .before .if2 in
+    let if1 = c .before .before .before .before .before .if1 in
+    let products = c .before .before .before .before .before .before .products in
+    let s = c .before .before .before .before .before .before .before .before .before in (
+      products .ensures,
+      (
+        row-checks-3 .ensures,
+        (subst (λ p. Fits p (s .args .level) (s .args .row) (s .args .word) (s .args .sums .now)) (third _ (s .pre .0 .0) (if1 .left) (if2 .left)) (s .pre .0), s .pre .1),
+      ),
+    )
 
 same-length-3 : tie.Need-same-length-3
 same-length-3 c = search needs
 
 returns-3 : tie.Need-returns-3
-returns-3 c = let s = c .before .before .before .before .before .before .before .before .before .before .before .before in
-    fills-at (third _ (c .before .before .before .before .before .before .before .before .before .before .before .before .pre .0 .0) (c .before .before .before .before .before .before .before .before .if1 .left) (c .before .before .before .before .before .before .before .if2 .left)) (s .args .level) (s .args .row) (s .args .word) (s .args .sums .now) (s .args .symbols .now)
-    (c .before .before .fill-row3 .ensures)
+returns-3 c =
+    let fill-row3 = c .before .before .fill-row3 in
+    let if2 = c .before .before .before .before .before .before .before .if2 in
+    let if1 = c .before .before .before .before .before .before .before .before .if1 in
+    let s = c .before .before .before .before .before .before .before .before .before .before .before .before in
+    fills-at (third _ (s .pre .0 .0) (if1 .left) (if2 .left)) (s .args .level) (s .args .row) (s .args .word) (s .args .sums .now) (s .args .symbols .now)
+    (fill-row3 .ensures)
 
 pub fill-by-plan-spec : {M : Type 1} → statement M
 fill-by-plan-spec =

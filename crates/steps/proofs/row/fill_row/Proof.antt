@@ -18,16 +18,18 @@ use Rattle.plans.proofs.plan.sums_to.Reads as sums-to-reads
 
 lent : (c : tie.After-sums-to) → Lent (c .before .before .before .before .before .args .plan) (c .before .before .before .before .before .args .level) (c .before .facts-of .result) (c .sums-to .result)
     (now (c .before .before .before .before .before .args .checks)) (now (c .before .before .before .before .before .args .sums)) (now (c .before .before .before .before .before .args .symbols)) (c .before .before .before .before .before .args .row)
-lent c = record {
-  facts = c .before .facts-of .ensures;
-  count = c .sums-to .ensures;
-  table = c .before .before .before .before .before .pre .1 .0;
-  plan-known = c .before .before .before .before .before .pre .1 .1 .0 .0;
-  inside = c .before .before .before .before .before .pre .1 .1 .0 .1;
-  small = c .before .before .before .before .before .pre .1 .1 .0 .3;
-  long = c .before .before .before .before .before .pre .1 .1 .1 .0;
-  wide = c .before .before .before .before .before .pre .1 .1 .1 .1;
-}
+lent c =
+    let pre = c .before .before .before .before .before .pre in
+    record {
+      facts = c .before .facts-of .ensures;
+      count = c .sums-to .ensures;
+      table = pre .1 .0;
+      plan-known = pre .1 .1 .0 .0;
+      inside = pre .1 .1 .0 .1;
+      small = pre .1 .1 .0 .3;
+      long = pre .1 .1 .1 .0;
+      wide = pre .1 .1 .1 .1;
+    }
 
 facts-of-requires : tie.Need-facts-of-requires
 facts-of-requires c κs = search needs
@@ -78,16 +80,20 @@ part-fill-end-2 : tie.Need-part-fill-end-2
 part-fill-end-2 c = omega (arith, row-end (lent (c .before .before .before)), c .before .before .before .before .before .before .before .before .pre .1 .1 .1 .0)
 
 fill-requires : tie.Need-fill-requires
-fill-requires c κs = let start = c .before .before .before .before .before .before .before .before .before in (start .pre .0, fits (lent (c .before .before .before .before)) _ (start .pre .1 .1 .0 .2))
+fill-requires c κs =
+    let here = c .before .before .before .before in
+    let start = c .before .before .before .before .before .before .before .before .before in (start .pre .0, fits (lent here) _ (start .pre .1 .1 .0 .2))
 
 same-length : tie.Need-same-length
 same-length c = search needs
 
 returns-2 : tie.Need-returns-2
 returns-2 c =
-    let l = lent (c .before .before .before .before .before .before .before) in (
-      c .before .before .fill .ensures .0 ∙ ap answerOf (fill-is l _),
-      put-back l (c .before .before .fill .last .1 .1 .1 .1 .0) (c .before .before .fill .kept .1 .1 .1 .1 .0) ∙ ap (sets _ _) (c .before .before .fill .ensures .1 ∙ ap₂ vectorOf (fill-is l _) (row-is l)),
+    let fill = c .before .before .fill in
+    let here = c .before .before .before .before .before .before .before in
+    let l = lent here in (
+      fill .ensures .0 ∙ ap answerOf (fill-is l _),
+      put-back l (fill .last .1 .1 .1 .1 .0) (fill .kept .1 .1 .1 .1 .0) ∙ ap (sets _ _) (fill .ensures .1 ∙ ap₂ vectorOf (fill-is l _) (row-is l)),
     )
 
 pub fill-row-spec : {M : Type 1} → statement M

@@ -45,7 +45,10 @@ shared-slice-read-if1 : tie.Need-shared-slice-read-if1 Inv-loop μ-loop
 shared-slice-read-if1 c = omega (arith, c .before .before .before .before .before .before .pre, c .before .before .before .before .rows .ensures)
 
 cast-if1 : tie.Need-cast-if1 Inv-loop μ-loop
-cast-if1 c = omega (arith, ones-le 32 (getD (now (c .before .before .before .before .before .before .args .marks)) (c .before .before .loop .r) 0) (omega (arith, c .shared-slice-known2 .given (c .before .before .loop .r))))
+cast-if1 c =
+    let loop = c .before .before .loop in
+    let args = c .before .before .before .before .before .before .args in
+    omega (arith, ones-le 32 (getD (now (args .marks)) (loop .r) 0) (omega (arith, c .shared-slice-known2 .given (loop .r))))
 
 returns : tie.Need-returns Inv-loop μ-loop
 returns c = sym (up-false _ _ _ (c .before .before .loop-test .taken) (le-ltb _ _ (c .if1 .taken))) ∙ by-plan (c .before .before .before .before)

@@ -24,7 +24,10 @@ bench c = let a = c .args in benchOf (a .plan) (a .level) (now (a .symbols)) (no
 
 -- nothing is refused of it, nor of the row
 fits : (c : tie.Else1) → let start = c .before .before .before .before .before in (benchRefusal (bench start) unasked ≡ 0) × (start .args .row < planOf (start .args .plan) .rows)
-fits c = row-fits (bench (c .before .before .before .before .before)) _ _ _ (c .before .before .before .before .rows .ensures) (c .before .bench-refusal .ensures) (c .if1 .left)
+fits c =
+    let rows = c .before .before .before .before .rows in
+    let here = c .before .before .before .before .before in
+    row-fits (bench here) _ _ _ (rows .ensures) (c .before .bench-refusal .ensures) (c .if1 .left)
 
 fit : (c : tie.Else1) → BenchFit (bench (c .before .before .before .before .before))
 fit c = bench-fit (bench (c .before .before .before .before .before)) _ (fits c .0) .0
@@ -35,14 +38,18 @@ within c = omega (arith, shape _ (fit c .plan-known) .rows-le, fits c .1)
 
 -- the step is taken
 taken : (c : tie.Else1) → let start = c .before .before .before .before .before in rowStepBy (bench start) (start .args .row) (rowFill (bench start) (start .args .row)) ≡ rowStep (bench start) (start .args .row)
-taken c = row-taken (bench (c .before .before .before .before .before)) _ _ _ (c .before .before .before .before .rows .ensures) (c .before .bench-refusal .ensures) (c .if1 .left)
+taken c =
+    let rows = c .before .before .before .before .rows in
+    let here = c .before .before .before .before .before in
+    row-taken (bench here) _ _ _ (rows .ensures) (c .before .bench-refusal .ensures) (c .if1 .left)
 
 -- the row's symbols stand in the room
 place : (c : tie.After-fill-by-plan-arg) → let start = c .before .before .before .before .before .before .before in let n = planOf (start .args .plan) .columns in
     start .args .row * n + n ≤ length (now (start .args .symbols))
 place c =
+    let args = c .before .before .before .before .before .before .before .args in
     let here = c .before .before in
-    omega (arith, c .fill-by-plan-arg .given, row-end (planOf (c .before .before .before .before .before .before .before .args .plan) .columns) (fits here .1), shape _ (fit here .plan-known) .symbols-le)
+    omega (arith, c .fill-by-plan-arg .given, row-end (planOf (args .plan) .columns) (fits here .1), shape _ (fit here .plan-known) .symbols-le)
 
 rows-requires : tie.Need-rows-requires
 rows-requires c κs = search needs
@@ -51,7 +58,10 @@ bench-refusal-requires : tie.Need-bench-refusal-requires
 bench-refusal-requires c κs = search needs
 
 returns : tie.Need-returns
-returns c = row-refused (bench (c .before .before .before .before .before)) _ _ _ (c .before .before .before .before .rows .ensures) (c .before .bench-refusal .ensures) (c .if1 .taken)
+returns c =
+    let rows = c .before .before .before .before .rows in
+    let here = c .before .before .before .before .before in
+    row-refused (bench here) _ _ _ (rows .ensures) (c .before .bench-refusal .ensures) (c .if1 .taken)
 
 mul-word : tie.Need-mul-word
 mul-word c = record { fits = omega (arith, within c) }
@@ -83,26 +93,42 @@ element-write-marks c = within (c .before .before .before .before .before .befor
 returns-2 : tie.Need-returns-2
 unfolding rowFill marksAt
 returns-2 c =
-    let fill = c .before .before .before .fill-by-plan .ensures in
-    stepping-whole (bench (c .before .before .before .before .before .before .before .before .before .before .before .before)) _ _ (fill .0) _ (arm-one _ (c .before .before .match .keys3)) (fill .1) (c .if2 .taken) ∙ taken (c .before .before .before .before .before .before .before)
+    let match = c .before .before .match in
+    let fill-by-plan = c .before .before .before .fill-by-plan in
+    let here = c .before .before .before .before .before .before .before in
+    let here2 = c .before .before .before .before .before .before .before .before .before .before .before .before in
+    let fill = fill-by-plan .ensures in
+    stepping-whole (bench here2) _ _ (fill .0) _ (arm-one _ (match .keys3)) (fill .1) (c .if2 .taken) ∙ taken here
 
 returns-3 : tie.Need-returns-3
 unfolding rowFill marksAt
 returns-3 c =
-    let fill = c .before .before .fill-by-plan .ensures in
-    stepping-tied (bench (c .before .before .before .before .before .before .before .before .before .before .before)) _ _ (fill .0) _ (place (c .before .before .before .before)) (fill .1) (arm-tied _ (c .before .match .keys1)) ∙ taken (c .before .before .before .before .before .before)
+    let fill-by-plan = c .before .before .fill-by-plan in
+    let here = c .before .before .before .before in
+    let here2 = c .before .before .before .before .before .before in
+    let here3 = c .before .before .before .before .before .before .before .before .before .before .before in
+    let fill = fill-by-plan .ensures in
+    stepping-tied (bench here3) _ _ (fill .0) _ (place here) (fill .1) (arm-tied _ (c .before .match .keys1)) ∙ taken here2
 
 returns-4 : tie.Need-returns-4
 unfolding rowFill marksAt
 returns-4 c =
-    let fill = c .before .before .fill-by-plan .ensures in
-    stepping-none (bench (c .before .before .before .before .before .before .before .before .before .before .before)) _ _ (fill .0) _ (place (c .before .before .before .before)) (fill .1) (arm-none _ (c .before .match .keys2)) ∙ taken (c .before .before .before .before .before .before)
+    let fill-by-plan = c .before .before .fill-by-plan in
+    let here = c .before .before .before .before in
+    let here2 = c .before .before .before .before .before .before in
+    let here3 = c .before .before .before .before .before .before .before .before .before .before .before in
+    let fill = fill-by-plan .ensures in
+    stepping-none (bench here3) _ _ (fill .0) _ (place here) (fill .1) (arm-none _ (c .before .match .keys2)) ∙ taken here2
 
 returns-5 : tie.Need-returns-5
 unfolding rowFill marksAt
 returns-5 c =
-    let fill = c .before .before .before .fill-by-plan .ensures in
-    stepping-filled (bench (c .before .before .before .before .before .before .before .before .before .before .before .before)) _ _ (fill .0) _ (arm-one _ (c .before .before .match .keys3)) (fill .1) (c .if2 .left) ∙ taken (c .before .before .before .before .before .before .before)
+    let match = c .before .before .match in
+    let fill-by-plan = c .before .before .before .fill-by-plan in
+    let here = c .before .before .before .before .before .before .before in
+    let here2 = c .before .before .before .before .before .before .before .before .before .before .before .before in
+    let fill = fill-by-plan .ensures in
+    stepping-filled (bench here2) _ _ (fill .0) _ (arm-one _ (match .keys3)) (fill .1) (c .if2 .left) ∙ taken here
 
 pub step-row-spec : {M : Type 1} → statement M
 step-row-spec =

@@ -45,9 +45,12 @@ slice-read-word c = omega (arith, marked (c .before), c .before .before .loop .i
 
 fill-row-requires : tie.Need-fill-row-requires Inv-loop μ-loop
 fill-row-requires c κs =
-    let pre = c .before .before .before .before .before .before .before .before .before .before .pre in
-    let w = c .before .before .before .before .loop .inv in
-    let h = inside (c .before .before .before) in
+    let here = c .before .before .before in
+    let loop = c .before .before .before .before .loop in
+    let pre2 = c .before .before .before .before .before .before .before .before .before .before .pre in
+    let pre = pre2 in
+    let w = loop .inv in
+    let h = inside here in
     (pre .0, (pre .1 .0, ((w .sound .fit .plan-known, h, w .sound .fit .mark-lt _ h, fit-sums _ _ _ (w .sound .fit .sums-fits)), (w .sound .sized .symbols, w .sound .sized .sums))))
 
 enum-told : tie.Need-enum-told Inv-loop μ-loop
@@ -64,8 +67,11 @@ same-length-2 c = search needs
 
 returns : tie.Need-returns Inv-loop μ-loop
 returns c =
-    answered-none _ _ _ _ _ _ _ _ _ (c .before .before .before .before .before .before .before .before .before .loop .inv) (inside (c .before .before .before .before .before .before .before .before)) _ _ (c .before .before .before .before .fill-row .ensures .0) (arm-none _ (c .before .match .keys2))
-    (c .before .before .before .before .fill-row .ensures .1)
+    let fill-row = c .before .before .before .before .fill-row in
+    let here = c .before .before .before .before .before .before .before .before in
+    let loop = c .before .before .before .before .before .before .before .before .before .loop in
+    answered-none _ _ _ _ _ _ _ _ _ (loop .inv) (inside here) _ _ (fill-row .ensures .0) (arm-none _ (c .before .match .keys2))
+    (fill-row .ensures .1)
 
 enum-told-3 : tie.Need-enum-told-3 Inv-loop μ-loop
 enum-told-3 c = search needs
@@ -74,7 +80,10 @@ mul-marks : tie.Need-mul-marks Inv-loop μ-loop
 mul-marks c = record { fits = omega (arith, marked (c .before .before .before .before .before .before .before .before .before)) }
 
 slice-write-marks : tie.Need-slice-write-marks Inv-loop μ-loop
-slice-write-marks c = omega (arith, marked (c .before .before .before .before .before .before .before .before .before), c .before .before .before .before .before .before .before .before .before .before .loop .inv .sound .sized .marks)
+slice-write-marks c =
+    let here = c .before .before .before .before .before .before .before .before .before in
+    let loop = c .before .before .before .before .before .before .before .before .before .before .loop in
+    omega (arith, marked here, loop .inv .sound .sized .marks)
 
 add-filled : tie.Need-add-filled Inv-loop μ-loop
 add-filled c = search needs

@@ -37,7 +37,11 @@ shr-rows : tie.Need-shr-rows Inv-loop μ-loop
 shr-rows c = search needs
 
 mul-rows-3 : tie.Need-mul-rows-3 Inv-loop μ-loop
-mul-rows-3 c = omega (arith, c .before .before .before .before .fits .own .fits, times-le (c .before .before .before .before .args .own) _ (bit (vec (c .before .before .before .loop .rows) (c .before .before .before .loop .x) / 2 ^ c .before .before .before .before .args .c)))
+mul-rows-3 c =
+    let loop = c .before .before .before .loop in
+    let args = c .before .before .before .before .args in
+    let fits = c .before .before .before .before .fits in
+    omega (arith, fits .own .fits, times-le (args .own) _ (bit (vec (loop .rows) (loop .x) / 2 ^ args .c)))
 
 mul-rows-4 : tie.Need-mul-rows-4 Inv-loop μ-loop
 mul-rows-4 c = search needs

@@ -58,8 +58,11 @@ slice-read-own-2 : tie.Need-slice-read-own-2 Inv-loop μ-loop
 slice-read-own-2 c = search needs
 
 mul-own-3 : tie.Need-mul-own-3 Inv-loop μ-loop
-mul-own-3 c = let rows = c .before .before .before .before .before .before .before .loop .rows in
-    omega (arith, c .slice-known4 .given (c .before .before .before .before .find-row .result), times-le (vec rows (c .before .before .before .before .find-row .result)) (1 - bitAt (vec rows (c .before .before .before .before .before .before .before .loop .c)) (c .before .before .before .before .before .before .before .loop .c)) (omega arith))
+mul-own-3 c =
+    let find-row = c .before .before .before .before .find-row in
+    let loop = c .before .before .before .before .before .before .before .loop in
+    let rows = loop .rows in
+    omega (arith, c .slice-known4 .given (find-row .result), times-le (vec rows (find-row .result)) (1 - bitAt (vec rows (loop .c)) (loop .c)) (omega arith))
 
 add-to-rows-requires : tie.Need-add-to-rows-requires Inv-loop μ-loop
 add-to-rows-requires c κs = search needs
@@ -78,18 +81,24 @@ loop-less c = search needs
 
 loop-again : tie.Need-loop-again Inv-loop μ-loop
 unfolding _⊕_
-loop-again c = let s = c .before .before .before .before .before .before .before .before .before .before .before .before .before in
-    let found = c .before .before .before .before .before .before .before .before .find-row in
-    let added = c .before .before .add-to-rows in
-    packing-turn _ _ (added .last .0) _ _ _ (found .result) _ _ (c .before .before .before .before .before .before .before .before .before .before .before .loop .inv) (found .ensures) (omega arith) (omega arith) (omega arith) refl refl
+loop-again c =
+    let add-to-rows = c .before .before .add-to-rows in
+    let find-row = c .before .before .before .before .before .before .before .before .find-row in
+    let loop = c .before .before .before .before .before .before .before .before .before .before .before .loop in
+    let s = c .before .before .before .before .before .before .before .before .before .before .before .before .before in
+    let found = find-row in
+    let added = add-to-rows in
+    packing-turn _ _ (added .last .0) _ _ _ (found .result) _ _ (loop .inv) (found .ensures) (omega arith) (omega arith) (omega arith) refl refl
     (added .kept .0) (added .ensures)
 
 same-length-2 : tie.Need-same-length-2 Inv-loop μ-loop
 same-length-2 c = search needs
 
 returns-2 : tie.Need-returns-2 Inv-loop μ-loop
-returns-2 c = let inv = c .before .loop .inv in
-    let e : c .before .loop .c ≡ c .before .before .before .args .k = omega (arith, inv .upto) in ((omega arith, rw e at (inv .form)), ((λ l. absurd (omega arith)), inv .same))
+returns-2 c =
+    let args = c .before .before .before .args in
+    let inv = c .before .loop .inv in
+    let e : c .before .loop .c ≡ args .k = omega (arith, inv .upto) in ((omega arith, rw e at (inv .form)), ((λ l. absurd (omega arith)), inv .same))
 
 pub reduce-spec : {M : Type 1} → statement M
 reduce-spec =

@@ -15,7 +15,10 @@ same-length : tie.Need-same-length
 same-length c = search needs
 
 returns : tie.Need-returns
-returns c = (put-then (c .before .before .before .before .before .before .put .ensures) (c .before .before .put-number .ensures .0), omega (arith, c .before .before .before .before .before .before .put .ensures .reached, c .before .before .put-number .ensures .1))
+returns c =
+    let put-number = c .before .before .put-number in
+    let put = c .before .before .before .before .before .before .put in
+    (put-then (put .ensures) (put-number .ensures .0), omega (arith, put .ensures .reached, put-number .ensures .1))
 
 pub put-item-spec : {M : Type 1} → statement M
 put-item-spec = tie.close (tie.spec put-requires put-number-requires same-length returns)

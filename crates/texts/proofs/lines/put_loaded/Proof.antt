@@ -34,15 +34,22 @@ rows c = c .facts-of .ensures .rows ∙ ap (λ p. planOf p .rows) (c .before .pl
 -- what was loaded
 stripe : (c : tie.After-load) → take (c .before .before .before .facts-of .result .symbols) (c .load .last .1 .0) ≡ symbolsIn (now (c .before .before .before .before .before .before .before .args .file))
 stripe c =
-    let n = size (c .before .before .before) in
-    ap (take (c .before .before .before .facts-of .result .symbols)) (c .load .ensures .0)
-    ∙ front-set _ _ (replicate 256 0) (sym n) (omega (arith, n, length-symbols-in _ (fit (c .before .before .before .before .before .before .before) .whole), room (c .before .before .before .before .before .before .before)))
+    let here = c .before .before .before in
+    let facts-of = c .before .before .before .facts-of in
+    let here2 = c .before .before .before .before .before .before .before in
+    let n = size here in
+    ap (take (facts-of .result .symbols)) (c .load .ensures .0)
+    ∙ front-set _ _ (replicate 256 0) (sym n) (omega (arith, n, length-symbols-in _ (fit here2 .whole), room here2))
 
 marks : (c : tie.After-load) → take (c .before .before .before .facts-of .result .rows) (c .load .last .1 .1 .0) ≡ marksIn (now (c .before .before .before .before .before .before .before .args .file))
 marks c =
-    let n = rows (c .before .before .before) in
-    ap (take (c .before .before .before .facts-of .result .rows)) (c .load .ensures .1)
-    ∙ front-set _ _ (replicate 8 0) (sym n) (omega (arith, n, length-marks-in (now (c .before .before .before .before .before .before .before .args .file)), room (c .before .before .before .before .before .before .before)))
+    let here = c .before .before .before in
+    let facts-of = c .before .before .before .facts-of in
+    let here2 = c .before .before .before .before .before .before .before in
+    let args = c .before .before .before .before .before .before .before .args in
+    let n = rows here in
+    ap (take (facts-of .result .rows)) (c .load .ensures .1)
+    ∙ front-set _ _ (replicate 8 0) (sym n) (omega (arith, n, length-marks-in (now (args .file)), room here2))
 
 plan-in-requires : tie.Need-plan-in-requires
 plan-in-requires c κs = search needs
@@ -61,14 +68,21 @@ load-requires c κs = let s = c .before .before .before .before .before .before 
 
 array-borrow-prefix-stripe : tie.Need-array-borrow-prefix-stripe
 array-borrow-prefix-stripe c =
-    omega (arith, size (c .before .before .before .before .before), length-symbols-in _ (fit (c .before .before .before .before .before .before .before .before .before) .whole), room (c .before .before .before .before .before .before .before .before .before), c .before .before .load .kept .1 .0)
+    let load = c .before .before .load in
+    let here = c .before .before .before .before .before in
+    let here2 = c .before .before .before .before .before .before .before .before .before in
+    omega (arith, size here, length-symbols-in _ (fit here2 .whole), room here2, load .kept .1 .0)
 
 slice-aggregate-put-mended : tie.Need-slice-aggregate-put-mended
 slice-aggregate-put-mended c = size (c .before .before .before .before .before .before) ∙ ap length (sym (stripe (c .before .before .before)))
 
 array-borrow-prefix-marks : tie.Need-array-borrow-prefix-marks
 array-borrow-prefix-marks c =
-    omega (arith, rows (c .before .before .before .before .before .before), length-marks-in (now (c .before .before .before .before .before .before .before .before .before .before .args .file)), room (c .before .before .before .before .before .before .before .before .before .before), c .before .before .before .load .kept .1 .1 .0)
+    let load = c .before .before .before .load in
+    let here = c .before .before .before .before .before .before in
+    let here2 = c .before .before .before .before .before .before .before .before .before .before in
+    let args = c .before .before .before .before .before .before .before .before .before .before .args in
+    omega (arith, rows here, length-marks-in (now (args .file)), room here2, load .kept .1 .1 .0)
 
 slice-aggregate-put-mended-2 : tie.Need-slice-aggregate-put-mended-2
 slice-aggregate-put-mended-2 c = rows (c .before .before .before .before .before .before .before) ∙ ap length (sym (marks (c .before .before .before .before)))
@@ -87,11 +101,15 @@ same-length c = search needs
 
 returns : tie.Need-returns
 returns c =
-    let file = now (c .before .before .before .before .before .before .before .before .before .before .before .before .before .before .before .before .before .args .file) in
-    let p = c .before .before .before .before .before .before .before .before .before .before .before .before .before .before .plan-in in
+    let put-mended = c .before .before .before .before .put-mended in
+    let here = c .before .before .before .before .before .before .before .before .before .before in
+    let plan-in = c .before .before .before .before .before .before .before .before .before .before .before .before .before .before .plan-in in
+    let args = c .before .before .before .before .before .before .before .before .before .before .before .before .before .before .before .before .before .args in
+    let file = now (args .file) in
+    let p = plan-in in
     put-is
-    (sym (ap₂ (mendText (p .result)) (stripe (c .before .before .before .before .before .before .before .before .before .before)) (marks (c .before .before .before .before .before .before .before .before .before .before)) ∙ ap (λ k. mendText k (symbolsIn file) (marksIn file)) (p .ensures)))
-    (c .before .before .before .before .put-mended .ensures)
+    (sym (ap₂ (mendText (p .result)) (stripe here) (marks here) ∙ ap (λ k. mendText k (symbolsIn file) (marksIn file)) (p .ensures)))
+    (put-mended .ensures)
 
 pub put-loaded-spec : {M : Type 1} → statement M
 put-loaded-spec =

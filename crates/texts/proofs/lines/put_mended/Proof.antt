@@ -8,20 +8,27 @@ use Rattle.texts.proofs.lines.put_mended.Statement.{statement}
 use Rattle.texts.proofs.lines.put_mended.Tie as tie
 
 printable : (c : tie.After-mend) → let m = c .mend in Printable (c .before .before .before .before .before .before .args .plan) (m .result) (m .last .1 .0) (m .last .1 .1 .0)
-printable c = let e = c .mend .ensures in mend-printable _ _ _ (c .before .before .before .before .before .before .pre .0) (e .0) (e .1 .0) (e .1 .1)
+printable c =
+    let pre = c .before .before .before .before .before .before .pre in
+    let e = c .mend .ensures in mend-printable _ _ _ (pre .0) (e .0) (e .1 .0) (e .1 .1)
 
 mend-requires : tie.Need-mend-requires
 mend-requires c κs = search needs
 
 put-answer-requires : tie.Need-put-answer-requires
 put-answer-requires c κs =
-    let f = printable (c .before .before .before .before .before) in (omega (arith, known-below _ (f .plan-known)), f .answer, omega (arith, c .before .before .before .before .before .before .before .before .before .before .before .pre .1))
+    let here = c .before .before .before .before .before in
+    let pre = c .before .before .before .before .before .before .before .before .before .before .before .pre in
+    let f = printable here in (omega (arith, known-below _ (f .plan-known)), f .answer, omega (arith, pre .1))
 
 put-report-requires : tie.Need-put-report-requires
 put-report-requires c κs =
-    let f = printable (c .before .before .before .before .before .before .before .before .before .before .before) in
-    let answer = c .before .before .before .before .before .put-answer in
-    (f .plan-known, (f .words, (f .long, (f .symbols, (f .values, omega (arith, answer .ensures .1, answer .kept .1 .1 .0, c .before .before .before .before .before .before .before .before .before .before .before .before .before .before .before .before .before .pre .1))))))
+    let put-answer = c .before .before .before .before .before .put-answer in
+    let here = c .before .before .before .before .before .before .before .before .before .before .before in
+    let pre = c .before .before .before .before .before .before .before .before .before .before .before .before .before .before .before .before .before .pre in
+    let f = printable here in
+    let answer = put-answer in
+    (f .plan-known, (f .words, (f .long, (f .symbols, (f .values, omega (arith, answer .ensures .1, answer .kept .1 .1 .0, pre .1))))))
 
 same-length : tie.Need-same-length
 same-length c = search needs
@@ -34,8 +41,11 @@ same-length-3 c = search needs
 
 returns : tie.Need-returns
 returns c =
-    let e = c .before .before .before .before .before .before .before .before .before .before .before .before .before .before .mend .ensures in
-    put-is (text-mended _ _ _ (e .0) (e .1 .0) (e .1 .1)) (put-then (c .before .before .before .before .before .before .before .before .put-answer .ensures .0) (c .before .before .put-report .ensures))
+    let put-report = c .before .before .put-report in
+    let put-answer = c .before .before .before .before .before .before .before .before .put-answer in
+    let mend = c .before .before .before .before .before .before .before .before .before .before .before .before .before .before .mend in
+    let e = mend .ensures in
+    put-is (text-mended _ _ _ (e .0) (e .1 .0) (e .1 .1)) (put-then (put-answer .ensures .0) (put-report .ensures))
 
 pub put-mended-spec : {M : Type 1} → statement M
 put-mended-spec =

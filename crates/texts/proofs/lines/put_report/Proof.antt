@@ -47,7 +47,11 @@ enum-known-answer c = search needs
 
 put-clash-requires : tie.Need-put-clash-requires
 unfolding answerValues
-put-clash-requires c κs = (beside (c .before .before .before .before .before .before .before) (c .before .before .answer .given .1), omega (arith, c .before .before .before .before .before .before .before .pre .1 .1 .1 .1 .1))
+put-clash-requires c κs =
+    let answer = c .before .before .answer in
+    let here = c .before .before .before .before .before .before .before in
+    let pre = c .before .before .before .before .before .before .before .pre in
+    (beside here (answer .given .1), omega (arith, pre .1 .1 .1 .1 .1))
 
 enum-told-3 : tie.Need-enum-told-3
 enum-told-3 c = search needs
@@ -63,28 +67,44 @@ same-length c = search needs
 
 returns : tie.Need-returns
 unfolding follows reportText lineEnd
-returns c = put-is (ap (follows (c .before .before .before .before .before .before .before .before .before)) (c .before .before .before .before .enum-told .given .1)) (c .before .before .put-end .ensures)
+returns c =
+    let put-end = c .before .before .put-end in
+    let enum-told = c .before .before .before .before .enum-told in
+    let here = c .before .before .before .before .before .before .before .before .before in
+    put-is (ap (follows here) (enum-told .given .1)) (put-end .ensures)
 
 same-length-2 : tie.Need-same-length-2
 same-length-2 c = search needs
 
 returns-2 : tie.Need-returns-2
 unfolding follows reportText lineEnd
-returns-2 c = put-is (ap (follows (c .before .before .before .before .before .before .before .before .before)) (c .before .before .before .before .enum-told2 .given .1)) (c .before .before .put-end2 .ensures)
+returns-2 c =
+    let put-end2 = c .before .before .put-end2 in
+    let enum-told2 = c .before .before .before .before .enum-told2 in
+    let here = c .before .before .before .before .before .before .before .before .before in
+    put-is (ap (follows here) (enum-told2 .given .1)) (put-end2 .ensures)
 
 same-length-3 : tie.Need-same-length-3
 same-length-3 c = search needs
 
 returns-3 : tie.Need-returns-3
 unfolding follows reportText lineEnd
-returns-3 c = put-is (ap (follows (c .before .before .before .before .before .before .before .before .before .before)) (c .before .before .before .before .before .answer .given .1)) (c .before .before .put-clash .ensures)
+returns-3 c =
+    let put-clash = c .before .before .put-clash in
+    let answer = c .before .before .before .before .before .answer in
+    let here = c .before .before .before .before .before .before .before .before .before .before in
+    put-is (ap (follows here) (answer .given .1)) (put-clash .ensures)
 
 same-length-4 : tie.Need-same-length-4
 same-length-4 c = search needs
 
 returns-4 : tie.Need-returns-4
 unfolding follows reportText lineEnd
-returns-4 c = put-is (ap (follows (c .before .before .before .before .before .before .before .before .before .before)) (c .before .before .before .before .before .enum-told3 .given .1)) (c .before .before .put .ensures)
+returns-4 c =
+    let put = c .before .before .put in
+    let enum-told3 = c .before .before .before .before .before .enum-told3 in
+    let here = c .before .before .before .before .before .before .before .before .before .before in
+    put-is (ap (follows here) (enum-told3 .given .1)) (put .ensures)
 
 pub put-report-spec : {M : Type 1} → statement M
 put-report-spec =

@@ -54,11 +54,17 @@ same-length c = search needs
 returns : tie.Need-returns
 unfolding bytes lineEnd summary
 returns c =
-    let reached = c .before .before .before .before .before .before .before .before .before .before .before .before .before .before .before .before .before .before .put-reached .ensures in
-    let rows = c .before .before .before .before .before .before .before .before .before .before .before .before .before .put .ensures in
-    let counts = c .before .before .before .before .before .before .before .put-counts .ensures in
-    let end = c .before .before .put2 .ensures in
-    let levels = ap (λ n. flatMap (item " ") (take n (c .before .before .before .before .before .before .before .before .before .before .before .before .before .before .before .before .before .before .before .before .before .before .args .report .rows))) (sym (c .before .before .before .before .before .before .before .before .before .before .levels .ensures)) in (
+    let put2 = c .before .before .put2 in
+    let put-counts = c .before .before .before .before .before .before .before .put-counts in
+    let levels2 = c .before .before .before .before .before .before .before .before .before .before .levels in
+    let put = c .before .before .before .before .before .before .before .before .before .before .before .before .before .put in
+    let put-reached = c .before .before .before .before .before .before .before .before .before .before .before .before .before .before .before .before .before .before .put-reached in
+    let args = c .before .before .before .before .before .before .before .before .before .before .before .before .before .before .before .before .before .before .before .before .before .before .args in
+    let reached = put-reached .ensures in
+    let rows = put .ensures in
+    let counts = put-counts .ensures in
+    let end = put2 .ensures in
+    let levels = ap (λ n. flatMap (item " ") (take n (args .report .rows))) (sym (levels2 .ensures)) in (
       put-then (put-then (put-then (reached .0) rows) (put-is levels (counts .0))) end,
       omega (arith, reached .1, rows .reached, counts .1, end .reached),
     )

@@ -18,7 +18,10 @@ file-refusal-requires c κs = search needs
 put-refusal-requires : tie.Need-put-refusal-requires
 unfolding unasked
 put-refusal-requires c κs =
-    (omega (arith, c .before .before .file-refusal .ensures, refusal-below (now (c .before .before .before .before .before .args .file)) unasked), omega (arith, c .before .before .before .before .before .pre))
+    let file-refusal = c .before .before .file-refusal in
+    let args = c .before .before .before .before .before .args in
+    let pre = c .before .before .before .before .before .pre in
+    (omega (arith, file-refusal .ensures, refusal-below (now (args .file)) unasked), omega (arith, pre))
 
 same-length : tie.Need-same-length
 same-length c = search needs
@@ -26,8 +29,11 @@ same-length c = search needs
 returns : tie.Need-returns
 unfolding unasked
 returns c =
-    let e = c .before .before .before .before .before .file-refusal .ensures in
-    put-is (text-refused _ (λ z. c .before .before .before .before .if1 .taken (e ∙ z)) ∙ ap (λ n. item "refused " n ++ lineEnd) (sym e)) (c .before .before .put-refusal .ensures)
+    let put-refusal = c .before .before .put-refusal in
+    let if1 = c .before .before .before .before .if1 in
+    let file-refusal = c .before .before .before .before .before .file-refusal in
+    let e = file-refusal .ensures in
+    put-is (text-refused _ (λ z. if1 .taken (e ∙ z)) ∙ ap (λ n. item "refused " n ++ lineEnd) (sym e)) (put-refusal .ensures)
 
 put-loaded-requires : tie.Need-put-loaded-requires
 unfolding unasked
@@ -38,7 +44,11 @@ same-length-2 c = search needs
 
 returns-2 : tie.Need-returns-2
 unfolding unasked
-returns-2 c = put-is (text-loaded _ (sym (c .before .before .before .before .before .file-refusal .ensures) ∙ c .before .before .before .before .if1 .left)) (c .before .before .put-loaded .ensures)
+returns-2 c =
+    let put-loaded = c .before .before .put-loaded in
+    let if1 = c .before .before .before .before .if1 in
+    let file-refusal = c .before .before .before .before .before .file-refusal in
+    put-is (text-loaded _ (sym (file-refusal .ensures) ∙ if1 .left)) (put-loaded .ensures)
 
 pub put-text-spec : {M : Type 1} → statement M
 put-text-spec =
