@@ -1,4 +1,4 @@
--- What is shown of filling. Other crates cite Tests, Choices, Vectors, Filling and Flat.
+-- What is shown of filling. Other crates cite Tests, Choices, Vectors, Filling, Flat, Marked and Answers.
 pub mod Tests
 pub mod Choices
 pub mod Vectors

@@ -10,6 +10,7 @@ pub mod Turns
 pub mod Starts
 -- the rows of a round, and the row step
 pub mod Settled
+pub mod Checks
 pub mod Lending
 pub mod Walking
 pub mod Arms

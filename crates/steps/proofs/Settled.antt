@@ -13,7 +13,7 @@ use Rattle.field.specs.Field.{dot}
 use Rattle.field.proofs.Lists.{getD-map-below}
 use Rattle.linear.specs.Lists.{zeros}
 use Rattle.linear.specs.Marks.{bitsOf}
-use Rattle.linear.specs.Fill.{sumsOf, tied, one}
+use Rattle.linear.specs.Fill.{sumsOf, tied, none, one}
 use Rattle.linear.proofs.Choices.{agrees-alike, alike-at}
 use Rattle.linear.proofs.Filling.{Means, fill-means}
 use Rattle.linear.proofs.Vectors.{sums-append}
@@ -24,7 +24,7 @@ use Rattle.steps.specs.Learned.{benchOf}
 use Rattle.steps.specs.Walk.{HasSums, Settled}
 use Rattle.plans.specs.declared.Bench.{Bench}
 use Rattle.plans.proofs.Rows.{row-length, row-again, marks-length}
-use Rattle.steps.proofs.Unmarked.{Clear, bits-clear, clear-untied, clear-filled, clear-one}
+use Rattle.steps.proofs.Unmarked.{Clear, bits-clear, clear-untied, clear-filled, clear-one, clear-none}
 use Rattle.steps.proofs.Sums.{learnedAt}
 use Rattle.steps.proofs.Levels.{checks-suc}
 use Rattle.steps.proofs.Sound.{Sound, Ones, totalFill, filled-row, row-place, put-row, put-row-other, learned-ones, learned-length, raise-sums}
@@ -62,6 +62,13 @@ module _ (b : Bench) where
     whole-fill h =
         clear-one (P .field) (checksTo P (b .level)) (sumsAt P (b .level) (b .sums) r) (marksAt P (b .marks) r) (rowAt P (b .symbols) r) clear
         (long ∙ sym (marks-length P (b .marks) r)) h
+
+    -- or nothing, where it has not its sums
+    pub whole-none : (HasSums b r → ⊥) → rowFill b r ≡ none
+    unfolding rowFill
+    whole-none ne =
+        clear-none (P .field) (checksTo P (b .level)) (sumsAt P (b .level) (b .sums) r) (marksAt P (b .marks) r) (rowAt P (b .symbols) r) clear
+        (long ∙ sym (marks-length P (b .marks) r)) ne
 
     -- and putting it changes nothing
     pub put-whole : putRow b r (rowAt P (b .symbols) r) ≡ b

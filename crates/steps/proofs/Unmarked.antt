@@ -1,5 +1,5 @@
 -- A vector without marks: its fill is never tied, and the vector itself where its sums are the target. Assumes nothing.
-use mathlib.Core.Path.{_≡_, refl, sym, ap, ap₂, subst}
+use mathlib.Core.Path.{_≡_, refl, sym, ap, ap₂, _∙_, subst}
 use mathlib.Core.Bool.{Bool, true, false}
 use mathlib.Core.List.{List, [], _∷_, map}
 use Prim.Native.Nat.{ℕ, zero, suc, _/_, _%_, _^_}
@@ -12,10 +12,10 @@ use Rattle.field.specs.Lists.{upFrom}
 use Rattle.field.specs.Field.{Field}
 use Rattle.linear.specs.Lists.{vanish, zeros, first, rest}
 use Rattle.linear.specs.Marks.{bitsOf}
-use Rattle.linear.specs.Fill.{sumsOf, tied, one, fill}
+use Rattle.linear.specs.Fill.{sumsOf, tied, none, one, fill}
 use Rattle.linear.proofs.Tests.{zeros-vanish}
 use Rattle.linear.proofs.Choices.{Agrees}
-use Rattle.linear.proofs.Filling.{Independent, no-dependency, independent-of, Means, fill-means, fill-one}
+use Rattle.linear.proofs.Filling.{Independent, no-dependency, independent-of, Means, fill-means, fill-none, fill-one}
 
 -- no place is marked
 abbrev pub Clear : List Bool → Type 0
@@ -75,3 +75,8 @@ module _ (F : Field) where
       pub clear-filled : (w : List ℕ) → fill F checks target ms v ≡ one w → w ≡ v
       clear-filled w e =
           let m = subst (Means F checks target ms v) e (fill-means F checks target ms v) in clear-agrees ms v w c l (m .1 .agrees)
+
+      pub clear-none : (sumsOf F checks v ≡ target → ⊥) → fill F checks target ms v ≡ none
+      clear-none ne =
+          fill-none F checks target ms v (clear-independent checks ms c) (λ z f.
+          ne (ap (sumsOf F checks) (sym (clear-agrees ms v z c l (f .agrees))) ∙ f .meets))

@@ -3,15 +3,16 @@ use mathlib.Core.Path.{_≡_, refl, sym, ap, ap₂, _∙_, subst}
 use mathlib.Core.List.{List}
 use Prim.Native.Nat.{ℕ, suc, pred, _+_, _*_, _-_, _<_, _≤_}
 use native.Mathlib.Numerals.{add-one}
+use native.Mathlib.Decide.{ℕ-discrete}
 use native.Mathlib.Omega.{arith}
 use borrow.Author.Tests.{lt-ltb, le-ltb}
-use lib.ListN.{length, getD, set}
-use lib.Seq.{sets, getD-set-other}
+use lib.ListN.{length, drop, getD, set, length-map}
+use lib.Seq.{sets, ext-getD, getD-take, getD-drop, getD-set-other}
 use Rattle.field.specs.Lists.{if_then_else_}
 use Rattle.linear.specs.Marks.{bitsOf, answerOf, vectorOf}
-use Rattle.linear.specs.Fill.{Fill, tied, none, one, fill}
+use Rattle.linear.specs.Fill.{sumsOf, Fill, tied, none, one, fill}
 use Rattle.plans.specs.Plan.{planOf, checksTo, rowAt, marksAt}
-use Rattle.plans.specs.Refusal.{sumsAt, unasked, benchRefusal}
+use Rattle.plans.specs.Refusal.{room, sumsAt, unasked, benchRefusal}
 use Rattle.steps.specs.Steps.{rowFill, putRow}
 use Rattle.steps.specs.Rounds.{clash, turns}
 use Rattle.steps.specs.Learned.{benchOf}
@@ -23,7 +24,9 @@ use Rattle.linear.specs.declared.Outcome.the-variants.{Tied, None, One}
 use Rattle.plans.proofs.Rows.{of-rows, row-length, row-again}
 use Rattle.steps.proofs.Fit.{bench-fit, fit-bench}
 use Rattle.steps.proofs.Sound.{Sound, row-place, sound-put}
-use Rattle.steps.proofs.Settled.{whole-untied, whole-row, whole-fill, put-whole, put-has, put-has-other}
+use Rattle.plans.proofs.Shape.{shape}
+use Rattle.steps.proofs.Levels.{checks-le, sums-length}
+use Rattle.steps.proofs.Settled.{whole-untied, whole-fill, whole-none, put-whole, put-has, put-has-other}
 use Rattle.steps.proofs.Turns.{more-none, turn-tied, turn-none, turn-whole, turn-filled}
 
 -- a bench of the code's arrays that nothing is refused of
@@ -40,6 +43,14 @@ pub record Walking (p t : ℕ) (sums symbols₀ marks₀ symbols marks : List �
   pub turned : (n : ℕ) (restored : List ℕ) → pred t < length restored
       → turns (planOf p .rows + n) (standingOf (benchOf p t symbols₀ marks₀ sums) 0 restored)
       ≡ turns (planOf p .rows - row + n) (standingOf (benchOf p t symbols marks sums) row (more t filled restored))
+
+-- how many checks a row without marks is tested by: all of them at level 1, none above
+pub record Tested (p t count : ℕ) : Type 0 where
+  pub first : t ≡ 1 → count ≡ length (checksTo (planOf p) t)
+  pub later : (t ≡ 1 → ⊥) → count ≡ 0
+
+pub tested-within : (p t count : ℕ) → Tested p t count → count ≤ length (checksTo (planOf p) t)
+tested-within p t count w = elim (ℕ-discrete t 1) [ yes e ↦ omega (arith, w .first e) | no ne ↦ omega (arith, w .later ne) ]
 
 module _ (p t : ℕ) (sums symbols₀ marks₀ : List ℕ) where
   pub walking-start : Sound (benchOf p t symbols₀ marks₀ sums) → ((t ≡ 1 → ⊥) → Settled (benchOf p t symbols₀ marks₀ sums))
@@ -95,8 +106,38 @@ module _ (p t : ℕ) (sums symbols₀ marks₀ : List ℕ) where
         (turn-whole b (W .sound .fit) row inside (rowAt (planOf p) symbols row) e z same)
 
     -- above level 1 it is not looked at: it has its sums
-    pub walking-passed : (t ≡ 1 → ⊥) → getD marks row 0 ≡ 0 → Walking p t sums symbols₀ marks₀ symbols marks (row + 1) filled
+    walking-passed : (t ≡ 1 → ⊥) → getD marks row 0 ≡ 0 → Walking p t sums symbols₀ marks₀ symbols marks (row + 1) filled
     walking-passed above z = walking-whole z (whole-fill b (W .sound) row inside z (W .settled row inside (λ e. absurd (above e)) z))
+
+    few-checks : length (checksTo (planOf p) t) ≤ room
+    few-checks = omega (arith, checks-le (planOf p) (W .sound .fit .level-le), shape p (W .sound .fit .plan-known) .sums-le)
+
+    own-sums : row * room + room ≤ length sums
+    own-sums = omega (arith, W .sound .sized .sums, shape p (W .sound .fit .plan-known) .rows-le)
+
+    abbrev sumsHere : List ℕ
+    sumsHere = sumsOf (planOf p .field) (checksTo (planOf p) t) (rowAt (planOf p) symbols row)
+
+    sum-at : (i : ℕ) → i < length (checksTo (planOf p) t) → getD (sumsAt (planOf p) t sums row) i 0 ≡ getD sums (row * room + i) 0
+    unfolding sumsAt
+    sum-at i h = getD-take (length (checksTo (planOf p) t)) (drop (row * room) sums) i 0 h ∙ getD-drop (row * room) sums i 0
+
+    -- every check was passed: the sums are those learned, one by one
+    walking-checked : getD marks row 0 ≡ 0 → ((i : ℕ) → i < length (checksTo (planOf p) t) → getD sumsHere i 0 ≡ getD sums (row * room + i) 0)
+        → Walking p t sums symbols₀ marks₀ symbols marks (row + 1) filled
+    unfolding sumsOf
+    walking-checked z h =
+        let e : length sumsHere ≡ length (checksTo (planOf p) t) = length-map (checksTo (planOf p) t) _ in
+        walking-whole z
+        (whole-fill b (W .sound) row inside z
+        (ext-getD 0 sumsHere (sumsAt (planOf p) t sums row) (e ∙ sym (sums-length (planOf p) t sums row few-checks own-sums))
+        (λ i l. h i (omega arith) ∙ sym (sum-at i (omega arith)))))
+
+    -- every check that it is tested by was passed
+    pub walking-tested : {count : ℕ} → Tested p t count → getD marks row 0 ≡ 0 → ((i : ℕ) → i < count → getD sumsHere i 0 ≡ getD sums (row * room + i) 0)
+        → Walking p t sums symbols₀ marks₀ symbols marks (row + 1) filled
+    walking-tested w z h =
+        elim (ℕ-discrete t 1) [ yes e ↦ walking-checked z (λ i l. h i (omega (arith, w .first e))) | no ne ↦ walking-passed ne z ]
 
     -- ---- a row with marks
 
@@ -136,6 +177,11 @@ module _ (p t : ℕ) (sums symbols₀ marks₀ : List ℕ) where
           ∙ turn-none b (W .sound .fit) row inside e (planOf p .rows - (row + 1) + n) (more t filled restored)
           ∙ ap (λ c. if c then clash (Row row t) else turns n (standingOf b (planOf p .rows) (more t filled restored))) (sym (lt-ltb row (planOf p .rows) inside));
     }
+
+    -- one check was not passed
+    pub walked-failed : getD marks row 0 ≡ 0 → (j : ℕ) → j < length (checksTo (planOf p) t) → (getD sumsHere j 0 ≡ getD sums (row * room + j) 0 → ⊥)
+        → Walked (benchOf p t symbols₀ marks₀ sums) b row filled
+    walked-failed z j h ne = walked-clash (whole-none b (W .sound) row inside z (λ e. ne (ap (λ l. getD l j 0) e ∙ sum-at j h)))
 
     -- ---- by what the row's fill answers
 
@@ -180,20 +226,6 @@ module _ (p t : ℕ) (sums symbols₀ marks₀ : List ℕ) where
         go none q h = let z : _≡_ {A = ℕ} 0 1 = cc in absurd (omega arith)
         go (one w) q h = subst (λ s. Walking p t sums symbols₀ marks₀ s (set marks row 0) (row + 1) (filled + 1))
             (sym (l ∙ ap (λ f. sets symbols (row * planOf p .columns) (vectorOf f (rowAt (planOf p) symbols row))) q)) (walking-filled w nz q)
-
-    pub answered-whole : (a : Outcome) (symbols′ : List ℕ) → getD marks row 0 ≡ 0 → a ≡ answerOf found → a ≡ One → Left symbols′
-        → Walking p t sums symbols₀ marks₀ symbols′ marks (row + 1) filled
-    unfolding answerOf vectorOf rowFill marksAt
-    answered-whole a symbols′ z e k l = go found refl (sym e ∙ k)
-      where
-        go : (f : Fill) → found ≡ f → answerOf f ≡ One → Walking p t sums symbols₀ marks₀ symbols′ marks (row + 1) filled
-        go tied q h = let z : _≡_ {A = ℕ} 0 1 = cc in absurd (omega arith)
-        go none q h = let z : _≡_ {A = ℕ} 0 1 = cc in absurd (omega arith)
-        go (one w) q h =
-            let same = whole-row b (W .sound) row inside z w q in
-            subst (λ s. Walking p t sums symbols₀ marks₀ s marks (row + 1) filled)
-            (sym (l ∙ ap (λ f. sets symbols (row * planOf p .columns) (vectorOf f (rowAt (planOf p) symbols row))) q ∙ same-row (one w) same))
-            (walking-whole z (q ∙ ap one same))
 
   -- no row's checks fail
   pub walked-end : (symbols marks : List ℕ) (row filled : ℕ) → Walking p t sums symbols₀ marks₀ symbols marks row filled → row ≡ planOf p .rows

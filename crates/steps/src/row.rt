@@ -5,16 +5,42 @@ use plans::refusal;
 ghost use mathlib.Core.Path.{_≡_};
 ghost use Prim.Native.Nat.{_+_, _*_, _^_, _<_, _≤_};
 ghost use lib.Dec.{T};
-ghost use lib.ListN.{length};
+ghost use lib.ListN.{length, getD};
 ghost use lib.Seq.{sets};
 ghost use Rattle.field.specs.Ours.{products};
 ghost use Rattle.linear.specs.Marks.{answerOf, vectorOf};
-ghost use Rattle.plans.specs.Plan.{planOf, known, rowAt};
+ghost use Rattle.linear.specs.Fill.{sumsOf};
+ghost use Rattle.plans.specs.Plan.{planOf, known, checksTo, rowAt};
 ghost use Rattle.plans.specs.Refusal.{sumsFit, benchRefusal, unasked};
 ghost use Rattle.steps.specs.Steps.{stepped, rowStep};
 ghost use Rattle.plans.specs.Tables.{checkTable};
 ghost use Rattle.steps.specs.Learned.{benchOf};
 ghost use Rattle.steps.specs.Walk.{Arrays, overMarked, fillAt, Settled, Walked};
+
+// The sum of row `row` under check j of levels 1 to t.
+fn check_sum(
+    plan: usize,
+    level: usize,
+    table: &[u8; 256],
+    checks: &[u8],
+    symbols: &[u8],
+    row: usize,
+    j: usize,
+) -> u8
+    requires { ⌜ now table ≡ products ⌝ }
+    requires { ⌜ now checks ≡ checkTable (planOf plan) ⌝ }
+    requires { ⌜ T (known plan) × (row < planOf plan .rows) × (j < length (checksTo (planOf plan) level)) × (length (now symbols) ≡ 256) ⌝ }
+    ensures { λ r. ⌜ r ≡ getD (sumsOf (planOf plan .field) (checksTo (planOf plan) level) (rowAt (planOf plan) (now (symbols .entry)) row)) j 0 ⌝ }
+{
+    let facts = plan::facts_of(plan);
+    let q = facts.field;
+    let n = facts.columns;
+    let first = j * n;
+    let last = first + n;
+    let start = row * n;
+    let end = start + n;
+    field::dot(q, table, &checks[first..last], &symbols[start..end])
+}
 
 // Fills row `row`, whose marks are `word`, by the checks of levels 1 to t and its learned sums; or leaves the symbols as they were.
 fn fill_row(
@@ -82,8 +108,7 @@ pub struct Walk {
     pub filled: usize,
 }
 
-// Row steps on rows 0 to R - 1, up to the first row whose checks fail. A row without marks is tested at level 1: from there on it has
-// the sums that are learned for it.
+// Row steps on rows 0 to R - 1, up to the first row whose checks fail. A row without marks is tested at level 1 alone.
 pub fn walk_rows(
     plan: usize,
     level: usize,
@@ -105,27 +130,44 @@ pub fn walk_rows(
         ⌝ }
 {
     let rows = plan::rows(plan);
+    // above level 1 a row without marks has the sums that are learned for it
+    let count = if level == 1 {
+        plan::sums_to(plan, 1)
+    } else {
+        0
+    };
     let mut row = 0;
     let mut filled = 0;
-    while row < rows {
+    let clash = 'rows: loop {
+        if row == rows {
+            break 'rows row;
+        }
         let word = marks[row];
-        if word != 0 || level == 1 {
+        if word == 0 {
+            let mut j = 0;
+            while j < count {
+                if check_sum(plan, level, table, checks, &symbols[..], row, j)
+                    != sums[row * 16 + j]
+                {
+                    break 'rows row;
+                }
+                j += 1;
+            }
+        } else {
             match fill_row(plan, level, table, checks, symbols, word, sums, row) {
                 linear::Outcome::Tied => {}
                 linear::Outcome::None => {
-                    return Walk { row, filled };
+                    break 'rows row;
                 }
                 linear::Outcome::One => {
-                    if word != 0 {
-                        marks[row] = 0;
-                        filled += 1;
-                    }
+                    marks[row] = 0;
+                    filled += 1;
                 }
             }
         }
         row += 1;
-    }
-    Walk { row, filled }
+    };
+    Walk { row: clash, filled }
 }
 
 // Fills a row as `fill_row` does, by the plan's own table. Each plan has a call of its own, whose loops are compiled for its sizes.
