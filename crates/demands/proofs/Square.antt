@@ -10,9 +10,9 @@ use Rattle.field.proofs.Laws.{IsField, size-pos}
 use Rattle.field.proofs.Test.{both-left, both-right, both}
 use Rattle.field.proofs.Words.{Fit}
 use Rattle.linear.specs.Lists.{all, zeros, vanish, plus}
-use Rattle.linear.specs.Fill.{sumsOf, fill, one}
+use Rattle.linear.specs.Fill.{sumsOf}
 use Rattle.linear.proofs.Choices.{areSymbols}
-use Rattle.linear.proofs.Filling.{Dependency, Independent, independent-of, Filling, fill-one}
+use Rattle.linear.proofs.Filling.{Dependency, Independent, independent-of, Filling}
 use Rattle.demands.proofs.Marked.{marked, agrees-fit}
 use Rattle.demands.proofs.Codewords.{sums-count}
 use Rattle.demands.proofs.Matrix.{picked, put, product, identity, undone, put-agrees, agrees-put, picked-fit, picked-length, put-vanish}
@@ -42,11 +42,6 @@ zeros-length (x ∷ l) = ap suc (zeros-length l)
 pub record Square (F : Field) (checks : List (List ℕ)) (ms : List Bool) : Type 0 where
   pub independent : Independent F checks ms
   pub meets : (target v : List ℕ) → length target ≡ length checks → T (areSymbols F target) → (y : List ℕ) × Filling F checks target ms v y
-
--- so they can be filled, whatever stands elsewhere
-pub square-fill : (F : Field) (checks : List (List ℕ)) (ms : List Bool) → Square F checks ms → (target v : List ℕ)
-    → length target ≡ length checks → T (areSymbols F target) → (y : List ℕ) × (fill F checks target ms v ≡ one y)
-square-fill F checks ms s target v l t = let r = s .meets target v l t in (r .0, fill-one F checks target ms v (s .independent) (r .1))
 
 -- the columns at the marks, as rows of coefficients
 abbrev pub columnsAt : List Bool → List (List ℕ) → List (List ℕ)

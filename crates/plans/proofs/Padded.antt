@@ -34,10 +34,6 @@ module _ (n : ℕ) (xs : List ℕ) (fits : length xs ≤ n) where
   unfolding padded
   padding-starts = record { within = omega arith; copied = rw sub-zero }
 
-  pub padding-length : {i : ℕ} {l : List ℕ} → Padding n xs i l → length l ≡ n
-  padding-length {i} h =
-      let e = length-take-le i xs (h .within) in ap length (h .copied) ∙ length-padded n (take i xs) (omega (arith, h .within))
-
   pub padding-turns : {i : ℕ} {l : List ℕ} → Padding n xs i l → i < length xs → Padding n xs (i + 1) (set l i (getD xs i 0))
   padding-turns {i} h more = record { within = omega arith; copied = rw (h .copied, add-one i, take-suc xs i 0) (go (length-take-le i xs (h .within))) }
     where

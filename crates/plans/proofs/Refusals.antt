@@ -15,9 +15,8 @@ use Rattle.field.specs.Field.{size}
 use Rattle.linear.specs.Lists.{all}
 use Rattle.linear.specs.Marks.{bitsOf}
 use Rattle.plans.specs.Plan.{Plan, known, planOf, rowAt, marksAt, checksTo}
-use Rattle.plans.specs.Refusal.{room, firstFailed, stripeFits, wordsFit, marksFit, allBelow, unmarkedBelow, symbolsFit, sumsAt, sumsFit, levelFits, inMemory, inFile, lentRefusal, benchRefusal}
+use Rattle.plans.specs.Refusal.{room, firstFailed, stripeFits, wordsFit, marksFit, allBelow, unmarkedBelow, symbolsFit, sumsAt, sumsFit, inMemory, inFile, lentRefusal}
 use Rattle.plans.specs.Tables.{FactsOf}
-use Rattle.plans.specs.declared.Bench.{Bench}
 use Rattle.plans.specs.declared.plan.Facts.{Facts}
 use Rattle.plans.proofs.Plans.{rows-most}
 use Rattle.plans.proofs.Tables.{sums-most}
@@ -182,23 +181,3 @@ lent-fits p stripe marks e =
     let t12 = passed 12 _ _ (λ z. omega arith) (t15 .1) in
     let t13 = passed 13 _ _ (λ z. omega arith) (t12 .1) in
     record { plan = t10 .0; lengths = t11 .0; words = t12 .0; symbols = t13 .0 }
-
-pub record BenchFits (b : Bench) (row : Bool) : Type 0 where
-  pub plan : known (b .plan) ≡ true
-  pub level : levelFits (planOf (b .plan)) (b .level) ≡ true
-  pub words : marksFit (planOf (b .plan)) (b .marks) ≡ true
-  pub symbols : symbolsFit (planOf (b .plan)) (b .marks) (b .symbols) ≡ true
-  pub sums : sumsFit (planOf (b .plan)) (b .level) (b .sums) ≡ true
-  pub row-number : row ≡ true
-
-pub bench-fits : (b : Bench) (row : Bool) → benchRefusal b row ≡ 0 → BenchFits b row
-unfolding inMemory benchRefusal
-bench-fits b row e =
-    let t10 = passed 10 _ _ (λ z. omega arith) e in
-    let t11 = passed 11 _ _ (λ z. omega arith) (t10 .1) in
-    let t15 = passed 15 _ _ (λ z. omega arith) (t11 .1) in
-    let t12 = passed 12 _ _ (λ z. omega arith) (t15 .1) in
-    let t13 = passed 13 _ _ (λ z. omega arith) (t12 .1) in
-    let t14 = passed 14 _ _ (λ z. omega arith) (t13 .1) in
-    let both = true-and _ _ (t13 .0) in
-    record { plan = t10 .0; level = t15 .0; words = t12 .0; symbols = both .0; sums = both .1; row-number = t14 .0 }

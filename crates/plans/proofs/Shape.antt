@@ -41,8 +41,6 @@ levels-known (suc (suc (suc (suc p)))) t l = absurd (omega arith)
 
 -- our plans fit our benches
 pub record Shape (P : Plan) : Type 0 where
-  pub rows-pos : 0 < P .rows
-  pub columns-pos : 0 < P .columns
   pub rows-le : P .rows ≤ 8
   pub columns-le : P .columns ≤ 32
   pub symbols-le : P .rows * P .columns ≤ 256

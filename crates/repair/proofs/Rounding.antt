@@ -107,9 +107,6 @@ module _ (p : ℕ) (whole : Turn) where
         e
 
     module _ (h : planOf p .rows ≤ row) where
-      now-restored : List ℕ
-      now-restored = set restored (t - 1) filled
-
       counted : more t filled restored ≡ set restored (t - 1) filled
       unfolding more
       counted =

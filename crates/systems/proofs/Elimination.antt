@@ -60,9 +60,6 @@ module _ (at to : ℕ → ℕ) (r c : ℕ) (old : (t : ℕ) → t < r → to t �
       (λ b. inr (omega (arith, b .0), below-more _ _ (λ t l e. b .1 t l (sym (old t l) ∙ e)) (λ e. omega (arith, b .0))))
       G
 
-pub free-le : (at : ℕ → ℕ) (r k free : ℕ) → Free at r k k free → free ≤ k
-free-le at r k free G = ⊎-elim (λ a. omega (arith, a .0)) (λ b. omega (arith, b .0)) G
-
 -- the free column is no pivot's
 pub free-away : (M : Matrix) (m : ℕ) (at : ℕ → ℕ) (r k free : ℕ) → Form M m at r k → Free at r k k free → (t : ℕ) → t < r → at t ≢ free
 free-away M m at r k free R G t l = ⊎-elim (λ a e. omega (arith, a .0, R .col t l, e)) (λ b. b .1 t l) G
