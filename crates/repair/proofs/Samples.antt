@@ -14,8 +14,8 @@ use Rattle.linear.specs.Marks.{bitsOf}
 use Rattle.linear.specs.Fill.{sumsOf}
 use Rattle.plans.specs.Plan.{ones, bitChecks, wordOf, locations1, plan1, locations2, powers2, plan2, locations3, powers3, plan3, known, noPlan, planOf, noLevel, levelOf, checksTo, rowAt, marksAt, marksOf, across, checkPlacesOf, carried, marksOffset, symbolsOffset, fileLength}
 use Rattle.plans.specs.Refusal.{firstFailed, unasked, inMemory, inFile, stripeFits, wordsFit, marksFit, allBelow, unmarkedBelow, symbolsFit, sumsAt, sumsFit, levelFits, lentRefusal, benchRefusal}
-use Rattle.codewords.specs.Codeword.{rowsHold, totalsHold, isCodeword, extractRefusal}
-use Rattle.repair.specs.File.{bytes2, headerOf, blanked, planIn, wordAt, marksIn, symbolsIn, fileRefusal, readRefusal}
+use Rattle.codewords.specs.Codeword.{rowsHold, totalsHold, isCodeword, testRefusal, encodeRefusal, extractRefusal}
+use Rattle.repair.specs.File.{bytes2, headerOf, blanked, planIn, wordAt, marksIn, symbolsIn, fileRefusal, readRefusal, writeRefusal}
 use Rattle.plans.specs.declared.Bench.{Bench}
 use Rattle.repair.proofs.Sheet.{blank, exampleFile}
 
@@ -57,6 +57,12 @@ sizes = (refl, refl, refl, refl, refl, refl)
 
 unfoldable pub noMarks : List ℕ
 noMarks = replicate 3 0
+
+unfoldable pub noData : List ℕ
+noData = replicate 15 0
+
+unfoldable pub noFile : List ℕ
+noFile = replicate 41 0
 
 -- the example's file with one byte changed, and with two
 unfoldable pub withByte : (at byte : ℕ) → List ℕ
@@ -109,10 +115,27 @@ pub memory-order :
     -- and a row number that does not fit: with a symbol 2, with a sum 2, alone
     × (benchRefusal (benchWith 1 1 0 2 0) false ≡ 13) × (benchRefusal (benchWith 1 1 0 0 2) false ≡ 13) × (benchRefusal (benchWith 1 1 0 0 0) false ≡ 14)
     -- extraction: lengths, a symbol 2; a symbol 2, no codeword; no codeword alone
-    × (extractRefusal 1 (set blank 0 2) [] ≡ 11) × (extractRefusal 1 (set (set blank 0 2) 7 1) (replicate 15 0) ≡ 13)
-    × (extractRefusal 1 (set blank 0 1) (replicate 15 0) ≡ 16)
+    × (extractRefusal 1 (set blank 0 2) [] ≡ 11) × (extractRefusal 1 (set (set blank 0 2) 7 1) noData ≡ 13)
+    × (extractRefusal 1 (set blank 0 1) noData ≡ 16)
 unfolding if_then_else_ upFrom _⊕_ size double times mul dot gf2 flatMap all only vanish bitsOf sumsOf
     ones bitChecks wordOf locations1 plan1 known noPlan planOf noLevel levelOf checksTo rowAt marksAt marksOf
     firstFailed unasked inMemory stripeFits wordsFit marksFit allBelow unmarkedBelow symbolsFit sumsAt sumsFit levelFits lentRefusal benchRefusal
-    across rowsHold totalsHold isCodeword checkPlacesOf carried extractRefusal blank noMarks benchWith
+    across rowsHold totalsHold isCodeword checkPlacesOf carried extractRefusal blank noMarks noData benchWith
 memory-order = (refl, refl, refl, refl, refl, refl, refl, refl, refl, refl, refl, refl)
+
+-- and in the calls that have fewer of them
+pub other-orders :
+    -- the codeword test: an unknown plan, its length; a stripe too long, a symbol 2; the symbol alone
+    (testRefusal 4 blank ≡ 10) × (testRefusal 1 (2 ∷ blank) ≡ 11) × (testRefusal 1 (set blank 0 2) ≡ 13)
+    -- encoding: an unknown plan, its lengths; too many data, a data symbol 2; the symbol alone
+    × (encodeRefusal 4 noData blank ≡ 10) × (encodeRefusal 1 (2 ∷ noData) blank ≡ 11) × (encodeRefusal 1 (set noData 0 2) blank ≡ 13)
+    -- extraction: an unknown plan, its lengths
+    × (extractRefusal 4 blank noData ≡ 10)
+    -- writing: an unknown plan, its lengths; no room for the file, a mark bit at column 7; the mark bit, a symbol 2; the symbol alone
+    × (writeRefusal 4 blank noMarks noFile ≡ 10) × (writeRefusal 1 blank (set noMarks 0 128) [] ≡ 11)
+    × (writeRefusal 1 (set blank 0 2) (set noMarks 0 128) noFile ≡ 12) × (writeRefusal 1 (set blank 0 2) noMarks noFile ≡ 13)
+unfolding if_then_else_ upFrom _⊕_ size double times mul dot gf2 flatMap all only vanish bitsOf sumsOf
+    ones bitChecks wordOf locations1 plan1 known noPlan planOf noLevel levelOf rowAt marksAt marksOf
+    firstFailed unasked inMemory stripeFits wordsFit marksFit allBelow unmarkedBelow symbolsFit marksOffset symbolsOffset fileLength
+    across rowsHold totalsHold isCodeword testRefusal checkPlacesOf carried encodeRefusal extractRefusal writeRefusal blank noMarks noData noFile
+other-orders = (refl, refl, refl, refl, refl, refl, refl, refl, refl, refl, refl)
