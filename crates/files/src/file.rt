@@ -127,7 +127,7 @@ pub fn write_refusal(plan: usize, stripe: &[u8], marks: &[u32], file: &[u8]) -> 
         return 10;
     }
     if file.len() != plan::file_length(plan) {
-        return 11;
+        return 11; // the buffer for the file
     }
     refusal::lent_refusal(plan, stripe, marks)
 }
@@ -208,7 +208,7 @@ pub fn file_refusal(file: &[u8], lengths: bool) -> usize
         return 21;
     }
     if file.len() != plan::file_length(plan) {
-        return 20;
+        return 20; // longer or shorter than its plan's
     }
     if !lengths {
         return 11;
