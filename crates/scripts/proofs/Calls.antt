@@ -1,20 +1,19 @@
 -- Calls on a bench buffer, one after the other, are the steps on the bench that it holds. Assumes nothing.
 use mathlib.Core.Path.{_≡_, refl, sym, ap, ap₂, _∙_}
 use mathlib.Core.Logic.{_≢_}
-use mathlib.Core.List.{List, [], _∷_, map}
+use mathlib.Core.List.{List, [], _∷_}
 use Prim.Native.Nat.{ℕ}
 use lib.ListN.{length}
 use Rattle.plans.specs.Answers.{stepNumber}
 use Rattle.steps.specs.Steps.{started}
 use Rattle.plans.specs.declared.Bench.{Bench}
-use Rattle.plans.specs.declared.Stepped.{Stepped}
 use Rattle.shelf.specs.Layout.{benchSize, benchBytes, benchIn}
 use Rattle.shelf.specs.Calls.{startNumber, startBuffer, stepAnswer, stepBuffer}
 use Rattle.shelf.specs.Kept.{OfCode}
 use Rattle.shelf.proofs.Sizing.{sized-fit, sized-unfit}
 use Rattle.shelf.proofs.Kept.{written-is-read, written-long, read-is-written, read-of-code, start-of-code, row-step-of-code, level-step-of-code}
-use Rattle.demands.specs.Words.{Move, onRow, onLevel, after, walk}
-use Rattle.scripts.specs.Calls.{Call, start, step, stepOf, leaves, answers, run, told, benchAfter, numberOf, benchRun, numbers, StepsAreWalk, Holds, BuffersHold, RunIsSteps, CallsAreSteps, OtherSizeStays}
+use Rattle.demands.specs.Words.{Move, onRow, onLevel, after}
+use Rattle.scripts.specs.Calls.{Call, start, step, stepOf, leaves, answers, run, told, benchAfter, numberOf, benchRun, numbers, StepsAreWalk, Holds, BuffersHold, CallsAreSteps, OtherSizeStays}
 
 pub steps-are-walk : StepsAreWalk
 steps-are-walk [] b = refl

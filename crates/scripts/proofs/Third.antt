@@ -1,6 +1,6 @@
 -- The third demand for scripts. Assumes nothing.
 use mathlib.Core.Path.{_≡_, sym, ap, _∙_, subst}
-use mathlib.Core.List.{List, _∷_, map}
+use mathlib.Core.List.{List, map}
 use Prim.Native.Nat.{ℕ}
 use lib.ListN.{length, take}
 use Rattle.plans.specs.Plan.{planOf}
@@ -9,13 +9,12 @@ use Rattle.repair.specs.Mending.{turnStripe, turnMarks}
 use Rattle.plans.specs.declared.Bench.{Bench}
 use Rattle.shelf.specs.Layout.{benchSize, benchBytes, benchIn}
 use Rattle.shelf.specs.Calls.{startBuffer}
-use Rattle.shelf.proofs.Kept.{written-is-read}
-use Rattle.demands.specs.Words.{Fit, Move, after, walk, Quiet, rounds}
+use Rattle.demands.specs.Words.{Move, walk, Quiet, rounds}
 use Rattle.demands.specs.Third.{Premise}
 use Rattle.demands.proofs.Left.{stripe-turn, marks-turn}
 use Rattle.demands.proofs.Third.{order-never-matters, mending-ends-there, rounds-suffice}
 use Rattle.scripts.specs.Calls.{step, Holds}
-use Rattle.scripts.specs.Third.{script, QuietBytes, ScriptsEndEqual, HoldsMending, ScriptsEndMended, ScriptRoundsSuffice}
+use Rattle.scripts.specs.Third.{script, QuietBytes, ScriptsEndEqual, ScriptsEndMended, ScriptRoundsSuffice}
 use Rattle.scripts.proofs.Calls.{steps-are-walk, start-leaves, step-leaves, run-holds}
 
 -- ---- quiet on bytes is quiet on the bench
@@ -44,7 +43,8 @@ module _ (p : ℕ) (stripe marks : List ℕ) (premise : Premise p stripe marks) 
   script-holds buffer e ms =
       subst (Holds (script p stripe marks ms buffer)) (steps-are-walk ms a) (run-holds (map step ms) (start-holds buffer e))
 
-  script-quiet : (buffer : List ℕ) → length buffer ≡ benchSize → (ms : List Move) → QuietBytes (script p stripe marks ms buffer) → Quiet (walk ms a)
+  script-quiet : (buffer : List ℕ) → length buffer ≡ benchSize → (ms : List Move) → QuietBytes (script p stripe marks ms buffer)
+      → Quiet (walk ms a)
   script-quiet buffer e ms = quiet-bench (script-holds buffer e ms)
 
 pub scripts-end-equal : ScriptsEndEqual

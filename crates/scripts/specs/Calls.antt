@@ -37,19 +37,19 @@ abbrev pub answers : List ℕ → Call → ℕ
 answers buffer (start p stripe marks) = startNumber p stripe marks buffer
 answers buffer (step m) = stepAnswer (stepOf m) buffer
 
--- the calls of the list, one after the other
+-- the calls of the list, one after the other: the buffer afterwards
 abbrev pub run : List Call → List ℕ → List ℕ
 run [] buffer = buffer
 run (c ∷ cs) buffer = run cs (leaves buffer c)
 
--- and their answers
+-- and the answers on the way
 abbrev pub told : List Call → List ℕ → List ℕ
 told [] buffer = []
 told (c ∷ cs) buffer = answers buffer c ∷ told cs (leaves buffer c)
 
 -- ---- on a bench
 
--- a start puts its bench in place of the other
+-- a start puts its bench in place of the other, a step is the step
 abbrev pub benchAfter : Bench → Call → Bench
 benchAfter b (start p stripe marks) = started p stripe marks .bench
 benchAfter b (step m) = after b m
@@ -73,7 +73,7 @@ numbers (c ∷ cs) b = numberOf b c ∷ numbers cs (benchAfter b c)
 abbrev pub StepsAreWalk : Type 0
 StepsAreWalk = (ms : List Move) (b : Bench) → benchRun (map step ms) b ≡ walk ms b
 
--- the buffer holds the bench, and says nothing else: it is the bench's bytes and reads as the bench
+-- the buffer holds the bench: it is the bench's bytes, and reads as the bench
 pub record Holds (buffer : List ℕ) (b : Bench) : Type 0 where
   pub code : OfCode b
   pub bytes : buffer ≡ benchBytes b
@@ -83,7 +83,7 @@ pub record Holds (buffer : List ℕ) (b : Bench) : Type 0 where
 abbrev pub BuffersHold : Type 0
 BuffersHold = (buffer : List ℕ) → T (allBelow 256 buffer) → length buffer ≡ benchSize → Holds buffer (benchIn buffer)
 
--- any calls on them: the buffer holds the bench of the same steps, and the answers are the numbers of their answers
+-- after any calls on them the buffer holds the bench after the same steps, and the answers are the numbers of the steps' answers
 pub record RunIsSteps (cs : List Call) (buffer : List ℕ) : Type 0 where
   pub holds : Holds (run cs buffer) (benchRun cs (benchIn buffer))
   pub answers : told cs buffer ≡ numbers cs (benchIn buffer)

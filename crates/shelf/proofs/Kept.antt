@@ -14,7 +14,6 @@ use lib.Pow.{pow-pos, pow-mono}
 use lib.Seq.{take-add, take-all, take-at, drop-at, ext-getD, getD-append-add, getD-set-same, getD-set-other}
 use Rattle.field.specs.Lists.{if_then_else_, upFrom}
 use Rattle.field.proofs.Lists.{length-up, getD-map-below}
-use Rattle.linear.specs.Lists.{same}
 use Rattle.linear.specs.Fill.{Fill, tied, none, one}
 use Rattle.linear.proofs.Tests.{either}
 use Rattle.plans.specs.Plan.{Plan, planOf}
