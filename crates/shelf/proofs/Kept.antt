@@ -1,36 +1,41 @@
--- A bench and its bytes say the same, and a step that is neither Filled nor Raised leaves the buffer. Assumes nothing.
-use mathlib.Core.Path.{_≡_, refl, sym, ap, ap₂, _∙_}
-use mathlib.Core.Logic.{_≢_}
+-- A bench and its bytes say the same, benches that are read, started and stepped are of the code, and a step that is neither Filled nor Raised
+-- leaves the buffer. Assumes nothing.
+use mathlib.Core.Path.{_≡_, refl, sym, ap, ap₂, _∙_, subst}
+use mathlib.Core.Logic.{_≢_, inl, inr}
 use mathlib.Core.Bool.{Bool, true, false}
 use mathlib.Core.List.{List, [], _∷_, _++_, map, flatMap, append-assoc}
-use Prim.Native.Nat.{ℕ, zero, suc, _+_, _*_, _<_, _≤_}
-use native.Mathlib.Nat.{le-of-eq}
+use Prim.Native.Nat.{ℕ, zero, suc, _+_, _*_, _-_, _^_, _<_, _≤_}
+use native.Mathlib.Nat.{le-of-eq, le-trans, add-sub-of-le}
 use native.Mathlib.Omega.{arith}
 use borrow.Author.Tests.{eqb-true, eqb-false}
-use lib.Dec.{T, eqb, ltb, ltb→lt}
-use lib.ListN.{length, take, drop, getD, length-append, length-take, length-drop, length-map}
-use lib.Seq.{take-add, take-all, take-at, drop-at, ext-getD}
+use lib.Dec.{T, eqb, ltb, ltb→lt, nltb→le}
+use lib.ListN.{length, take, drop, getD, set, replicate, length-append, length-take, length-drop, length-map, length-replicate, getD-replicate}
+use lib.Pow.{pow-pos, pow-mono}
+use lib.Seq.{take-add, take-all, take-at, drop-at, ext-getD, getD-append-add, getD-set-same, getD-set-other}
 use Rattle.field.specs.Lists.{if_then_else_, upFrom}
 use Rattle.field.proofs.Lists.{length-up, getD-map-below}
-use Rattle.linear.specs.Lists.{same}
 use Rattle.linear.specs.Fill.{Fill, tied, none, one}
+use Rattle.linear.proofs.Tests.{either}
 use Rattle.plans.specs.Plan.{Plan, planOf}
 use Rattle.plans.specs.Answers.{stepNumber}
-use Rattle.plans.specs.Refusal.{unasked, allBelow, benchRefusal}
+use Rattle.plans.specs.Refusal.{unasked, allBelow, lentRefusal, benchRefusal}
 use Rattle.repair.specs.File.{bytes4, wordAt}
-use Rattle.steps.specs.Steps.{stepped, unlessRefused, rowFill, putRow, rowStepBy, rowStep, Learned, blocked, failing, learned, levelFill, levelStepBy, levelStep}
+use Rattle.steps.specs.Steps.{fresh, empty, startedBy, started, stepped, unlessRefused, rowFill, putRow, rowStepBy, rowStep, Learned, blocked, failing, learned, levelFill, raise, levelStepBy, levelStep}
 use Rattle.steps.specs.Learned.{benchOf}
 use Rattle.plans.specs.declared.Bench.{Bench}
 use Rattle.plans.specs.declared.Stepped.{Stepped}
 use Rattle.plans.specs.declared.Step.the-variants.{Whole, Filled, Top}
-use Rattle.steps.proofs.Fit.{Sized, BenchFit, bench-fit}
-use Rattle.steps.proofs.Sound.{Sound}
+use Rattle.plans.proofs.Rows.{same-or-other}
+use Rattle.plans.proofs.Shape.{shape}
+use Rattle.steps.proofs.Fit.{LentFit, lent-fit, Sized, sized-fresh, fresh-mark, BenchFit, bench-fit}
+use Rattle.steps.proofs.Sound.{Sound, sized-put, sized-raise}
 use Rattle.steps.proofs.Settled.{whole-row, put-whole}
 use Rattle.files.proofs.Laws.{bytes-fit}
 use Rattle.files.proofs.Files.{word-behind, words-bytes, words-at, length-bytes}
+use Rattle.texts.proofs.Texts.{below-at}
 use Rattle.shelf.specs.Layout.{benchSize, benchBytes, benchIn}
 use Rattle.shelf.specs.Calls.{stepAnswer, stepBuffer}
-use Rattle.shelf.specs.Kept.{OfCode, WrittenIsRead, ReadIsWritten, RowStepStays, LevelStepStays}
+use Rattle.shelf.specs.Kept.{OfCode, ReadOfCode, StartOfCode, RowStepOfCode, LevelStepOfCode, WrittenLong, WrittenIsRead, ReadIsWritten, RowStepStays, LevelStepStays}
 use Rattle.shelf.proofs.Sizing.{sized-fit, sized-unfit}
 
 -- ---- what was written is read
@@ -69,6 +74,10 @@ module _ (b : Bench) (c : OfCode b) where
   unfolding benchBytes
   sums-read = ap (take 128) (drop-at (front ++ words) (b .sums) 290 middle-long) ∙ take-all 128 (b .sums) (le-of-eq (c .sums))
 
+pub written-long : WrittenLong
+unfolding benchBytes
+written-long b c = length-append (front b c ++ words b c) (b .sums) ∙ ap₂ _+_ (middle-long b c) (c .sums)
+
 pub written-is-read : WrittenIsRead
 unfolding benchBytes benchIn
 written-is-read b c =
@@ -88,6 +97,112 @@ read-is-written l t e =
     ap₂ (λ a w. ((a ++ take 256 (drop 2 l)) ++ w) ++ take 128 (drop 290 l)) (sym (first-two l (omega arith))) (words-at l (bytes-fit l t) 258 0 8 (omega arith))
     ∙ sym (take-add 290 128 l ∙ ap (λ k. k ++ take 128 (drop 290 l)) (take-add 258 32 l ∙ ap (λ k. k ++ take 32 (drop 258 l)) (take-add 2 256 l)))
     ∙ take-all 418 l (le-of-eq e)
+
+-- ---- benches of the code
+
+-- arrays of the code's sizes, and mark words of 32 bits
+of-code : (b : Bench) → Sized b → ((r : ℕ) → r < 8 → getD (b .marks) r 0 < 2 ^ 32) → OfCode b
+of-code b s h = record { symbols = s .symbols; marks = s .marks; words = h; sums = s .sums }
+
+sized-in : (l : List ℕ) → length l ≡ 418 → Sized (benchIn l)
+unfolding benchIn
+sized-in l e = record {
+  symbols = simp (length-take, length-drop) (omega arith);
+  marks = length-map (upFrom 0 8) (λ r. wordAt l (258 + 4 * r)) ∙ length-up 0 8;
+  sums = simp (length-take, length-drop) (omega arith);
+}
+
+-- four bytes are a word of 32 bits
+word-lt : (l : List ℕ) → T (allBelow 256 l) → (i : ℕ) → i + 4 ≤ length l → wordAt l i < 2 ^ 32
+unfolding wordAt
+word-lt l t i h =
+    let byte = below-at 256 l t in
+    omega (arith, byte i (omega arith), byte (i + 1) (omega arith), byte (i + 2) (omega arith), byte (i + 3) (omega arith))
+
+pub read-of-code : ReadOfCode
+unfolding benchIn
+read-of-code l t e =
+    of-code (benchIn l) (sized-in l e) (λ r h.
+    subst (λ w. w < 2 ^ 32) (sym (getD-map-below (λ r. wordAt l (258 + 4 * r)) 8 r 0 h)) (word-lt l t (258 + 4 * r) (omega arith)))
+
+-- zeros behind a list
+zeros-behind : (l : List ℕ) (n r : ℕ) → length l ≤ r → r < length l + n → getD (l ++ replicate n 0) r 0 ≡ 0
+zeros-behind l n r h k =
+    ap (λ i. getD (l ++ replicate n 0) i 0) (sym (add-sub-of-le h)) ∙ getD-append-add l (replicate n 0) (r - length l) 0
+    ∙ getD-replicate n (r - length l) 0 0 (omega arith)
+
+module _ (p : ℕ) (stripe marks : List ℕ) (f : LentFit p stripe marks) where
+  fresh-word : (r : ℕ) → r < 8 → getD (fresh p stripe marks .marks) r 0 < 2 ^ 32
+  unfolding fresh
+  fresh-word r h =
+      let sh = shape p (f .plan-known) in
+      elim (either (ltb r (planOf p .rows))) [
+        | inl t ↦
+            let l = ltb→lt r (planOf p .rows) t in
+            subst (λ w. w < 2 ^ 32) (sym (fresh-mark p stripe marks f r l)) (le-trans (f .mark-lt r l) (pow-mono (sh .columns-le)))
+        | inr t ↦
+            let l = nltb→le r (planOf p .rows) t in
+            subst (λ w. w < 2 ^ 32)
+            (sym (zeros-behind marks (8 - length marks) r (omega (arith, f .words)) (omega (arith, f .words, sh .rows-le)))) (pow-pos 32)
+      ]
+
+empty-of-code : OfCode empty
+unfolding empty
+empty-of-code = record {
+  symbols = length-replicate {A = ℕ} 256 0;
+  marks = refl;
+  words = λ r h. subst (λ w. w < 2 ^ 32) (sym (getD-replicate 8 r 0 0 h)) (pow-pos 32);
+  sums = length-replicate {A = ℕ} 128 0;
+}
+
+pub start-of-code : StartOfCode
+unfolding startedBy started
+start-of-code p stripe marks = go (lentRefusal p stripe marks) refl
+  where
+    go : (n : ℕ) → lentRefusal p stripe marks ≡ n → OfCode (startedBy n p stripe marks .bench)
+    go zero e =
+        let f = lent-fit p stripe marks e in of-code (fresh p stripe marks) (sized-fresh p stripe marks f) (fresh-word p stripe marks f)
+    go (suc n) e = empty-of-code
+
+module _ (b : Bench) (c : OfCode b) where
+  sized-of : Sized b
+  sized-of = record { symbols = c .symbols; marks = c .marks; sums = c .sums }
+
+  put-of-code : (r : ℕ) (row : List ℕ) → OfCode (putRow b r row)
+  unfolding putRow
+  put-of-code r row = of-code (putRow b r row) (sized-put b sized-of r row) words
+    where
+      words : (k : ℕ) → k < 8 → getD (set (b .marks) r 0) k 0 < 2 ^ 32
+      words k l =
+          elim (same-or-other k r) [
+            | inl e ↦ rw (e, getD-set-same (b .marks) r 0 0 (omega (arith, e, c .marks))) (pow-pos 32)
+            | inr ne ↦ rw (getD-set-other (b .marks) r k 0 0 ne) (c .words k l)
+          ]
+
+  raise-of-code : (cs : List (List ℕ)) → OfCode (raise b cs)
+  unfolding raise
+  raise-of-code cs = of-code (raise b cs) (sized-raise b sized-of cs) (c .words)
+
+pub row-step-of-code : RowStepOfCode
+unfolding stepped unlessRefused rowStepBy rowStep
+row-step-of-code b c r = go (benchRefusal b (ltb r (planOf (b .plan) .rows))) (rowFill b r)
+  where
+    go : (n : ℕ) (f : Fill) → OfCode (unlessRefused n b (rowStepBy b r f) .bench)
+    go zero tied = c
+    go zero none = c
+    go zero (one row) = put-of-code b c r row
+    go (suc n) f = c
+
+pub level-step-of-code : LevelStepOfCode
+unfolding if_then_else_ stepped unlessRefused levelStepBy levelStep
+level-step-of-code b c = go (benchRefusal b unasked) (ltb (b .level) (length (planOf (b .plan) .levels))) (levelFill b)
+  where
+    go : (n : ℕ) (low : Bool) (l : Learned) → OfCode (unlessRefused n b (if low then levelStepBy b l else stepped b Top) .bench)
+    go zero true blocked = c
+    go zero true failing = c
+    go zero true (learned cs) = raise-of-code b c cs
+    go zero false l = c
+    go (suc n) low l = c
 
 -- ---- steps that change nothing
 
@@ -128,14 +243,6 @@ level-stays b h = go (benchRefusal b unasked) (ltb (b .level) (length (planOf (b
     go (suc n) c l h = refl
 
 -- ---- buffers
-
-sized-in : (l : List ℕ) → length l ≡ 418 → Sized (benchIn l)
-unfolding benchIn
-sized-in l e = record {
-  symbols = simp (length-take, length-drop) (omega arith);
-  marks = length-map (upFrom 0 8) (λ r. wordAt l (258 + 4 * r)) ∙ length-up 0 8;
-  sums = simp (length-take, length-drop) (omega arith);
-}
 
 module _ (step : Bench → Stepped) (l : List ℕ) (t : T (allBelow 256 l)) (n : ℕ) where
   buffer-stays : (length l ≡ 418 → stepNumber (step (benchIn l) .answer) ≢ n → step (benchIn l) .bench ≡ benchIn l)

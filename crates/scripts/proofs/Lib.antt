@@ -1,0 +1,4 @@
+-- Why they hold. The theorems stand in Calls and Third, and samples that meet the premises in Samples.
+pub mod Calls
+pub mod Third
+pub mod Samples

@@ -1,0 +1,3 @@
+-- What scripts plan on, as statements: each is a type, and the theorem of that type stands in proofs/.
+pub mod Calls
+pub mod Third
