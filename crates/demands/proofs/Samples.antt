@@ -2,11 +2,11 @@
 use mathlib.Core.Path.{_≡_, refl, sym, ap, subst}
 use mathlib.Core.Bool.{Bool, true, false, _&&_}
 use mathlib.Core.List.{List, [], _∷_, _++_, map, flatMap}
-use Prim.Native.Nat.{ℕ, zero, suc, _<_}
+use Prim.Native.Nat.{ℕ, zero, suc, _*_, _<_}
 use native.Mathlib.Omega.{arith}
 use lib.Count.{ones as bitsSet, onesIn}
 use lib.Dec.{T, eqb, ltb, eqb→eq}
-use lib.ListN.{getD, replicate, set}
+use lib.ListN.{length, getD, replicate, set}
 use Rattle.field.specs.Lists.{if_then_else_, upFrom}
 use Rattle.field.specs.Field.{_⊕_, size, double, times, mul, dot, gf2}
 use Rattle.field.proofs.Test.{both-left, both-right}
@@ -20,7 +20,6 @@ use Rattle.plans.specs.Refusal.{firstFailed, unasked, inMemory, inFile, stripeF
 use Rattle.steps.specs.Steps.{fresh, empty, stepped, unlessRefused, rowFill, putRow, rowStepBy, rowStep, lossy, join, joined, levelFill, keepSums, raise, levelStepBy, levelStep}
 use Rattle.repair.specs.Mending.{mendReport, mendMarks}
 use Rattle.codewords.specs.Codeword.{rowsHold, totalsHold, isCodeword, encodeRefusal, extractRefusal}
-use Rattle.repair.specs.Encoding.{encodeStripe}
 use Rattle.repair.specs.File.{writeRefusal, planIn, fileRefusal, readRefusal}
 use Rattle.plans.specs.declared.Bench.{Bench}
 use Rattle.plans.specs.declared.Answer.{Answer}
@@ -29,10 +28,12 @@ use Rattle.plans.specs.declared.Place.the-variants.{Row}
 use Rattle.repair.proofs.Sheet.{Case, restored, stuck, clashed, blank, unchanged, blankRestored, row1, exampleStripe, exampleMarks, exampleAfter, cases, done, sheet}
 use Rattle.steps.proofs.Sound.{row-outside}
 use Rattle.demands.specs.Words.{Codeword, Agree, Fit, Move, onRow, onLevel, walk, Quiet, rounds, rowsWith, counts, MeetsCounts, total, rowDistance, distance}
+use Rattle.demands.specs.Second.{IsEncoding}
 use Rattle.demands.specs.Third.{Premise}
 use Rattle.demands.specs.Silence.{SameUnmarked, SameButMarks}
 use Rattle.demands.specs.Room.{SameRead}
 use Rattle.demands.specs.Parameters.{RowWord}
+use Rattle.demands.proofs.Encoding.{codewords-are-encodings}
 use Rattle.demands.proofs.Third.{rounds-suffice}
 use Rattle.demands.proofs.Silence.{fresh-same}
 
@@ -50,6 +51,11 @@ are-alike (false ∷ ms) v w t = (
   eqb→eq (first v) (first w) (both-left (eqb (first v) (first w)) (alikeTest ms (rest v) (rest w)) t),
   are-alike ms (rest v) (rest w) (both-right (eqb (first v) (first w)) (alikeTest ms (rest v) (rest w)) t),
 )
+
+-- the plans' numbers
+pub plans-known : T (known 1) × T (known 2) × T (known 3)
+unfolding known
+plans-known = (tt, tt, tt)
 
 -- ---- the third demand's premise: the example's stripe, 1?00000 ?0?0?10 00?0000
 
@@ -156,31 +162,22 @@ pub few-enough : total fewMarks < distance 1
 unfolding bitsSet onesIn total distance fewMarks
 few-enough = omega arith
 
--- ---- encoding's and extraction's: the bench sheet's data and its codeword
+-- ---- encoding's and extraction's: the bench sheet's data, the example's codeword, and buffers of the plan's lengths
 
 unfoldable pub exampleData : List ℕ
 exampleData = 1 ∷ replicate 14 0
-
-unfoldable pub exampleWord : List ℕ
-exampleWord = (1 ∷ 0 ∷ 0 ∷ 0 ∷ 0 ∷ 0 ∷ 1 ∷ []) ++ replicate 7 0 ++ (0 ∷ 0 ∷ 1 ∷ 0 ∷ 1 ∷ 0 ∷ 0 ∷ [])
 
 pub encode-fits : encodeRefusal 1 exampleData blank ≡ 0
 unfolding if_then_else_ upFrom size gf2 flatMap all only bitsOf plan1 wordOf known planOf marksAt marksOf
     firstFailed unasked inMemory stripeFits allBelow checkPlacesOf carried encodeRefusal blank exampleData
 encode-fits = refl
 
-is-encoded : encodeStripe 1 exampleData blank ≡ exampleWord
-unfolding if_then_else_ encodeStripe exampleData exampleWord
-is-encoded = rw encode-fits (sheet .4)
+pub lengths-fit : (length (replicate {A = ℕ} 15 0) ≡ carried (planOf 1)) × (length blank ≡ planOf 1 .rows * planOf 1 .columns)
+unfolding if_then_else_ upFrom flatMap only bitsOf plan1 wordOf planOf marksAt marksOf checkPlacesOf carried blank
+lengths-fit = (refl, refl)
 
-pub extract-fits : extractRefusal 1 exampleWord (replicate 15 0) ≡ 0
-unfolding if_then_else_ upFrom _⊕_ size double times mul dot gf2 flatMap all only vanish bitsOf sumsOf ones bitChecks wordOf locations1 plan1 known planOf
-    noLevel levelOf rowAt marksAt marksOf firstFailed unasked inMemory stripeFits allBelow across rowsHold totalsHold isCodeword checkPlacesOf carried
-    extractRefusal exampleWord
-extract-fits = refl
-
-pub extract-encoded : extractRefusal 1 (encodeStripe 1 exampleData blank) (replicate 15 0) ≡ 0
-extract-encoded = subst (λ X. extractRefusal 1 X (replicate 15 0) ≡ 0) (sym is-encoded) extract-fits
+pub example-encoding : IsEncoding 1 exampleAfter (replicate 15 0) blank
+example-encoding = codewords-are-encodings 1 exampleAfter (replicate 15 0) blank (plans-known .0) example-word (lengths-fit .0) (lengths-fit .1)
 
 -- ---- silence's: bytes under the example's marks that are no symbols at all
 
@@ -250,11 +247,7 @@ unfolding if_then_else_ upFrom _⊕_ size double times mul dot gf2 flatMap all o
     marksOffset symbolsOffset fileLength writeRefusal planIn fileRefusal readRefusal blank exampleStripe exampleMarks otherRoom
 refusals = (refl, refl, refl, refl, refl, refl, refl)
 
--- ---- the parameters': the plans' numbers, and the zero row and stripe, which are light
-
-pub plans-known : T (known 1) × T (known 2) × T (known 3)
-unfolding known
-plans-known = (tt, tt, tt)
+-- ---- the parameters': the zero row and stripe, which are light
 
 pub light-row : RowWord 1 (replicate 7 0) × (weight (replicate 7 0) < rowDistance 1)
 unfolding if_then_else_ _⊕_ size double times mul dot gf2 all vanish sumsOf ones plan1 planOf levelOf allBelow weight rowDistance
