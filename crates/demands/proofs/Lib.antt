@@ -1,5 +1,5 @@
--- Why the demands hold. The theorems stand in Second, Counts, Encoding, Third, Refused, Blind, Silence, Kept and Room, the plans' parameters in Parameters
--- and Distance, and samples that meet the premises in Samples.
+-- Why the demands hold. The theorems stand in Second, Counts, Encoding, Third, Refused, Blind, Silence, Kept, Leaving and Room, the plans' parameters in
+-- Parameters and Distance, and samples that meet the premises in Samples.
 pub mod Lists
 pub mod Marked
 pub mod Binary
@@ -30,6 +30,7 @@ pub mod Refused
 pub mod Blind
 pub mod Silence
 pub mod Kept
+pub mod Leaving
 pub mod Room
 pub mod Samples
 -- the parameters
