@@ -1,4 +1,4 @@
--- Why the demands hold. The theorems stand in Second, Counts, Encoding, Third, Refused, Blind, Silence, Kept, Leaving and Room, the plans' parameters in
+-- Why the demands hold. The theorems stand in Second, Counts, Encoding, Third, Refused, Blind, Silence, Kept, Leaving, Stopping and Room, the plans' parameters in
 -- Parameters and Distance, and samples that meet the premises in Samples.
 pub mod Lists
 pub mod Marked
@@ -31,6 +31,7 @@ pub mod Blind
 pub mod Silence
 pub mod Kept
 pub mod Leaving
+pub mod Stopping
 pub mod Room
 pub mod Samples
 -- the parameters

@@ -2,6 +2,7 @@
 pub mod Words
 pub mod Second
 pub mod Leaving
+pub mod Stopping
 pub mod Third
 pub mod Silence
 pub mod Room
