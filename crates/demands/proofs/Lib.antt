@@ -1,4 +1,4 @@
--- Why the demands hold. The theorems stand in Second, Counts, Encoding, Third, Refused, Blind, Silence, Kept, Leaving, Stopping and Room, the plans' parameters in
+-- Why the demands hold. The theorems stand in Second, Counts, Encoding, Third, Refused, Blind, Silence, Reading, Kept, Leaving, Stopping and Room, the plans' parameters in
 -- Parameters and Distance, and samples that meet the premises in Samples.
 pub mod Lists
 pub mod Marked
@@ -29,6 +29,7 @@ pub mod Third
 pub mod Refused
 pub mod Blind
 pub mod Silence
+pub mod Reading
 pub mod Kept
 pub mod Leaving
 pub mod Stopping
