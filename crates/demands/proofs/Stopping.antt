@@ -24,7 +24,30 @@ use Rattle.steps.proofs.Fit.{if-true, if-false}
 use Rattle.steps.proofs.Sound.{Sound, sound-fresh, row-keeps, level-plan, row-step, level-step, sound-row, sound-level}
 use Rattle.demands.specs.Words.{Fit}
 use Rattle.demands.specs.Stopping.{begun, nextStep, StopsAt, clash-in-row, clash-across, at-blocked, at-top, Stops, MendingStops, TurnsSuffice, NoStepRefused}
-use Rattle.demands.proofs.Rounds.{Out, mended-out}
+use Rattle.demands.proofs.Rounds.{Goes, Out, mended-out}
+
+-- ---- a step on a fit bench is not refused
+
+row-accepted : (b : Bench) (r : ℕ) (f : Fill) (n : ℕ) → rowStepBy b r f .answer ≢ Refused n
+unfolding if_then_else_ rowStepBy stepped
+row-accepted b r tied n e = let z : _≡_ {A = ℕ} 0 1 = cc in omega arith
+row-accepted b r none n e = let z : _≡_ {A = ℕ} 0 1 = cc in omega arith
+row-accepted b r (one row) n e = by (eqb (getD (b .marks) r 0) 0) e
+  where
+    by : (z : Bool) → (if z then Whole else Filled) ≢ Refused n
+    by true e = let z : _≡_ {A = ℕ} 0 1 = cc in omega arith
+    by false e = let z : _≡_ {A = ℕ} 0 1 = cc in omega arith
+
+-- a level step below the last level, and at it
+abbrev levelBy : Bench → (low : Bool) → Learned → Stepped
+levelBy b low a = if low then levelStepBy b a else stepped b Top
+
+level-accepted : (b : Bench) (low : Bool) (a : Learned) (n : ℕ) → levelBy b low a .answer ≢ Refused n
+unfolding if_then_else_ levelStepBy stepped
+level-accepted b false a n e = let z : _≡_ {A = ℕ} 0 1 = cc in omega arith
+level-accepted b true blocked n e = let z : _≡_ {A = ℕ} 0 1 = cc in omega arith
+level-accepted b true failing n e = let z : _≡_ {A = ℕ} 0 1 = cc in omega arith
+level-accepted b true (learned cs) n e = let z : _≡_ {A = ℕ} 0 1 = cc in omega arith
 
 module _ (p : ℕ) where
   -- the rounds stand on a sound bench of the plan
@@ -34,9 +57,7 @@ module _ (p : ℕ) where
 
   -- what a turn from m leads to
   abbrev Next : Standing → Turn → Type 0
-  Next m (on n) = Going n
-  Next m (end n) = StopsAt p m (end n)
-  Next m (clash place) = StopsAt p m (clash place)
+  Next m = Goes Going (StopsAt p m)
 
   -- ---- one turn
 
@@ -80,34 +101,14 @@ module _ (p : ℕ) where
           (lt→ltb k (planOf (b .plan) .rows) own-row) ∙ ap (afterRow m) row-is))
           (row-goes (rowFill b k) row-is)
 
-      row-accepted : (f : Fill) → (n : ℕ) → rowStepBy b k f .answer ≢ Refused n
-      unfolding if_then_else_ rowStepBy stepped
-      row-accepted tied n e = let z : _≡_ {A = ℕ} 0 1 = cc in omega arith
-      row-accepted none n e = let z : _≡_ {A = ℕ} 0 1 = cc in omega arith
-      row-accepted (one row) n e = by (eqb (getD (b .marks) k 0) 0) e
-        where
-          by : (z : Bool) → (if z then Whole else Filled) ≢ Refused n
-          by true e = let z : _≡_ {A = ℕ} 0 1 = cc in omega arith
-          by false e = let z : _≡_ {A = ℕ} 0 1 = cc in omega arith
-
     -- ---- the level step's
 
-    -- it is found below the last level, or at it
-    abbrev levelBy : (low : Bool) → Learned → Stepped
-    levelBy low a = if low then levelStepBy b a else stepped b Top
-
-    level-is : levelStep b ≡ levelBy (ltb (b .level) (length (planOf (b .plan) .levels))) (levelFill b)
+    level-is : levelStep b ≡ levelBy b (ltb (b .level) (length (planOf (b .plan) .levels))) (levelFill b)
     level-is = level-step b (g .sound .fit)
 
-    level-accepted : (low : Bool) (a : Learned) (n : ℕ) → levelBy low a .answer ≢ Refused n
-    unfolding if_then_else_ levelStepBy stepped
-    level-accepted false a n e = let z : _≡_ {A = ℕ} 0 1 = cc in omega arith
-    level-accepted true blocked n e = let z : _≡_ {A = ℕ} 0 1 = cc in omega arith
-    level-accepted true failing n e = let z : _≡_ {A = ℕ} 0 1 = cc in omega arith
-    level-accepted true (learned cs) n e = let z : _≡_ {A = ℕ} 0 1 = cc in omega arith
-
     module _ (full : planOf p .rows ≤ k) where
-      level-goes : (low : Bool) (a : Learned) → levelStep b ≡ levelBy low a → Next m (afterLevel m (levelBy low a .answer) (levelBy low a .bench))
+      level-goes : (low : Bool) (a : Learned) → levelStep b ≡ levelBy b low a
+          → Next m (afterLevel m (levelBy b low a .answer) (levelBy b low a .bench))
       unfolding if_then_else_ afterLevel levelStepBy stepped
       level-goes false a e = at-top full (ap (λ (s : Stepped). s .answer) e)
       level-goes true blocked e = at-blocked full (ap (λ (s : Stepped). s .answer) e)
@@ -140,10 +141,10 @@ module _ (p : ℕ) where
           | inl t ↦
               let l = ltb→lt k (planOf p .rows) t in
               subst (λ (s : Stepped). s .answer ≢ Refused n) (sym (if-true (ltb k (planOf p .rows)) (rowStep b k) (levelStep b) t ∙ row-is l))
-              (row-accepted l (rowFill b k) n)
+              (row-accepted b k (rowFill b k) n)
           | inr t ↦
               subst (λ (s : Stepped). s .answer ≢ Refused n) (sym (if-false (ltb k (planOf p .rows)) (rowStep b k) (levelStep b) t ∙ level-is))
-              (level-accepted (ltb (b .level) (length (planOf (b .plan) .levels))) (levelFill b) n)
+              (level-accepted b (ltb (b .level) (length (planOf (b .plan) .levels))) (levelFill b) n)
         ]
 
   -- ---- turns
