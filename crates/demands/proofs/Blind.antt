@@ -74,6 +74,12 @@ append-behind (y ∷ s) [] z i l h = absurd (omega arith)
 append-behind (y ∷ s) (x ∷ t) z zero l h = absurd (omega arith)
 append-behind (y ∷ s) (x ∷ t) z (suc i) l h = append-behind s t z i (suc-inj l) (le-of-suc-le-suc h)
 
+-- parts of lists of one length are of one length
+pub part-lengths : (n k : ℕ) (s t : List ℕ) → length s ≡ length t → length (take n (drop k s)) ≡ length (take n (drop k t))
+part-lengths n k s t l =
+    let e : length (drop k s) ≡ length (drop k t) = length-drop k s ∙ ap (λ m. m - k) l ∙ sym (length-drop k t) in
+    length-take n (drop k s) ∙ omega (arith, e) ∙ sym (length-take n (drop k t))
+
 -- ---- rows
 
 pub row-le : (P : Plan) (l : List ℕ) (r : ℕ) → length (rowAt P l r) ≤ P .columns
@@ -82,10 +88,7 @@ row-le P l r = simp length-take (omega arith)
 
 pub row-lengths : (P : Plan) (s t : List ℕ) (r : ℕ) → length s ≡ length t → length (rowAt P s r) ≡ length (rowAt P t r)
 unfolding rowAt
-row-lengths P s t r l =
-    let k = r * P .columns in
-    let e : length (drop k s) ≡ length (drop k t) = length-drop k s ∙ ap (λ n. n - k) l ∙ sym (length-drop k t) in
-    length-take (P .columns) (drop k s) ∙ omega (arith, e) ∙ sym (length-take (P .columns) (drop k t))
+row-lengths P s t r l = part-lengths (P .columns) (r * P .columns) s t l
 
 -- rows with the same symbols are equal
 pub row-equal : (P : Plan) (s t : List ℕ) (r : ℕ) → length s ≡ length t
@@ -105,7 +108,7 @@ below-alike q (m ∷ ms) (x ∷ v) [] l a = absurd (omega arith)
 below-alike q (true ∷ ms) (x ∷ v) (y ∷ w) l a = below-alike q ms v w (suc-inj l) a
 below-alike q (false ∷ ms) (x ∷ v) (y ∷ w) l a = ap₂ (λ z b. ltb z q && b) (a .0) (below-alike q ms v w (suc-inj l) (a .1))
 
-blanked-alike : (ms : List Bool) (v w : List ℕ) → length v ≡ length w → Alike ms v w → blanked ms v ≡ blanked ms w
+pub blanked-alike : (ms : List Bool) (v w : List ℕ) → length v ≡ length w → Alike ms v w → blanked ms v ≡ blanked ms w
 unfolding blanked first rest
 blanked-alike [] v w l a = refl
 blanked-alike (m ∷ ms) [] [] l a = refl

@@ -1,7 +1,7 @@
 -- The second demand on encoding and extraction. Assumes nothing.
 use mathlib.Core.Path.{_≡_, refl, sym, ap, _∙_}
 use mathlib.Core.Logic.{_⊎_, inl, inr}
-use mathlib.Core.Bool.{_&&_}
+use mathlib.Core.Bool.{Bool, _&&_}
 use mathlib.Core.List.{List}
 use Prim.Native.Nat.{ℕ, zero, suc, _*_, _^_, _<_}
 use native.Mathlib.Nat.{le-of-eq, eq-or-lt-of-le}
@@ -10,7 +10,7 @@ use lib.Dec.{T, T-not, leb, leb→le, nleb→lt, eqb, ltb, eqb→eq, ltb→lt, l
 use lib.ListN.{length, drop, getD}
 use Rattle.field.specs.Lists.{upFrom}
 use Rattle.field.specs.Field.{size}
-use Rattle.field.proofs.Test.{both-left, below, at}
+use Rattle.field.proofs.Test.{both-left, both, below, at}
 use Rattle.field.proofs.Ring.{size-pos}
 use Rattle.linear.proofs.Tests.{either}
 use Rattle.linear.proofs.Filling.{independent-inside}
@@ -21,7 +21,7 @@ use Rattle.plans.specs.Refusal.{unasked, stripeFits, allBelow}
 use Rattle.codewords.specs.Codeword.{isCodeword, placed, encodeRefusal, extracted, extractRefusal, extractData}
 use Rattle.repair.specs.Encoding.{encoded, encodeStripe}
 use Rattle.plans.proofs.Shape.{of-known}
-use Rattle.steps.proofs.Fit.{passed, if-true, all-take, all-drop, fit-lent}
+use Rattle.steps.proofs.Fit.{eq→eqb, Passed, passed, passes, if-true, all-take, all-drop, fit-lent}
 use Rattle.steps.proofs.Sound.{unmarked-below}
 use Rattle.codewords.proofs.Placing.{rows-length}
 use Rattle.codewords.proofs.Carrying.{words-count}
@@ -133,31 +133,84 @@ module _ (p : ℕ) (kn : T (known p)) (ds : List ℕ) (count : length ds ≡ car
 
 -- ---- what is not refused
 
-pub encoding-means : EncodingMeans
-unfolding unasked encodeRefusal encodeStripe
-encoding-means p ds stripe e =
-    let P = planOf p in
-    let lengths = eqb (length ds) (carried P) && stripeFits P stripe in
-    let h = passed (known p) lengths unasked unasked (allBelow (size (P .field)) ds) unasked unasked e in
-    rw (if-true (eqb (encodeRefusal p ds stripe) 0) (encoded p ds) stripe (rw e tt))
-    (is-encoded p (h .plan) ds (eqb→eq (length ds) (carried P) (both-left (eqb (length ds) (carried P)) (stripeFits P stripe) (h .lengths))) (h .symbols))
+module _ (p : ℕ) (ds stripe : List ℕ) where
+  abbrev lengths : Bool
+  lengths = eqb (length ds) (carried (planOf p)) && stripeFits (planOf p) stripe
 
-extracts : (p : ℕ) (X room : List ℕ) → extractRefusal p X room ≡ 0 → extractData p X room ≡ extracted (planOf p) X
-unfolding extractData
-extracts p X room e = if-true (eqb (extractRefusal p X room) 0) (extracted (planOf p) X) room (rw e tt)
+  encode-passed : encodeRefusal p ds stripe ≡ 0
+      → Passed (known p) lengths unasked unasked (allBelow (size (planOf p .field)) ds) unasked unasked
+  unfolding encodeRefusal
+  encode-passed = passed (known p) lengths unasked unasked (allBelow (size (planOf p .field)) ds) unasked unasked
+
+  encode-passes : T (known p) → length ds ≡ carried (planOf p) → length stripe ≡ planOf p .rows * planOf p .columns
+      → T (allBelow (size (planOf p .field)) ds) → encodeRefusal p ds stripe ≡ 0
+  unfolding unasked stripeFits encodeRefusal
+  encode-passes kn count long symbols =
+      passes (known p) lengths unasked unasked (allBelow (size (planOf p .field)) ds) unasked unasked record {
+        plan = kn;
+        lengths =
+            both (eqb (length ds) (carried (planOf p))) (stripeFits (planOf p) stripe) (eq→eqb (length ds) (carried (planOf p)) count)
+            (eq→eqb (length stripe) (planOf p .rows * planOf p .columns) long);
+        level = tt;
+        marks = tt;
+        symbols = symbols;
+        row = tt;
+        codeword = tt;
+      }
+
+  encodes-by : encodeRefusal p ds stripe ≡ 0 → encodeStripe p ds stripe ≡ encoded p ds
+  unfolding encodeStripe
+  encodes-by e = if-true (eqb (encodeRefusal p ds stripe) 0) (encoded p ds) stripe (rw e tt)
+
+pub encoding-means : EncodingMeans
+encoding-means p ds stripe e =
+    let h = encode-passed p ds stripe e in
+    rw (encodes-by p ds stripe e)
+    (is-encoded p (h .plan) ds
+    (eqb→eq (length ds) (carried (planOf p)) (both-left (eqb (length ds) (carried (planOf p))) (stripeFits (planOf p) stripe) (h .lengths)))
+    (h .symbols))
+
+-- extraction accepts a codeword, and gives what stands at its data places
+module _ (p : ℕ) (X buffer : List ℕ) (kn : T (known p)) (word : Codeword p X) (count : length buffer ≡ carried (planOf p)) where
+  accepts : extractRefusal p X buffer ≡ 0
+  unfolding unasked stripeFits extractRefusal
+  accepts =
+      let P = planOf p in
+      passes (known p) (stripeFits P X && eqb (length buffer) (carried P)) unasked unasked (allBelow (size (P .field)) X) unasked (isCodeword P X)
+      record {
+        plan = kn;
+        lengths =
+            both (stripeFits P X) (eqb (length buffer) (carried P)) (eq→eqb (length X) (P .rows * P .columns) (word .long))
+            (eq→eqb (length buffer) (carried P) count);
+        level = tt;
+        marks = tt;
+        symbols = word .symbols;
+        row = tt;
+        codeword = word .holds;
+      }
+
+  gives : extractData p X buffer ≡ extracted (planOf p) X
+  unfolding extractData
+  gives = if-true (eqb (extractRefusal p X buffer) 0) (extracted (planOf p) X) buffer (rw accepts tt)
 
 pub extraction-means : ExtractionMeans
-extraction-means p ds stripe room e f = extracts p (encodeStripe p ds stripe) room f ∙ encoding-means p ds stripe e .holds
+extraction-means p ds stripe buffer e count =
+    let kn = encode-passed p ds stripe e .plan in
+    let X = encodeStripe p ds stripe in
+    let h = encoding-means p ds stripe e in
+    (accepts p X buffer kn (h .codeword) count, gives p X buffer kn (h .codeword) count ∙ h .holds)
 
 pub codewords-are-encodings : CodewordsAreEncodings
-unfolding unasked stripeFits allBelow carried extracted extractRefusal
-codewords-are-encodings p X room e =
+unfolding allBelow carried extracted
+codewords-are-encodings p X buffer stripe kn word count long =
     let P = planOf p in
-    let lengths = stripeFits P X && eqb (length room) (carried P) in
-    let h = passed (known p) lengths unasked unasked (allBelow (size (P .field)) X) unasked (isCodeword P X) e in
-    let long : length X ≡ P .rows * P .columns =
-    eqb→eq (length X) (P .rows * P .columns) (both-left (stripeFits P X) (eqb (length room) (carried P)) (h .lengths)) in
-    ap (encoded p) (extracts p X room e)
-    ∙ encodes p (h .plan) (extracted P X) (taken-length (checkPlacesOf P) X (le-of-eq (places-count P ∙ sym long)))
-    (taken-all (λ x. ltb x (size (P .field))) (checkPlacesOf P) X (h .symbols)) X
-    record { long = long; symbols = h .symbols; holds = h .codeword } refl
+    let ds = extracted P X in
+    let given = gives p X buffer kn word count in
+    let enough : length ds ≡ carried P = taken-length (checkPlacesOf P) X (le-of-eq (places-count P ∙ sym (word .long))) in
+    let symbols : T (allBelow (size (P .field)) ds) = taken-all (λ x. ltb x (size (P .field))) (checkPlacesOf P) X (word .symbols) in
+    let accepted = encode-passes p ds stripe kn enough long symbols in
+    record {
+      extracts = accepts p X buffer kn word count;
+      encodes = rw given accepted;
+      same = ap (λ ds. encodeStripe p ds stripe) given ∙ encodes-by p ds stripe accepted ∙ encodes p kn ds enough symbols X word refl;
+    }

@@ -1,6 +1,6 @@
 -- A row is filled whole or left: where marks are left, so is the byte under them; and so is all room beyond the stripe. Assumes nothing.
 use mathlib.Core.Path.{_≡_, refl, sym, ap, _∙_, subst}
-use mathlib.Core.Logic.{_⊎_, inl, inr}
+use mathlib.Core.Logic.{inl, inr}
 use mathlib.Core.Bool.{Bool, true, false}
 use mathlib.Core.List.{List, [], _∷_}
 use Prim.Native.Nat.{ℕ, zero, suc, _+_, _*_, _-_, _<_, _≤_}
@@ -14,7 +14,7 @@ use Rattle.linear.specs.Lists.{only}
 use Rattle.linear.specs.Marks.{bitsOf}
 use Rattle.linear.specs.Fill.{Fill, tied, none, one}
 use Rattle.linear.proofs.Tests.{either}
-use Rattle.plans.specs.Plan.{Plan, planOf, rowAt, marksAt, marksOf}
+use Rattle.plans.specs.Plan.{Plan, planOf, marksAt, marksOf}
 use Rattle.plans.specs.Refusal.{unasked, lentRefusal, benchRefusal}
 use Rattle.steps.specs.Steps.{fresh, stepped, unlessRefused, rowFill, putRow, rowStepBy, rowStep, Learned, blocked, failing, learned, levelFill, raise, levelStepBy, levelStep}
 use Rattle.steps.specs.Rounds.{Standing, Turn, on, end, clash}
@@ -25,6 +25,7 @@ use Rattle.plans.proofs.Rows.{of-rows, row-end, row-other, marks-length}
 use Rattle.steps.proofs.Fit.{BenchFit, lent-fit, bench-fit}
 use Rattle.steps.proofs.Sound.{filled-row}
 use Rattle.demands.specs.Words.{Fit, Move, onRow, onLevel, after, walk, rounds}
+use Rattle.demands.specs.Leaving.{RowLeft}
 use Rattle.demands.specs.Silence.{StepsKeep, MarkedKeep}
 use Rattle.demands.proofs.Marked.{marked}
 use Rattle.demands.proofs.Alike.{row-at, mark-at, of-places, clear-unmarked}
@@ -37,12 +38,12 @@ use Rattle.demands.proofs.Blind.{marks-same}
 
 -- row r of bench c has no marks, or its marks and symbols are b's
 abbrev RowKept : Plan → (b c : Bench) → ℕ → Type 0
-RowKept P b c r = (getD (c .marks) r 0 ≡ 0) ⊎ ((getD (c .marks) r 0 ≡ getD (b .marks) r 0) × (rowAt P (c .symbols) r ≡ rowAt P (b .symbols) r))
+RowKept P b c r = RowLeft P (b .symbols) (b .marks) (c .symbols) (c .marks) r
 
-record Kept (p : ℕ) (b c : Bench) : Type 0 where
-  plan : c .plan ≡ p
-  rows : (r : ℕ) → r < planOf p .rows → RowKept (planOf p) b c r
-  room : (i : ℕ) → planOf p .rows * planOf p .columns ≤ i → getD (c .symbols) i 0 ≡ getD (b .symbols) i 0
+pub record Kept (p : ℕ) (b c : Bench) : Type 0 where
+  pub plan : c .plan ≡ p
+  pub rows : (r : ℕ) → r < planOf p .rows → RowKept (planOf p) b c r
+  pub room : (i : ℕ) → planOf p .rows * planOf p .columns ≤ i → getD (c .symbols) i 0 ≡ getD (b .symbols) i 0
 
 kept-refl : (p : ℕ) (b : Bench) → b .plan ≡ p → Kept p b b
 kept-refl p b e = record { plan = e; rows = λ r l. inr (refl, refl); room = λ i l. refl }
@@ -150,6 +151,12 @@ steps-keep ms b i e =
 -- ---- mending in one call
 
 module _ (p : ℕ) (stripe marks : List ℕ) (fit : Fit p stripe marks) where
+  pub ended-kept : (m : Standing) → Ended p stripe marks fit m → Kept p (fresh p stripe marks) (m .bench)
+  unfolding fresh
+  ended-kept m h =
+      subst (Kept p (fresh p stripe marks)) (h .leads)
+      (kept-walk (rounds (planOf p) (length (planOf p .levels))) p (fresh p stripe marks) refl)
+
   ended-keep : (m : Standing) → Ended p stripe marks fit m → (i : ℕ)
       → getD (marksOf (planOf p) (take (length marks) (m .bench .marks))) i true ≡ true
       → getD (take (length stripe) (m .bench .symbols)) i 0 ≡ getD stripe i 0
@@ -159,7 +166,7 @@ module _ (p : ℕ) (stripe marks : List ℕ) (fit : Fit p stripe marks) where
         | inl t ↦
             let l = ltb→lt i (length stripe) t in
             getD-take (length stripe) (m .bench .symbols) i 0 l
-            ∙ kept-at p (fresh p stripe marks) (m .bench) kept i
+            ∙ kept-at p (fresh p stripe marks) (m .bench) (ended-kept m h) i
             (ap (λ ms. getD ms i true) (marks-same (planOf p) (m .bench .marks) (take (length marks) (m .bench .marks)) (λ r k.
             sym (getD-take (length marks) (m .bench .marks) r 0 (omega (arith, lent-fit p stripe marks fit .words))))) ∙ e)
             ∙ List·getD-append stripe (replicate (256 - length stripe) 0) 0 i l
@@ -168,11 +175,6 @@ module _ (p : ℕ) (stripe marks : List ℕ) (fit : Fit p stripe marks) where
             List·getD-eq-default (take (length stripe) (m .bench .symbols)) 0 {n = i} (simp length-take (omega arith))
             ∙ sym (List·getD-eq-default stripe 0 {n = i} g)
       ]
-    where
-      kept : Kept p (fresh p stripe marks) (m .bench)
-      kept =
-          subst (Kept p (fresh p stripe marks)) (h .leads)
-          (kept-walk (rounds (planOf p) (length (planOf p .levels))) p (fresh p stripe marks) refl)
 
   turn-keep : (x : Turn) → Out p stripe marks fit x → (i : ℕ) → getD (marksOf (planOf p) (turnMarks x marks)) i true ≡ true
       → getD (turnStripe x stripe) i 0 ≡ getD stripe i 0

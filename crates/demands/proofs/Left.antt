@@ -20,12 +20,14 @@ use Rattle.linear.proofs.Filling.{Means, no-dependency, fill-means}
 use Rattle.plans.specs.Plan.{Plan, Level, planOf, levelOf, checksTo, rowAt, marksAt, across}
 use Rattle.plans.specs.Refusal.{allBelow, lentRefusal}
 use Rattle.steps.specs.Steps.{lossy, Learned, blocked, failing, learned, join, joined, levelFill}
-use Rattle.steps.specs.Rounds.{Standing}
-use Rattle.repair.specs.Mending.{mended, rowsLeft, bare, turnReport, turnStripe, turnMarks, mendReport, mendStripe, mendMarks}
+use Rattle.steps.specs.Rounds.{Standing, Turn, on, end, clash}
+use Rattle.repair.specs.Mending.{mended, rowsLeft, endReport, bare, turnReport, turnStripe, turnMarks, mendReport, mendStripe, mendMarks}
 use Rattle.codewords.specs.Codeword.{rowsHold, totalsHold, isCodeword}
 use Rattle.plans.specs.declared.Bench.{Bench}
 use Rattle.plans.specs.declared.Answer.{Answer}
-use Rattle.plans.specs.declared.Answer.the-variants.{Refused}
+use Rattle.plans.specs.declared.Answer.the-variants.{Restored, Stuck, Clash, Refused}
+use Rattle.plans.specs.declared.Place.{Place}
+use Rattle.plans.specs.declared.Report.{Report}
 use Rattle.plans.proofs.Rows.{row-end, row-length, row-append, rows-ext, marks-length}
 use Rattle.plans.proofs.Shape.{shape}
 use Rattle.steps.proofs.Fit.{if-true, RowFits, lent-fit}
@@ -123,8 +125,21 @@ module _ (p : ℕ) (stripe marks : List ℕ) (fit : Fit p stripe marks) (m : Sta
   enough-words : P .rows ≤ length (b .marks)
   enough-words = omega (arith, shape p (lent-fit p stripe marks fit .plan-known) .rows-le, e .reached .sound .sized .marks)
 
-  row-left : (r : ℕ) → r < P .rows → rowAt P Y r ≡ rowAt P (b .symbols) r
+  pub row-left : (r : ℕ) → r < P .rows → rowAt P Y r ≡ rowAt P (b .symbols) r
   row-left r l = row-take P (b .symbols) (length stripe) r (omega (arith, long, enough)) (omega (arith, long, row-end (P .columns) l))
+
+  -- the buffers are as long as they were
+  pub long-left : length Y ≡ length stripe
+  long-left = length-take-le (length stripe) (b .symbols) (omega (arith, long, enough))
+
+  pub words-left : length (take (length marks) (b .marks)) ≡ length marks
+  words-left = length-take-le (length marks) (b .marks) (omega (arith, words, enough-words))
+
+  -- unmarked symbols stay
+  pub unmarked-left : Agree p marks Y stripe
+  unmarked-left =
+      rows-agree p marks Y stripe (λ r l.
+      rw (row-left r l) (alike-sym (marksAt P marks r) (rowAt P stripe r) (rowAt P (b .symbols) r) (e .reached .same r l)))
 
   -- a codeword that agrees has each symbol that is now unmarked
   pub agrees-left : (X : List ℕ) → Codeword p X → Agree p marks X stripe → Agree p (take (length marks) (b .marks)) X Y
@@ -187,7 +202,7 @@ module _ (p : ℕ) (stripe marks : List ℕ) (fit : Fit p stripe marks) (m : Sta
     codeword-left =
         let met = e .reached .meets Y has in
         record {
-          long = length-take-le (length stripe) (b .symbols) (omega (arith, long, enough)) ∙ long;
+          long = long-left ∙ long;
           symbols =
               subst (λ n. T (allBelow (size (P .field)) (take n (b .symbols)))) (sym long)
               (rows-below (size (P .field)) (P .columns) (P .rows) (b .symbols) row-symbols);
@@ -200,8 +215,7 @@ module _ (p : ℕ) (stripe marks : List ℕ) (fit : Fit p stripe marks) (m : Sta
     unfolding rowAt
     is-restored s t = record {
       codeword = rw s codeword-left;
-      agrees = rw s (rows-agree p marks Y stripe (λ r l.
-          rw (row-left r l) (alike-sym (marksAt P marks r) (rowAt P stripe r) (rowAt P (b .symbols) r) (e .reached .same r l))));
+      agrees = rw s unmarked-left;
       only = λ X word agree.
           rows-ext (P .columns) (P .rows) X Y (λ r l. sym (held-unmarked p X b (e .reached .held X word agree) r l (clear r l)) ∙ sym (row-left r l))
           (drop-of-length-le X (le-of-eq (word .long)) ∙ sym (drop-of-length-le Y (le-of-eq (codeword-left .long)))) ∙ sym s;
@@ -236,3 +250,20 @@ module _ (p : ℕ) (stripe marks : List ℕ) where
     pub marks-turn : mendMarks p stripe marks ≡ turnMarks (mended p stripe marks) marks
     unfolding mendMarks
     marks-turn = if-true (eqb (lentRefusal p stripe marks) 0) (turnMarks (mended p stripe marks) marks) marks lent
+
+  -- a Clash is the rounds'
+  pub clash-turn : (place : Place) → mendReport p stripe marks .answer ≡ Clash place
+      → Fit p stripe marks × (mended p stripe marks ≡ clash place)
+  unfolding if_then_else_ turnReport endReport bare
+  clash-turn place e =
+      let fit = not-refused (Clash place) e (λ n q. let z : _≡_ {A = ℕ} 0 1 = cc in omega arith) in
+      (fit, go (mended p stripe marks) (ap (λ (r : Report). r .answer) (sym (report-turn fit)) ∙ e))
+    where
+      neither : (z : Bool) → (if z then Restored else Stuck) ≡ Clash place → ⊥
+      neither true a = let z : _≡_ {A = ℕ} 0 1 = cc in omega arith
+      neither false a = let z : _≡_ {A = ℕ} 0 1 = cc in omega arith
+
+      go : (t : Turn) → turnReport t .answer ≡ Clash place → t ≡ clash place
+      go (on m) a = absurd (neither (eqb (rowsLeft (m .bench)) 0) a)
+      go (end m) a = absurd (neither (eqb (rowsLeft (m .bench)) 0) a)
+      go (clash it) a = let same : it ≡ place = cc in ap clash same

@@ -1,5 +1,5 @@
--- Why the demands hold. The theorems stand in Second, Counts, Encoding, Third, Refused, Blind, Silence, Kept and Room, the plans' parameters in Parameters
--- and Distance, and samples that meet the premises in Samples.
+-- Why the demands hold. The theorems stand in Second, Counts, Encoding, Third, Refused, Blind, Silence, Reading, Kept, Leaving, Stopping and Room,
+-- the plans' parameters in Parameters and Distance, and samples that meet the premises in Samples (plan 1) and Samples3 (plan 3).
 pub mod Lists
 pub mod Marked
 pub mod Binary
@@ -29,9 +29,13 @@ pub mod Third
 pub mod Refused
 pub mod Blind
 pub mod Silence
+pub mod Reading
 pub mod Kept
+pub mod Leaving
+pub mod Stopping
 pub mod Room
 pub mod Samples
+pub mod Samples3
 -- the parameters
 pub mod Parameters
 pub mod Distance

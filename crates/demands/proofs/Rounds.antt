@@ -153,7 +153,7 @@ module _ (b : Bench) (s : Sound b) (r : ℕ) (l : r < planOf (b .plan) .rows) wh
 -- ---- turns
 
 -- what holds with n turns left, or where the rounds end
-abbrev Goes : (Standing → Type 0) → (Turn → Type 0) → Turn → Type 0
+abbrev pub Goes : (Standing → Type 0) → (Turn → Type 0) → Turn → Type 0
 Goes I O (on m) = I m
 Goes I O (end m) = O (end m)
 Goes I O (clash place) = O (clash place)

@@ -1,12 +1,12 @@
--- The premises of each theorem can be met: stripes of the bench sheet, by computation. Assumes nothing.
+-- The premises of each theorem can be met on plan 1: stripes of the bench sheet, by computation. Assumes nothing.
 use mathlib.Core.Path.{_≡_, refl, sym, ap, subst}
 use mathlib.Core.Bool.{Bool, true, false, _&&_}
 use mathlib.Core.List.{List, [], _∷_, _++_, map, flatMap}
-use Prim.Native.Nat.{ℕ, zero, suc, _<_}
+use Prim.Native.Nat.{ℕ, zero, suc, _*_, _<_}
 use native.Mathlib.Omega.{arith}
 use lib.Count.{ones as bitsSet, onesIn}
 use lib.Dec.{T, eqb, ltb, eqb→eq}
-use lib.ListN.{getD, replicate, set}
+use lib.ListN.{length, getD, replicate, set}
 use Rattle.field.specs.Lists.{if_then_else_, upFrom}
 use Rattle.field.specs.Field.{_⊕_, size, double, times, mul, dot, gf2}
 use Rattle.field.proofs.Test.{both-left, both-right}
@@ -15,24 +15,30 @@ use Rattle.linear.specs.Lists.{any, all, only, same, zeros, vanish, first, rest
 use Rattle.linear.specs.Marks.{bitsOf}
 use Rattle.linear.specs.Fill.{sumsOf, options, before, choices, loose, dependent, fillings, fillBy, fill}
 use Rattle.linear.proofs.Choices.{Alike, alike-at}
-use Rattle.plans.specs.Plan.{ones, bitChecks, wordOf, locations1, plan1, known, planOf, noLevel, levelOf, checksTo, rowAt, marksAt, marksOf, across, checkPlacesOf, carried, marksOffset, symbolsOffset, fileLength}
+use Rattle.plans.specs.Plan.{ones, bitChecks, wordOf, locations1, plan1, known, noPlan, planOf, noLevel, levelOf, checksTo, rowAt, marksAt, marksOf, across, checkPlacesOf, carried, marksOffset, symbolsOffset, fileLength}
+use Rattle.plans.specs.Answers.{stepNumber}
 use Rattle.plans.specs.Refusal.{firstFailed, unasked, inMemory, inFile, stripeFits, wordsFit, marksFit, allBelow, unmarkedBelow, symbolsFit, sumsAt, sumsFit, levelFits, lentRefusal, benchRefusal}
 use Rattle.steps.specs.Steps.{fresh, empty, stepped, unlessRefused, rowFill, putRow, rowStepBy, rowStep, lossy, join, joined, levelFill, keepSums, raise, levelStepBy, levelStep}
+use Rattle.steps.specs.Rounds.{Standing, on, counted, afterRow, afterLevel, takeTurn, goOn, turns}
+use Rattle.steps.specs.Walk.{standingOf}
 use Rattle.repair.specs.Mending.{mendReport, mendMarks}
 use Rattle.codewords.specs.Codeword.{rowsHold, totalsHold, isCodeword, encodeRefusal, extractRefusal}
-use Rattle.repair.specs.Encoding.{encodeStripe}
-use Rattle.repair.specs.File.{writeRefusal, planIn, fileRefusal, readRefusal}
+use Rattle.repair.specs.File.{bytes2, headerOf, blanked, writeRefusal, planIn, wordAt, marksIn, symbolsIn, fileRefusal, readRefusal}
 use Rattle.plans.specs.declared.Bench.{Bench}
 use Rattle.plans.specs.declared.Answer.{Answer}
 use Rattle.plans.specs.declared.Answer.the-variants.{Restored, Stuck, Clash}
 use Rattle.plans.specs.declared.Place.the-variants.{Row}
-use Rattle.repair.proofs.Sheet.{Case, restored, stuck, clashed, blank, unchanged, blankRestored, row1, exampleStripe, exampleMarks, exampleAfter, cases, done, sheet}
+use Rattle.repair.proofs.Sheet.{Case, restored, stuck, clashed, blank, unchanged, blankRestored, row1, exampleStripe, exampleMarks, exampleAfter, exampleFile, cases, done, sheet}
+use Rattle.repair.proofs.Samples.{noMarks, withByte, withBytes, file-order}
 use Rattle.steps.proofs.Sound.{row-outside}
 use Rattle.demands.specs.Words.{Codeword, Agree, Fit, Move, onRow, onLevel, walk, Quiet, rounds, rowsWith, counts, MeetsCounts, total, rowDistance, distance}
+use Rattle.demands.specs.Second.{IsEncoding}
 use Rattle.demands.specs.Third.{Premise}
-use Rattle.demands.specs.Silence.{SameUnmarked, SameButMarks}
+use Rattle.demands.specs.Stopping.{begun}
+use Rattle.demands.specs.Silence.{SameUnmarked, SameButMarks, SameFile}
 use Rattle.demands.specs.Room.{SameRead}
 use Rattle.demands.specs.Parameters.{RowWord}
+use Rattle.demands.proofs.Encoding.{codewords-are-encodings}
 use Rattle.demands.proofs.Third.{rounds-suffice}
 use Rattle.demands.proofs.Silence.{fresh-same}
 
@@ -50,6 +56,11 @@ are-alike (false ∷ ms) v w t = (
   eqb→eq (first v) (first w) (both-left (eqb (first v) (first w)) (alikeTest ms (rest v) (rest w)) t),
   are-alike ms (rest v) (rest w) (both-right (eqb (first v) (first w)) (alikeTest ms (rest v) (rest w)) t),
 )
+
+-- the plans' numbers
+pub plans-known : T (known 1) × T (known 2) × T (known 3)
+unfolding known
+plans-known = (tt, tt, tt)
 
 -- ---- the third demand's premise: the example's stripe, 1?00000 ?0?0?10 00?0000
 
@@ -132,6 +143,28 @@ pub is-clash : mendReport 1 (set blank 0 1) (0 ∷ 0 ∷ 0 ∷ []) .answer ≡ C
 unfolding restored stuck clashed unchanged blankRestored cases done
 is-clash = ap (answers 7) (sheet .0)
 
+-- ---- the stopping's: the standing of the example after its first round, rows 0 and 2 restored
+
+unfoldable pub exampleRound : Standing
+exampleRound = standingOf
+    record {
+      plan = 1;
+      level = 2;
+      symbols = set exampleStripe 1 1 ++ replicate 235 0;
+      marks = 0 ∷ 21 ∷ replicate 6 0;
+      sums = exampleEnd .sums;
+    }
+    0 (2 ∷ 0 ∷ 0 ∷ [])
+
+pub goes-on : turns 4 (begun 1 exampleStripe exampleMarks) ≡ on exampleRound
+unfolding if_then_else_ upFrom _⊕_ size double times mul dot gf2 flatMap
+    any all only same zeros vanish first rest bitsOf sumsOf options before choices loose dependent fillings fillBy fill
+    ones bitChecks locations1 plan1 known planOf noLevel levelOf checksTo rowAt marksAt stepNumber
+    firstFailed unasked inMemory marksFit allBelow unmarkedBelow symbolsFit sumsAt sumsFit levelFits benchRefusal
+    fresh stepped unlessRefused rowFill putRow rowStepBy rowStep lossy across join joined levelFill keepSums raise levelStepBy levelStep
+    counted afterRow afterLevel takeTurn goOn turns exampleStripe exampleMarks exampleAfter exampleEnd exampleRound
+goes-on = refl
+
 -- ---- the counts' premises: the example again, which has 1, 3 and 1 marks in a row
 
 pub counts-met : MeetsCounts 1 exampleMarks
@@ -156,31 +189,22 @@ pub few-enough : total fewMarks < distance 1
 unfolding bitsSet onesIn total distance fewMarks
 few-enough = omega arith
 
--- ---- encoding's and extraction's: the bench sheet's data and its codeword
+-- ---- encoding's and extraction's: the bench sheet's data, the example's codeword, and buffers of the plan's lengths
 
 unfoldable pub exampleData : List ℕ
 exampleData = 1 ∷ replicate 14 0
-
-unfoldable pub exampleWord : List ℕ
-exampleWord = (1 ∷ 0 ∷ 0 ∷ 0 ∷ 0 ∷ 0 ∷ 1 ∷ []) ++ replicate 7 0 ++ (0 ∷ 0 ∷ 1 ∷ 0 ∷ 1 ∷ 0 ∷ 0 ∷ [])
 
 pub encode-fits : encodeRefusal 1 exampleData blank ≡ 0
 unfolding if_then_else_ upFrom size gf2 flatMap all only bitsOf plan1 wordOf known planOf marksAt marksOf
     firstFailed unasked inMemory stripeFits allBelow checkPlacesOf carried encodeRefusal blank exampleData
 encode-fits = refl
 
-is-encoded : encodeStripe 1 exampleData blank ≡ exampleWord
-unfolding if_then_else_ encodeStripe exampleData exampleWord
-is-encoded = rw encode-fits (sheet .4)
+pub lengths-fit : (length (replicate {A = ℕ} 15 0) ≡ carried (planOf 1)) × (length blank ≡ planOf 1 .rows * planOf 1 .columns)
+unfolding if_then_else_ upFrom flatMap only bitsOf plan1 wordOf planOf marksAt marksOf checkPlacesOf carried blank
+lengths-fit = (refl, refl)
 
-pub extract-fits : extractRefusal 1 exampleWord (replicate 15 0) ≡ 0
-unfolding if_then_else_ upFrom _⊕_ size double times mul dot gf2 flatMap all only vanish bitsOf sumsOf ones bitChecks wordOf locations1 plan1 known planOf
-    noLevel levelOf rowAt marksAt marksOf firstFailed unasked inMemory stripeFits allBelow across rowsHold totalsHold isCodeword checkPlacesOf carried
-    extractRefusal exampleWord
-extract-fits = refl
-
-pub extract-encoded : extractRefusal 1 (encodeStripe 1 exampleData blank) (replicate 15 0) ≡ 0
-extract-encoded = subst (λ X. extractRefusal 1 X (replicate 15 0) ≡ 0) (sym is-encoded) extract-fits
+pub example-encoding : IsEncoding 1 exampleAfter (replicate 15 0) blank
+example-encoding = codewords-are-encodings 1 exampleAfter (replicate 15 0) blank (plans-known .0) example-word (lengths-fit .0) (lengths-fit .1)
 
 -- ---- silence's: bytes under the example's marks that are no symbols at all
 
@@ -196,6 +220,41 @@ same-unmarked = record {
 
 pub same-benches : SameButMarks (fresh 1 exampleStripe exampleMarks) (fresh 1 otherStripe exampleMarks)
 same-benches = fresh-same 1 exampleMarks exampleStripe otherStripe same-unmarked (example .fit)
+
+-- files that differ in a byte under a mark: one is read, the other is refused with 22
+pub same-file : SameFile exampleFile (withByte 21 1)
+unfolding upFrom flatMap first rest bitsOf plan1 planOf marksAt marksOf marksOffset symbolsOffset planIn wordAt marksIn symbolsIn
+    exampleFile withByte alikeTest
+same-file = record {
+  long = refl;
+  before = refl;
+  agree =
+      let ms = marksOf (planOf 1) (marksIn exampleFile) in
+      alike-at ms (symbolsIn exampleFile) (symbolsIn (withByte 21 1)) (are-alike ms (symbolsIn exampleFile) (symbolsIn (withByte 21 1)) tt);
+}
+
+pub read-and-22 : (readRefusal exampleFile blank noMarks ≡ 0) × (readRefusal (withByte 21 1) blank noMarks ≡ 22)
+read-and-22 = (file-order .8, file-order .7)
+
+-- and two that are both refused, with 13: the first unmarked symbol is 2
+pub same-unfit : SameFile (withByte 20 2) (withBytes 20 2 21 1)
+unfolding upFrom flatMap first rest bitsOf plan1 planOf marksAt marksOf marksOffset symbolsOffset planIn wordAt marksIn symbolsIn
+    exampleFile withByte withBytes alikeTest
+same-unfit = record {
+  long = refl;
+  before = refl;
+  agree =
+      let ms = marksOf (planOf 1) (marksIn exampleFile) in
+      let f = symbolsIn (withByte 20 2) in
+      let g = symbolsIn (withBytes 20 2 21 1) in
+      alike-at ms f g (are-alike ms f g tt);
+}
+
+pub both-13 : (fileRefusal (withByte 20 2) unasked ≡ 13) × (fileRefusal (withBytes 20 2 21 1) unasked ≡ 13)
+unfolding if_then_else_ upFrom size gf2 flatMap all same bitsOf plan1 known noPlan planOf rowAt marksAt marksOf
+    firstFailed unasked inFile marksFit unmarkedBelow symbolsFit
+    bytes2 marksOffset symbolsOffset fileLength headerOf blanked planIn wordAt marksIn symbolsIn fileRefusal exampleFile withByte withBytes
+both-13 = (refl, refl)
 
 -- a place that is still marked once a stripe is Stuck: column 0 of row 1
 pub still-marked : getD (marksOf (planOf 1) (mendMarks 1 blank (row1 (0 ∷ 1 ∷ 3 ∷ 6 ∷ [])))) 7 true ≡ true
@@ -250,11 +309,7 @@ unfolding if_then_else_ upFrom _⊕_ size double times mul dot gf2 flatMap all o
     marksOffset symbolsOffset fileLength writeRefusal planIn fileRefusal readRefusal blank exampleStripe exampleMarks otherRoom
 refusals = (refl, refl, refl, refl, refl, refl, refl)
 
--- ---- the parameters': the plans' numbers, and the zero row and stripe, which are light
-
-pub plans-known : T (known 1) × T (known 2) × T (known 3)
-unfolding known
-plans-known = (tt, tt, tt)
+-- ---- the parameters': the zero row and stripe, which are light
 
 pub light-row : RowWord 1 (replicate 7 0) × (weight (replicate 7 0) < rowDistance 1)
 unfolding if_then_else_ _⊕_ size double times mul dot gf2 all vanish sumsOf ones plan1 planOf levelOf allBelow weight rowDistance

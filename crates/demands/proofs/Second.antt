@@ -17,12 +17,12 @@ use Rattle.steps.specs.Rounds.{Turn, on, end, clash}
 use Rattle.repair.specs.Mending.{mended, rowsLeft, endReport, bare, turnReport, turnStripe, turnMarks, mendReport, mendStripe, mendMarks}
 use Rattle.plans.specs.declared.Bench.{Bench}
 use Rattle.plans.specs.declared.Report.{Report}
-use Rattle.plans.specs.declared.Answer.the-variants.{Restored, Stuck, Clash}
+use Rattle.plans.specs.declared.Answer.the-variants.{Restored, Stuck}
 use Rattle.steps.proofs.Fit.{if-true}
 use Rattle.demands.specs.Words.{Codeword, Agree, Fit}
 use Rattle.demands.specs.Second.{IsRestored, RestoredMeans, ClashMeans, StuckMeans}
 use Rattle.demands.proofs.Held.{Held, rowTied, levelTied, wordSums, held-level, level-finds}
-use Rattle.demands.proofs.Left.{none-lossy, agrees-left, is-restored, not-refused, report-turn, stripe-turn, marks-turn}
+use Rattle.demands.proofs.Left.{none-lossy, agrees-left, is-restored, not-refused, report-turn, stripe-turn, marks-turn, clash-turn}
 use Rattle.demands.proofs.Rounds.{Out, mended-out}
 
 pub restored-means : RestoredMeans
@@ -44,20 +44,8 @@ restored-means p stripe marks e =
     go fit (clash place) q h a = let z : _≡_ {A = ℕ} 0 1 = cc in absurd (omega arith)
 
 pub clash-means : ClashMeans
-unfolding if_then_else_ turnReport endReport
 clash-means p stripe marks place e =
-    let fit = not-refused p stripe marks (Clash place) e (λ n q. let z : _≡_ {A = ℕ} 0 1 = cc in omega arith) in
-    go fit (mended p stripe marks) (mended-out p stripe marks fit) (ap (λ (r : Report). r .answer) (sym (report-turn p stripe marks fit)) ∙ e)
-  where
-    go : (fit : Fit p stripe marks) (t : Turn) → Out p stripe marks fit t → turnReport t .answer ≡ Clash place
-        → (X : List ℕ) → Codeword p X → Agree p marks X stripe → ⊥
-    go fit (on m) h a = absurd h
-    go fit (end m) h a = absurd (by (eqb (rowsLeft (m .bench)) 0) a)
-      where
-        by : (z : Bool) → (if z then Restored else Stuck) ≡ Clash place → ⊥
-        by true a = let z : _≡_ {A = ℕ} 0 1 = cc in omega arith
-        by false a = let z : _≡_ {A = ℕ} 0 1 = cc in omega arith
-    go fit (clash where-it-is) h a = h
+    let c = clash-turn p stripe marks place e in subst (Out p stripe marks (c .0)) (c .1) (mended-out p stripe marks (c .0))
 
 pub stuck-means : StuckMeans
 unfolding turnReport bare turnStripe turnMarks

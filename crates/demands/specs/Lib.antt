@@ -1,6 +1,8 @@
 -- What the customer plans on, as statements: each is a type, and the theorem of that type stands in proofs/.
 pub mod Words
 pub mod Second
+pub mod Leaving
+pub mod Stopping
 pub mod Third
 pub mod Silence
 pub mod Room

@@ -1,12 +1,13 @@
 -- The second demand: what Restored, Clash and Stuck mean; which marks are always restored; encoding and extraction.
-use Prim.Native.Nat.{ℕ, _<_}
+use Prim.Native.Nat.{ℕ, _*_, _<_}
 use mathlib.Core.Path.{_≡_}
 use mathlib.Core.List.{List}
-use lib.ListN.{replicate}
-use Rattle.plans.specs.Plan.{planOf}
+use lib.Dec.{T}
+use lib.ListN.{length, replicate}
+use Rattle.plans.specs.Plan.{known, planOf, carried}
 use Rattle.repair.specs.Mending.{mendReport, mendStripe, mendMarks}
 use Rattle.codewords.specs.Codeword.{encodeRefusal, extractRefusal, extractData, extracted}
-use Rattle.repair.specs.Encoding.{encodeStripe, encoded}
+use Rattle.repair.specs.Encoding.{encodeStripe}
 use Rattle.plans.specs.declared.Place.{Place}
 use Rattle.plans.specs.declared.Answer.the-variants.{Restored, Stuck, Clash}
 use Rattle.demands.specs.Words.{Codeword, Agree, Fit, MeetsCounts, total, distance}
@@ -50,11 +51,17 @@ pub record IsEncoded (p : ℕ) (ds Y : List ℕ) : Type 0 where
 abbrev pub EncodingMeans : Type 0
 EncodingMeans = (p : ℕ) (ds stripe : List ℕ) → encodeRefusal p ds stripe ≡ 0 → IsEncoded p ds (encodeStripe p ds stripe)
 
--- extraction gives the data back
+-- extraction accepts what encoding wrote, and gives the data back
 abbrev pub ExtractionMeans : Type 0
-ExtractionMeans = (p : ℕ) (ds stripe room : List ℕ) → encodeRefusal p ds stripe ≡ 0 → extractRefusal p (encodeStripe p ds stripe) room ≡ 0
-    → extractData p (encodeStripe p ds stripe) room ≡ ds
+ExtractionMeans = (p : ℕ) (ds stripe buffer : List ℕ) → encodeRefusal p ds stripe ≡ 0 → length buffer ≡ carried (planOf p)
+    → let X = encodeStripe p ds stripe in (extractRefusal p X buffer ≡ 0) × (extractData p X buffer ≡ ds)
 
--- every codeword is the encoding of what extraction gives
+-- every codeword is the encoding of what extraction gives; neither is refused
+pub record IsEncoding (p : ℕ) (X buffer stripe : List ℕ) : Type 0 where
+  pub extracts : extractRefusal p X buffer ≡ 0
+  pub encodes : encodeRefusal p (extractData p X buffer) stripe ≡ 0
+  pub same : encodeStripe p (extractData p X buffer) stripe ≡ X
+
 abbrev pub CodewordsAreEncodings : Type 0
-CodewordsAreEncodings = (p : ℕ) (X room : List ℕ) → extractRefusal p X room ≡ 0 → encoded p (extractData p X room) ≡ X
+CodewordsAreEncodings = (p : ℕ) (X buffer stripe : List ℕ) → T (known p) → Codeword p X → length buffer ≡ carried (planOf p)
+    → length stripe ≡ planOf p .rows * planOf p .columns → IsEncoding p X buffer stripe

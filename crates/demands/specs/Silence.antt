@@ -1,14 +1,16 @@
--- Silence: no answer and no other byte depends on the byte under a mark. Reading a file is the exception: refusal 22 looks under marks.
+-- Silence: no answer and no other byte depends on the byte under a mark, but for refusal 22 of a file.
 use Prim.Native.Nat.{ℕ, _*_, _≤_}
 use mathlib.Core.Path.{_≡_}
+use mathlib.Core.Logic.{_≢_}
 use mathlib.Core.Bool.{true}
 use mathlib.Core.List.{List}
-use lib.ListN.{length, getD}
-use Rattle.plans.specs.Plan.{planOf, marksOf}
+use lib.ListN.{length, take, getD}
+use Rattle.plans.specs.Plan.{planOf, marksOf, symbolsOffset}
+use Rattle.plans.specs.Refusal.{unasked}
 use Rattle.steps.specs.Steps.{started, rowStep, levelStep}
 use Rattle.repair.specs.Mending.{mendReport, mendStripe, mendMarks}
-use Rattle.repair.specs.File.{writeRefusal, writeFile}
-use Rattle.repair.specs.Text.{mendText}
+use Rattle.repair.specs.File.{writeRefusal, writeFile, planIn, marksIn, symbolsIn, fileRefusal, readRefusal, readStripe, readMarks}
+use Rattle.repair.specs.Text.{mendText, printed}
 use Rattle.plans.specs.declared.Bench.{Bench}
 use Rattle.plans.specs.declared.Stepped.{Stepped}
 use Rattle.plans.specs.declared.Started.{Started}
@@ -83,3 +85,25 @@ SilentText = (p : ℕ) (marks s t : List ℕ) → SameUnmarked p marks s t → m
 abbrev pub SilentWriting : Type 0
 SilentWriting = (p : ℕ) (marks s t file : List ℕ) → SameUnmarked p marks s t
     → (writeRefusal p s marks file ≡ writeRefusal p t marks file) × (writeFile p s marks file ≡ writeFile p t marks file)
+
+-- ---- reading a file
+
+-- files of one length that differ only under marks: the same bytes up to the symbols, and symbols that agree at every unmarked place
+pub record SameFile (f g : List ℕ) : Type 0 where
+  pub long : length f ≡ length g
+  pub before : let n = symbolsOffset (planOf (planIn f)) in take n f ≡ take n g
+  pub agree : Agree (planIn f) (marksIn f) (symbolsIn f) (symbolsIn g)
+
+-- the same refusal, and the same left in the buffers; or one file is refused with 22 and the other is not refused
+pub data SameReading (f g stripe marks : List ℕ) : Type 0 where
+  same-reading : readRefusal f stripe marks ≡ readRefusal g stripe marks → readStripe f stripe marks ≡ readStripe g stripe marks
+      → readMarks f stripe marks ≡ readMarks g stripe marks → SameReading f g stripe marks
+  second-22 : readRefusal f stripe marks ≡ 0 → readRefusal g stripe marks ≡ 22 → SameReading f g stripe marks
+  first-22 : readRefusal f stripe marks ≡ 22 → readRefusal g stripe marks ≡ 0 → SameReading f g stripe marks
+
+abbrev pub SilentReading : Type 0
+SilentReading = (f g stripe marks : List ℕ) → SameFile f g → SameReading f g stripe marks
+
+-- the same is printed, where neither file is refused with 22
+abbrev pub SilentPrinting : Type 0
+SilentPrinting = (f g : List ℕ) → SameFile f g → fileRefusal f unasked ≢ 22 → fileRefusal g unasked ≢ 22 → printed f ≡ printed g
