@@ -7,10 +7,9 @@ use native.Mathlib.Omega.{arith}
 use lib.Count.{ones as bitsSet, onesIn}
 use lib.Dec.{T, eqb, ltb, eqb→eq}
 use lib.ListN.{getD, replicate, set}
-use Rattle.field.specs.Lists.{if_then_else_, upFrom}
+use Rattle.field.specs.Lists.{if_then_else_, upFrom, weight}
 use Rattle.field.specs.Field.{_⊕_, size, double, times, mul, dot, gf2}
 use Rattle.field.proofs.Test.{both-left, both-right}
-use Rattle.field.proofs.Words.{weight}
 use Rattle.linear.specs.Lists.{any, all, only, same, zeros, vanish, first, rest}
 use Rattle.linear.specs.Marks.{bitsOf}
 use Rattle.linear.specs.Fill.{sumsOf, options, before, choices, loose, dependent, fillings, fillBy, fill}

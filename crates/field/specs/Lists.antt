@@ -13,3 +13,9 @@ if false then a else b = b
 unfoldable pub upFrom : ℕ → ℕ → List ℕ
 upFrom k zero = []
 upFrom k (suc n) = k ∷ upFrom (suc k) n
+
+-- a word's weight: how many of its symbols are not 0
+unfoldable pub weight : List ℕ → ℕ
+weight [] = 0
+weight (zero ∷ w) = weight w
+weight (suc c ∷ w) = suc (weight w)
