@@ -25,7 +25,8 @@ use Rattle.plans.specs.declared.Bench.{Bench}
 use Rattle.plans.specs.declared.Answer.{Answer}
 use Rattle.plans.specs.declared.Answer.the-variants.{Restored, Stuck, Clash}
 use Rattle.plans.specs.declared.Place.the-variants.{Row}
-use Rattle.repair.proofs.Sheet.{Case, restored, stuck, clashed, blank, unchanged, blankRestored, row1, exampleStripe, exampleMarks, exampleAfter, cases, done, sheet}
+use Rattle.repair.specs.Sheet.{Case, restored, stuck, clashed, blank, unchanged, blankRestored, row1, exampleStripe, exampleMarks, exampleAfter, exampleData, exampleWord, cases, done}
+use Rattle.repair.proofs.Sheet.{sheet}
 use Rattle.steps.proofs.Sound.{row-outside}
 use Rattle.demands.specs.Words.{Codeword, Agree, Fit, Move, onRow, onLevel, walk, Quiet, rounds, rowsWith, counts, MeetsCounts, total, rowDistance, distance}
 use Rattle.demands.specs.Third.{Premise}
@@ -115,11 +116,11 @@ module _ (i : ℕ) where
 
 pub is-restored : mendReport 1 exampleStripe exampleMarks .answer ≡ Restored
 unfolding restored stuck clashed unchanged blankRestored cases done
-is-restored = ap (answers 1) (sheet .0)
+is-restored = ap (answers 1) (sheet .mending)
 
 pub is-stuck : mendReport 1 blank (row1 (0 ∷ 1 ∷ 3 ∷ 6 ∷ [])) .answer ≡ Stuck
 unfolding restored stuck clashed unchanged blankRestored cases done
-is-stuck = ap (answers 3) (sheet .0)
+is-stuck = ap (answers 3) (sheet .mending)
 
 -- and a codeword that agrees with what is Stuck: the stripe itself
 pub blank-word : Codeword 1 blank
@@ -129,7 +130,7 @@ blank-word = record { long = refl; symbols = tt; holds = tt }
 
 pub is-clash : mendReport 1 (set blank 0 1) (0 ∷ 0 ∷ 0 ∷ []) .answer ≡ Clash (Row 0 1)
 unfolding restored stuck clashed unchanged blankRestored cases done
-is-clash = ap (answers 7) (sheet .0)
+is-clash = ap (answers 7) (sheet .mending)
 
 -- ---- the counts' premises: the example again, which has 1, 3 and 1 marks in a row
 
@@ -157,20 +158,8 @@ few-enough = omega arith
 
 -- ---- encoding's and extraction's: the bench sheet's data and its codeword
 
-unfoldable pub exampleData : List ℕ
-exampleData = 1 ∷ replicate 14 0
-
-unfoldable pub exampleWord : List ℕ
-exampleWord = (1 ∷ 0 ∷ 0 ∷ 0 ∷ 0 ∷ 0 ∷ 1 ∷ []) ++ replicate 7 0 ++ (0 ∷ 0 ∷ 1 ∷ 0 ∷ 1 ∷ 0 ∷ 0 ∷ [])
-
 pub encode-fits : encodeRefusal 1 exampleData blank ≡ 0
-unfolding if_then_else_ upFrom size gf2 flatMap all only bitsOf plan1 wordOf known planOf marksAt marksOf
-    firstFailed unasked inMemory stripeFits allBelow checkPlacesOf carried encodeRefusal blank exampleData
-encode-fits = refl
-
-is-encoded : encodeStripe 1 exampleData blank ≡ exampleWord
-unfolding if_then_else_ encodeStripe exampleData exampleWord
-is-encoded = rw encode-fits (sheet .4)
+encode-fits = sheet .encodeFits
 
 pub extract-fits : extractRefusal 1 exampleWord (replicate 15 0) ≡ 0
 unfolding if_then_else_ upFrom _⊕_ size double times mul dot gf2 flatMap all only vanish bitsOf sumsOf ones bitChecks wordOf locations1 plan1 known planOf
@@ -179,7 +168,7 @@ unfolding if_then_else_ upFrom _⊕_ size double times mul dot gf2 flatMap all o
 extract-fits = refl
 
 pub extract-encoded : extractRefusal 1 (encodeStripe 1 exampleData blank) (replicate 15 0) ≡ 0
-extract-encoded = subst (λ X. extractRefusal 1 X (replicate 15 0) ≡ 0) (sym is-encoded) extract-fits
+extract-encoded = subst (λ X. extractRefusal 1 X (replicate 15 0) ≡ 0) (sym (sheet .encodes)) extract-fits
 
 -- ---- silence's: bytes under the example's marks that are no symbols at all
 
@@ -200,7 +189,7 @@ same-benches = fresh-same 1 exampleMarks exampleStripe otherStripe same-unmarked
 pub still-marked : getD (marksOf (planOf 1) (mendMarks 1 blank (row1 (0 ∷ 1 ∷ 3 ∷ 6 ∷ [])))) 7 true ≡ true
 unfolding upFrom flatMap bitsOf plan1 planOf marksAt marksOf wordOf restored stuck clashed unchanged blankRestored row1 cases done
 still-marked =
-    ap (λ (cs : List Case). getD (marksOf (planOf 1) (getD (map (λ (c : Case). c .marksAfter) cs) 3 [])) 7 true) (sheet .0)
+    ap (λ (cs : List Case). getD (marksOf (planOf 1) (getD (map (λ (c : Case). c .marksAfter) cs) 3 [])) 7 true) (sheet .mending)
 
 -- a place that is still marked after a step: the same column, once row 0 is filled
 pub marked-after : getD (marksOf (planOf 1) (walk (onRow 0 ∷ []) (fresh 1 exampleStripe exampleMarks) .marks)) 7 true ≡ true
