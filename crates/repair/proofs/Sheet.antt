@@ -8,10 +8,10 @@ use Rattle.linear.specs.Lists.{any, all, only, same, zeros, vanish, first, rest
 use Rattle.linear.specs.Marks.{bitsOf}
 use Rattle.linear.specs.Fill.{sumsOf, options, before, choices, loose, dependent, fillings, fillBy, fill}
 use Rattle.plans.specs.Plan.{ones, bitChecks, wordOf, locations1, plan1, known, planOf, noLevel, levelOf, checksTo, rowAt, marksAt, marksOf, across, checkPlacesOf, carried, marksOffset, symbolsOffset, fileLength}
-use Rattle.plans.specs.Answers.{answerNumber, stepNumber}
+use Rattle.plans.specs.Answers.{answerNumber}
 use Rattle.plans.specs.Refusal.{firstFailed, unasked, inMemory, inFile, stripeFits, wordsFit, marksFit, allBelow, unmarkedBelow, symbolsFit, sumsAt, sumsFit, levelFits, lentRefusal, benchRefusal}
 use Rattle.steps.specs.Steps.{fresh, stepped, unlessRefused, rowFill, putRow, rowStepBy, rowStep, lossy, join, joined, levelFill, keepSums, raise, levelStepBy, levelStep}
-use Rattle.steps.specs.Rounds.{counted, afterRow, afterLevel, takeTurn, goOn, turns}
+use Rattle.steps.specs.Rounds.{more, afterRow, afterLevel, takeTurn, goOn, turns}
 use Rattle.repair.specs.Mending.{mended, rowsLeft, endReport, bare, turnReport, turnStripe, turnMarks, mendReport, mendStripe, mendMarks}
 use Rattle.codewords.specs.Codeword.{placed, encodeRefusal}
 use Rattle.repair.specs.Encoding.{encoded, encodeStripe}
@@ -22,10 +22,10 @@ use Rattle.repair.specs.Sheet.{restored, stuck, clashed, blank, unchange
 pub sheet : Sheet
 unfolding if_then_else_ upFrom _⊕_ size double times mul dot gf2 gf16 gf32 power flatMap
     any all only same zeros vanish first rest bitsOf sumsOf options before choices loose dependent fillings fillBy fill
-    ones bitChecks wordOf locations1 plan1 known planOf noLevel levelOf checksTo rowAt marksAt marksOf answerNumber stepNumber
+    ones bitChecks wordOf locations1 plan1 known planOf noLevel levelOf checksTo rowAt marksAt marksOf answerNumber
     firstFailed unasked inMemory inFile stripeFits wordsFit marksFit allBelow unmarkedBelow symbolsFit sumsAt sumsFit levelFits lentRefusal benchRefusal
     fresh stepped unlessRefused rowFill putRow rowStepBy rowStep lossy across join joined levelFill keepSums raise levelStepBy levelStep
-    counted afterRow afterLevel takeTurn goOn turns mended rowsLeft endReport bare turnReport turnStripe turnMarks mendReport mendStripe mendMarks
+    more afterRow afterLevel takeTurn goOn turns mended rowsLeft endReport bare turnReport turnStripe turnMarks mendReport mendStripe mendMarks
     checkPlacesOf carried placed encoded encodeRefusal encodeStripe
     bytes2 bytes4 marksOffset symbolsOffset fileLength headerOf blanked planIn wordAt marksIn symbolsIn fileRefusal
     bytes digitsIn decimal hex item lineEnd shown grid placeText summary reportText mendText printed
