@@ -24,7 +24,7 @@ use Rattle.steps.specs.Rounds.{Standing, Turn, on, end, clash, more, afterRow, 
 use Rattle.repair.specs.Mending.{mended}
 use Rattle.plans.specs.declared.Bench.{Bench}
 use Rattle.plans.specs.declared.Stepped.{Stepped}
-use Rattle.plans.specs.declared.Step.the-variants.{Whole, Filled, Tied, Top}
+use Rattle.plans.specs.declared.Step.the-variants.{Whole, Filled, Top}
 use Rattle.plans.proofs.Rows.{row-length, row-again, marks-length}
 use Rattle.steps.proofs.Fit.{if-true, if-false}
 use Rattle.steps.proofs.Sound.{Sound, row-outside, row-step, level-step, row-place, filled-row, put-mark, put-mark-other, put-row, put-row-other}

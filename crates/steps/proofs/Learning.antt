@@ -1,7 +1,7 @@
 -- Learning a level: one check's sums filled, and the checks joined. Assumes nothing.
 use mathlib.Core.Path.{_≡_, refl, sym, ap, ap₂, _∙_}
 use mathlib.Core.Bool.{Bool}
-use mathlib.Core.List.{List, [], _∷_, _++_}
+use mathlib.Core.List.{List, [], _∷_, _++_, map}
 use Prim.Native.Nat.{ℕ, zero, suc, _+_, _*_, _^_, _≤_, _<_}
 use native.Mathlib.Numerals.{add-one}
 use native.Mathlib.Omega.{arith}
@@ -21,7 +21,7 @@ use Rattle.linear.specs.declared.Outcome.{Outcome}
 use Rattle.linear.specs.declared.Outcome.the-variants.{Tied, None, One}
 use Rattle.linear.proofs.Answers.{wide-tied}
 use Rattle.plans.specs.Plan.{planOf, levelOf, checksTo}
-use Rattle.steps.specs.Steps.{lossy, Learned, blocked, failing, learned, levelFill, keepSums, raise, stepped, unlessRefused, levelStepBy, levelStep}
+use Rattle.steps.specs.Steps.{lossy, Learned, blocked, failing, learned, levelFill, newSums, keepSums, raise, stepped, unlessRefused, levelStepBy, levelStep}
 use Rattle.plans.specs.Refusal.{unasked, benchRefusal}
 use Rattle.plans.specs.Tables.{padded, checkTable, rowSums}
 use Rattle.steps.specs.Learned.{columnOf, columnFill, benchOf, learningOf, sumsAfter}
@@ -35,7 +35,8 @@ use Rattle.plans.proofs.Parts.{part, rows-front}
 use Rattle.plans.proofs.Plans.{rows-most}
 use Rattle.plans.proofs.Sizes.{totals-most}
 use Rattle.plans.proofs.Tables.{weights-lt, sums-more, sums-most}
-use Rattle.steps.proofs.Keeping.{keep-none, keep-last}
+use Rattle.steps.proofs.Keeping.{write-none, write-last}
+use Rattle.steps.proofs.Sums.{writeSums, keep-writes}
 use Rattle.plans.proofs.Lossy.{lossyFrom}
 use Rattle.steps.proofs.Joining.{none-untied, Joining, joining-starts, joining-one, joining-tied, joining-none, joining-ends, level-fill}
 use Rattle.plans.proofs.Numbers.{Weighing, column-rows, column-is, weights-are, weights-suffice}
@@ -139,7 +140,7 @@ pub record LearnedTo (p t rows last word : ℕ) (symbols marks old : List ℕ) (
   pub columns : List (List ℕ)
   pub walk : Joining (columnFill (planOf p) t symbols (lossy (planOf p) marks)) (length (checksTo (planOf p) t))
       (length (levelOf (planOf p) (suc t) .checks)) columns j
-  pub written : kept ≡ keepSums (length (checksTo (planOf p) t)) columns old (upFrom 0 (planOf p .rows))
+  pub written : kept ≡ writeSums (length (checksTo (planOf p) t)) columns old (upFrom 0 (planOf p .rows))
 
 -- what learning answers and leaves
 abbrev pub Learns : (p t : ℕ) (symbols marks old : List ℕ) → Learning → List ℕ → Type 0
@@ -180,7 +181,7 @@ learned-starts p t {rows} {first} {last} {word} symbols {marks} old high start e
   small = rw high at (told .1);
   columns = [];
   walk = rw start (joining-starts _ _ _);
-  written = sym (keep-none _ old _);
+  written = sym (write-none _ old _);
 }
 
 -- more rows with marks than totals block it
@@ -210,7 +211,7 @@ module _ {p t rows last word j : ℕ} {symbols marks old kept : List ℕ} (s : L
   pub learned-ends : last ≤ j → Learns p t symbols marks old AllLearned kept
   unfolding raise learningOf sumsAfter
   learned-ends all =
-      rw (s .written)
+      rw (s .written ∙ sym (keep-writes _ (s .columns) (omega (arith, s .walk, sums-more (planOf p) t, sums-most p (suc t))) (planOf p .rows) old))
       (learns-by p t symbols marks old
       (level-fill p t symbols marks old ∙ joining-ends _ _ _ (rw (← sums-more (planOf p) t, ← s .end) all) (s .walk)))
 
@@ -241,7 +242,7 @@ module _ {p t rows last word j : ℕ} {symbols marks old kept : List ℕ} (s : L
 
       pub learned-more : (column : List ℕ) {next : List ℕ} → a ≡ One
           → take (planOf p .rows) column ≡ vectorOf (columnFill (planOf p) t symbols (bitsOf (planOf p .rows) word) j) (columnOf (planOf p) symbols j)
-          → next ≡ keepSums j (take rows column ∷ []) kept (upFrom 0 rows) → LearnedTo p t rows last word symbols marks old (j + 1) next
+          → next ≡ keepSums j (map (newSums (take rows column ∷ [])) (upFrom 0 rows)) kept → LearnedTo p t rows last word symbols marks old (j + 1) next
       learned-more column e filled keeps =
           let P = planOf p in
           let at = length (checksTo P t) in
@@ -256,9 +257,10 @@ module _ {p t rows last word j : ℕ} {symbols marks old kept : List ℕ} (s : L
                 (answer-one _ (columnOf P symbols j) (told ∙ e)
                 ∙ ap one (ap (λ ms. vectorOf (columnFill P t symbols ms j) (columnOf P symbols j)) (sym (s .bits)) ∙ sym filled)) (s .walk);
             written =
-                keeps ∙ ap₂ (λ r l. keepSums j (take r column ∷ []) l (upFrom 0 r)) (s .high) (s .written)
-                ∙ ap (λ i. keepSums i (c ∷ []) (keepSums at (s .columns) old (upFrom 0 (P .rows))) (upFrom 0 (P .rows))) (sym (s .walk .count))
-                ∙ keep-last at (s .columns) c (omega (arith, s .walk .count, learned-here, sums-most p (suc t))) 0 (P .rows) old;
+                keeps ∙ keep-writes j (take rows column ∷ []) (omega (arith, learned-here, sums-most p (suc t))) rows kept
+                ∙ ap₂ (λ r l. writeSums j (take r column ∷ []) l (upFrom 0 r)) (s .high) (s .written)
+                ∙ ap (λ i. writeSums i (c ∷ []) (writeSums at (s .columns) old (upFrom 0 (P .rows))) (upFrom 0 (P .rows))) (sym (s .walk .count))
+                ∙ write-last at (s .columns) c (omega (arith, s .walk .count, learned-here, sums-most p (suc t))) 0 (P .rows) old;
           }
 
 -- ---- the level step that learning makes

@@ -1,5 +1,5 @@
 -- What a turn makes of a fit bench, by what was found of the row. Assumes nothing.
-use mathlib.Core.Path.{_≡_, sym, ap, _∙_}
+use mathlib.Core.Path.{_≡_, ap, _∙_}
 use mathlib.Core.List.{List}
 use Prim.Native.Nat.{ℕ, suc, pred, _+_, _<_}
 use native.Mathlib.Nat.{add-zero, le-refl}
