@@ -80,12 +80,12 @@ module _ (b : Bench) where
       level = omega arith;
       symbols = refl;
       marks = refl;
-      sums = keep-room at cs narrow (P .rows) (b .sums);
+      sums = keep-room at cs (P .rows) (b .sums);
       before = λ r l.
-          keep-part at cs narrow (P .rows) at (b .sums) r (omega (arith, narrow)) l
+          keep-part at cs (P .rows) (b .sums) at r (omega (arith, narrow)) l
           ∙ sets-out (newSums cs r) (take at (drop (r * room) (b .sums))) at (simp length-take (omega arith));
       above = λ r l.
-          ap (drop next) (keep-part at cs narrow (P .rows) room (b .sums) r (le-refl room) l)
+          ap (drop next) (keep-part at cs (P .rows) (b .sums) room r (le-refl room) l)
           ∙ drop-sets-before next (newSums cs r) (placesAt (b .sums) r) at (omega (arith, more, length-map cs (λ c. getD c r 0)));
     }
 
@@ -276,12 +276,12 @@ module _ (b : Bench) (s m u : List ℕ) (h : SameRead b (with b s m u)) where
             let x = newSums cs r in
             let here = drop (r * room) (b .sums) in
             let there = drop (r * room) u in
-            keep-part n cs slim (Q .rows) n′ (b .sums) r (omega (arith, up, slim)) l
+            keep-part n cs (Q .rows) (b .sums) n′ r (omega (arith, up, slim)) l
             ∙ sets-agree x (take n′ here) (take n′ there) n
             (simp (length-take, length-drop) (ap (λ k. min n′ (k - r * room)) (h .places)))
             (simp length-take (omega (arith, up, length-map cs (λ c. getD c r 0))))
             (take-take n n′ here (omega (arith, up)) ∙ h .sums r l ∙ sym (take-take n n′ there (omega (arith, up))))
-            ∙ sym (keep-part n cs slim (Q .rows) n′ u r (omega (arith, up, slim)) l);
+            ∙ sym (keep-part n cs (Q .rows) u n′ r (omega (arith, up, slim)) l);
         places =
             let news = map (newSums cs) (upFrom 0 (Q .rows)) in keep-length n news (b .sums) ∙ h .places ∙ sym (keep-length n news u);
       }

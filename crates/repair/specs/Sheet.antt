@@ -3,6 +3,7 @@ use Prim.Native.Nat.{ℕ}
 use mathlib.Core.Path.{_≡_}
 use mathlib.Core.List.{List, [], _∷_, _++_, map}
 use lib.ListN.{replicate, set}
+use Rattle.field.specs.Lists.{_to_}
 use Rattle.field.specs.Field.{mul, gf16, gf32}
 use Rattle.field.specs.Power.{power}
 use Rattle.plans.specs.Plan.{wordOf}
@@ -24,15 +25,19 @@ pub record Case : Type 0 where
   pub stripeAfter : List ℕ
   pub marksAfter : List ℕ
 
+-- Restored at level 2, so many rows at level 1 and at level 2
 unfoldable pub restored : (level1 level2 : ℕ) → Report
 restored a b = record { answer = Restored; level = 2; rows = a ∷ b ∷ 0 ∷ []; left = 0 }
 
+-- Stuck at a level, no row restored and so many left
 unfoldable pub stuck : (level left : ℕ) → Report
 stuck t n = record { answer = Stuck; level = t; rows = 0 ∷ 0 ∷ 0 ∷ []; left = n }
 
+-- a Clash at a place
 unfoldable pub clashed : Place → Report
 clashed place = record { answer = Clash place; level = 0; rows = 0 ∷ 0 ∷ 0 ∷ []; left = 0 }
 
+-- the zero stripe
 unfoldable pub blank : List ℕ
 blank = replicate 21 0
 
@@ -55,9 +60,11 @@ exampleStripe = (1 ∷ replicate 6 0) ++ (0 ∷ 0 ∷ 0 ∷ 0 ∷ 0 ∷ 1 ∷ 0 
 unfoldable pub exampleMarks : List ℕ
 exampleMarks = 2 ∷ 21 ∷ 4 ∷ []
 
+-- restored
 unfoldable pub exampleAfter : List ℕ
 exampleAfter = (1 ∷ 1 ∷ replicate 5 0) ++ (0 ∷ 0 ∷ 0 ∷ 0 ∷ 1 ∷ 1 ∷ 0 ∷ []) ++ replicate 7 0
 
+-- its file
 unfoldable pub exampleFile : List ℕ
 exampleFile =
     (0x01 ∷ 0x03 ∷ 0x07 ∷ 0x00 ∷ 0x08 ∷ 0x00 ∷ 0x14 ∷ 0x00 ∷ 0x02 ∷ 0x00 ∷ 0x00 ∷ 0x00 ∷ 0x15 ∷ 0x00 ∷ 0x00 ∷ 0x00 ∷ 0x04 ∷ 0x00 ∷ 0x00 ∷ 0x00 ∷ [])
@@ -70,7 +77,7 @@ exampleData = 1 ∷ replicate 14 0
 unfoldable pub exampleWord : List ℕ
 exampleWord = (1 ∷ 0 ∷ 0 ∷ 0 ∷ 0 ∷ 0 ∷ 1 ∷ []) ++ replicate 7 0 ++ (0 ∷ 0 ∷ 1 ∷ 0 ∷ 1 ∷ 0 ∷ 0 ∷ [])
 
--- stripes to mend
+-- what is mended
 unfoldable pub cases : List Case
 cases =
     -- no marks
@@ -84,9 +91,9 @@ cases =
     -- the same, with column 2 of row 1 set
     ∷ unchanged (set blank 9 1) (row1 (0 ∷ 1 ∷ 3 ∷ 6 ∷ [])) (stuck 2 1)
     -- rows 0 and 1 with two marks each
-    ∷ unchanged blank (3 ∷ 3 ∷ 0 ∷ []) (stuck 1 2)
+    ∷ unchanged blank (wordOf (0 ∷ 1 ∷ []) ∷ wordOf (0 ∷ 1 ∷ []) ∷ 0 ∷ []) (stuck 1 2)
     -- everything marked
-    ∷ unchanged blank (127 ∷ 127 ∷ 127 ∷ []) (stuck 1 3)
+    ∷ unchanged blank (replicate 3 (wordOf (0 to 6))) (stuck 1 3)
     -- row 0 is 1000000, no marks
     ∷ unchanged (set blank 0 1) (0 ∷ 0 ∷ 0 ∷ []) (clashed (Row 0 1))
     -- row 0 is 1100000, no marks

@@ -34,9 +34,8 @@ use Rattle.plans.proofs.Shape.{some-check}
 use Rattle.plans.proofs.Parts.{part, rows-front}
 use Rattle.plans.proofs.Plans.{rows-most}
 use Rattle.plans.proofs.Sizes.{totals-most}
-use Rattle.plans.proofs.Tables.{weights-lt, sums-more, sums-most}
-use Rattle.steps.proofs.Keeping.{write-none, write-last}
-use Rattle.steps.proofs.Sums.{writeSums, keep-writes}
+use Rattle.plans.proofs.Tables.{weights-lt, sums-more}
+use Rattle.steps.proofs.Keeping.{keep-none, keep-last}
 use Rattle.plans.proofs.Lossy.{lossyFrom}
 use Rattle.steps.proofs.Joining.{none-untied, Joining, joining-starts, joining-one, joining-tied, joining-none, joining-ends, level-fill}
 use Rattle.plans.proofs.Numbers.{Weighing, column-rows, column-is, weights-are, weights-suffice}
@@ -140,7 +139,7 @@ pub record LearnedTo (p t rows last word : ℕ) (symbols marks old : List ℕ) (
   pub columns : List (List ℕ)
   pub walk : Joining (columnFill (planOf p) t symbols (lossy (planOf p) marks)) (length (checksTo (planOf p) t))
       (length (levelOf (planOf p) (suc t) .checks)) columns j
-  pub written : kept ≡ writeSums (length (checksTo (planOf p) t)) columns old (upFrom 0 (planOf p .rows))
+  pub written : kept ≡ keepSums (length (checksTo (planOf p) t)) (map (newSums columns) (upFrom 0 (planOf p .rows))) old
 
 -- what learning answers and leaves
 abbrev pub Learns : (p t : ℕ) (symbols marks old : List ℕ) → Learning → List ℕ → Type 0
@@ -181,7 +180,7 @@ learned-starts p t {rows} {first} {last} {word} symbols {marks} old high start e
   small = rw high at (told .1);
   columns = [];
   walk = rw start (joining-starts _ _ _);
-  written = sym (write-none _ old _);
+  written = sym (keep-none _ (upFrom 0 (planOf p .rows)) old);
 }
 
 -- more rows with marks than totals block it
@@ -211,7 +210,7 @@ module _ {p t rows last word j : ℕ} {symbols marks old kept : List ℕ} (s : L
   pub learned-ends : last ≤ j → Learns p t symbols marks old AllLearned kept
   unfolding raise learningOf sumsAfter
   learned-ends all =
-      rw (s .written ∙ sym (keep-writes _ (s .columns) (omega (arith, s .walk, sums-more (planOf p) t, sums-most p (suc t))) (planOf p .rows) old))
+      rw (s .written)
       (learns-by p t symbols marks old
       (level-fill p t symbols marks old ∙ joining-ends _ _ _ (rw (← sums-more (planOf p) t, ← s .end) all) (s .walk)))
 
@@ -247,6 +246,7 @@ module _ {p t rows last word j : ℕ} {symbols marks old kept : List ℕ} (s : L
           let P = planOf p in
           let at = length (checksTo P t) in
           let c = take (P .rows) column in
+          let rs = upFrom 0 (P .rows) in
           record {
             high = s .high;
             end = s .end;
@@ -257,10 +257,9 @@ module _ {p t rows last word j : ℕ} {symbols marks old kept : List ℕ} (s : L
                 (answer-one _ (columnOf P symbols j) (told ∙ e)
                 ∙ ap one (ap (λ ms. vectorOf (columnFill P t symbols ms j) (columnOf P symbols j)) (sym (s .bits)) ∙ sym filled)) (s .walk);
             written =
-                keeps ∙ keep-writes j (take rows column ∷ []) (omega (arith, learned-here, sums-most p (suc t))) rows kept
-                ∙ ap₂ (λ r l. writeSums j (take r column ∷ []) l (upFrom 0 r)) (s .high) (s .written)
-                ∙ ap (λ i. writeSums i (c ∷ []) (writeSums at (s .columns) old (upFrom 0 (P .rows))) (upFrom 0 (P .rows))) (sym (s .walk .count))
-                ∙ write-last at (s .columns) c (omega (arith, s .walk .count, learned-here, sums-most p (suc t))) 0 (P .rows) old;
+                keeps ∙ ap₂ (λ r l. keepSums j (map (newSums (take r column ∷ [])) (upFrom 0 r)) l) (s .high) (s .written)
+                ∙ ap (λ i. keepSums i (map (newSums (c ∷ [])) rs) (keepSums at (map (newSums (s .columns)) rs) old)) (sym (s .walk .count))
+                ∙ keep-last at (s .columns) c rs old;
           }
 
 -- ---- the level step that learning makes

@@ -60,7 +60,7 @@ module _ (P : Plan) where
       let f : length (newSums cs r) ≡ length cs = length-map cs (λ c. getD c r 0) in
       let g : r * room + room ≤ P .rows * room = row-end room inside in
       let full : length part ≡ m = length-take-le m (drop (r * room) sums) (simp length-drop (omega arith)) in
-      keep-part at cs (omega arith) (P .rows) m sums r narrow inside
+      keep-part at cs (P .rows) sums m r narrow inside
       ∙ sets-eq (newSums cs r) part at (omega arith)
       ∙ ap₂ (λ a b. a ++ newSums cs r ++ b) (take-take at m (drop (r * room) sums) (omega arith))
       (drop-of-length-le part {i = at + length (newSums cs r)} (omega arith))
