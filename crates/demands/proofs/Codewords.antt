@@ -17,10 +17,10 @@ use Rattle.linear.specs.Fill.{sumsOf}
 use Rattle.linear.proofs.Tests.{In, all-in, vanish→zeros}
 use Rattle.plans.specs.Plan.{Plan, noLevel, planOf, levelOf, rowAt, across}
 use Rattle.plans.specs.Refusal.{allBelow}
+use Rattle.steps.specs.Steps.{newSums}
 use Rattle.codewords.specs.Codeword.{rowsHold, totalsHold, isCodeword}
 use Rattle.plans.proofs.Flat.{all-at}
 use Rattle.plans.proofs.Rows.{row-end, row-length}
-use Rattle.steps.proofs.Sums.{learnedAt}
 use Rattle.steps.proofs.Fit.{all-rows, all-take, all-drop}
 use Rattle.demands.specs.Words.{Codeword}
 
@@ -56,7 +56,7 @@ module _ (F : Field) where
 
 -- row r's share of the rows' sums under checks is its own sums
 pub across-row : (P : Plan) (X : List ℕ) (cs : List (List ℕ)) (r : ℕ) → r < P .rows
-    → learnedAt (map (across P X) cs) r ≡ sumsOf (P .field) cs (rowAt P X r)
+    → newSums (map (across P X) cs) r ≡ sumsOf (P .field) cs (rowAt P X r)
 unfolding across sumsOf
 across-row P X [] r h = refl
 across-row P X (c ∷ cs) r h = ap₂ _∷_ (getD-map-below (λ r. dot (P .field) c (rowAt P X r)) (P .rows) r 0 h) (across-row P X cs r h)

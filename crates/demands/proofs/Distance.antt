@@ -8,12 +8,11 @@ use lib.Count.{ones}
 use lib.Dec.{T, eqb, ltb, lt→ltb}
 use lib.ListN.{length, take, drop, getD, replicate, length-map, length-replicate, take-append-drop, drop-of-length-le}
 use lib.Seq.{drop-drop}
-use Rattle.field.specs.Lists.{upFrom}
+use Rattle.field.specs.Lists.{upFrom, weight}
 use Rattle.field.specs.Field.{Field, size, dot}
 use Rattle.field.proofs.Test.{both}
 use Rattle.field.proofs.Lists.{length-up, getD-map-below}
 use Rattle.field.proofs.Laws.{IsField, size-pos}
-use Rattle.field.proofs.Words.{weight}
 use Rattle.linear.specs.Lists.{all, zeros, vanish}
 use Rattle.linear.specs.Marks.{bitsOf}
 use Rattle.linear.specs.Fill.{sumsOf}

@@ -7,13 +7,13 @@ use native.Mathlib.Nat.{le-of-suc-le-suc, not-suc-le-zero}
 use lib.Arith.{le-zero}
 use lib.Dec.{T, ltb, ltb→lt}
 use lib.ListN.{length, getD}
-use Rattle.field.specs.Lists.{upFrom}
+use Rattle.field.specs.Lists.{upFrom, weight}
 use Rattle.field.specs.Field.{_⊕_, Field, size, double, times, mul, gf2, gf8, gf16, gf32}
 use Rattle.field.specs.Power.{power, powerSum}
 use Rattle.field.proofs.Test.{both-left, both-right}
 use Rattle.field.proofs.Laws.{IsField, mul-one}
 use Rattle.field.proofs.Fields.{gf8-field, gf16-field, gf32-field}
-use Rattle.field.proofs.Words.{Fit, weight, fit-le, fit, distinct, are-fit, are-distinct}
+use Rattle.field.proofs.Words.{Fit, fit-le, fit, distinct, are-fit, are-distinct}
 use Rattle.field.proofs.Powers.{independent}
 use Rattle.linear.proofs.Filling.{Independent}
 use Rattle.plans.specs.Plan.{ones, bitChecks, locations1, plan1, locations2, powers2, plan2, locations3, powers3, plan3}

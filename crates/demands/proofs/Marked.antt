@@ -11,11 +11,11 @@ use lib.Count.{ones, ones-step}
 use lib.Dec.{T, T-not, eqb, eqb·suc-zero, lit<}
 use lib.ListN.{length, length-map}
 use lib.Pow.{shr-shr, shr-lt}
-use Rattle.field.specs.Lists.{if_then_else_, upFrom}
+use Rattle.field.specs.Lists.{if_then_else_, upFrom, weight}
 use Rattle.field.specs.Field.{Field, size}
 use Rattle.field.proofs.Sum.{of-bits, bit}
 use Rattle.field.proofs.Ring.{size-pos}
-use Rattle.field.proofs.Words.{Fit, weight}
+use Rattle.field.proofs.Words.{Fit}
 use Rattle.linear.specs.Lists.{all, only, zeros, vanish, first, rest}
 use Rattle.linear.specs.Marks.{bitsOf}
 use Rattle.linear.specs.Fill.{sumsOf}

@@ -6,10 +6,9 @@ use Prim.Native.Nat.{ℕ, zero, suc, _+_, _<_}
 use native.Mathlib.Omega.{arith}
 use lib.Dec.{T}
 use lib.ListN.{replicate}
-use Rattle.field.specs.Lists.{if_then_else_, upFrom}
+use Rattle.field.specs.Lists.{if_then_else_, upFrom, weight}
 use Rattle.field.specs.Field.{_⊕_, size, double, times, mul, dot, gf2, gf16, gf32}
 use Rattle.field.specs.Power.{power}
-use Rattle.field.proofs.Words.{weight}
 use Rattle.linear.specs.Lists.{all, vanish}
 use Rattle.linear.specs.Fill.{sumsOf}
 use Rattle.linear.proofs.Tests.{either}

@@ -22,11 +22,10 @@ use Rattle.linear.proofs.Vectors.{sums-append}
 use Rattle.linear.proofs.Filling.{Means, fill-means}
 use Rattle.plans.specs.Plan.{Plan, Level, noLevel, planOf, levelOf, checksTo, rowAt, marksAt, across}
 use Rattle.plans.specs.Refusal.{room, sumsAt}
-use Rattle.steps.specs.Steps.{fresh, rowFill, putRow, lossy, blocked, learned, levelFill, raise}
+use Rattle.steps.specs.Steps.{fresh, rowFill, putRow, lossy, blocked, learned, levelFill, newSums, raise}
 use Rattle.codewords.specs.Codeword.{rowsHold, totalsHold}
 use Rattle.plans.specs.declared.Bench.{Bench}
 use Rattle.plans.proofs.Rows.{of-rows, row-end}
-use Rattle.steps.proofs.Sums.{learnedAt}
 use Rattle.steps.proofs.Levels.{checks-first, checks-suc, checks-le, sums-length}
 use Rattle.plans.proofs.Shape.{shape}
 use Rattle.steps.proofs.Fit.{lent-fit, rows-all, fresh-mark, fresh-row, fresh-sums}
@@ -155,7 +154,7 @@ module _ (stripe marks : List ℕ) (b : Bench) (s : Reached (b .plan) stripe mar
 
   -- what was learned has zero totals, and so has a stripe with those sums
   totals-of : (Y : List ℕ) (checks cs : List (List ℕ)) → Ones (totalFill b L) checks cs
-      → ((r : ℕ) → r < Q .rows → learnedAt cs r ≡ sumsOf (Q .field) checks (rowAt Q Y r))
+      → ((r : ℕ) → r < Q .rows → newSums cs r ≡ sumsOf (Q .field) checks (rowAt Q Y r))
       → T (all (λ c. vanish (sumsOf (Q .field) (L .weights) (across Q Y c))) checks)
   unfolding all sumsOf across lossy
   totals-of Y [] [] o e = tt
@@ -195,13 +194,13 @@ module _ (stripe marks : List ℕ) (b : Bench) (s : Reached (b .plan) stripe mar
     -- a stripe with the sums of levels 1 to t + 1 has those of levels 1 to t, and those that were learned
     has-parts : (Y : List ℕ) → Has (b .plan) (raise b cs) Y → (r : ℕ) → r < Q .rows
         → (sumsAt Q (b .level) (b .sums) r ≡ sumsOf (Q .field) (checksTo Q (b .level)) (rowAt Q Y r))
-        × (learnedAt cs r ≡ sumsOf (Q .field) (L .checks) (rowAt Q Y r))
+        × (newSums cs r ≡ sumsOf (Q .field) (L .checks) (rowAt Q Y r))
     unfolding raise
     has-parts Y has r l =
         let f = s .sound .fit in
         let sh = shape (b .plan) (f .plan-known) in
         let C = checksTo Q (b .level) in
-        append-parts (sumsAt Q (b .level) (b .sums) r) (learnedAt cs r) (sumsOf (Q .field) C (rowAt Q Y r))
+        append-parts (sumsAt Q (b .level) (b .sums) r) (newSums cs r) (sumsOf (Q .field) C (rowAt Q Y r))
         (sumsOf (Q .field) (L .checks) (rowAt Q Y r))
         (sym (raise-sums b f (s .sound .sized) low cs (learned-length b f cs e) r l) ∙ has r l
         ∙ ap (λ cs. sumsOf (Q .field) cs (rowAt Q Y r)) (checks-suc Q (b .level) low) ∙ sums-append (Q .field) C (L .checks) (rowAt Q Y r))

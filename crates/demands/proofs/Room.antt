@@ -3,8 +3,8 @@ use mathlib.Core.Path.{_≡_, refl, sym, ap, ap₂, _∙_, subst}
 use mathlib.Core.Logic.{inl, inr}
 use mathlib.Core.Bool.{Bool, true, false, not, _&&_}
 use mathlib.Core.List.{List, [], _∷_, map}
-use Prim.Native.Nat.{ℕ, zero, suc, _+_, _*_, _-_, _^_, _<_, _≤_, zero-le, min}
-use native.Mathlib.Nat.{zero-add, add-sub-of-le, le-refl, le-trans}
+use Prim.Native.Nat.{ℕ, zero, suc, _+_, _*_, _-_, _^_, _<_, _≤_, min}
+use native.Mathlib.Nat.{add-sub-of-le, le-refl, le-trans}
 use native.Mathlib.Omega.{arith}
 use lib.Dec.{T, eqb, ltb, ltb→lt, nltb→le}
 use lib.ListN.{length, take, drop, getD, set, length-append, length-map, length-take, length-drop}
@@ -18,13 +18,13 @@ use Rattle.linear.specs.Fill.{Fill, tied, none, one, fill}
 use Rattle.linear.proofs.Tests.{either}
 use Rattle.plans.specs.Plan.{Plan, Level, known, planOf, levelOf, checksTo, rowAt, marksAt, across}
 use Rattle.plans.specs.Refusal.{room, unasked, inMemory, marksFit, allBelow, unmarkedBelow, symbolsFit, sumsAt, sumsFit, levelFits, benchRefusal}
-use Rattle.steps.specs.Steps.{stepped, unlessRefused, rowFill, putRow, rowStepBy, rowStep, lossy, Learned, blocked, failing, learned, joined, levelFill, keepSums, raise, levelStepBy, levelStep}
+use Rattle.steps.specs.Steps.{stepped, unlessRefused, rowFill, putRow, rowStepBy, rowStep, lossy, Learned, blocked, failing, learned, joined, levelFill, newSums, raise, levelStepBy, levelStep}
 use Rattle.steps.specs.Learned.{benchOf}
 use Rattle.plans.specs.declared.Bench.{Bench}
 use Rattle.plans.specs.declared.Stepped.{Stepped}
 use Rattle.plans.specs.declared.Step.the-variants.{Whole, Filled, Top}
 use Rattle.plans.proofs.Rows.{row-end, take-sets, drop-sets-before, sets-out}
-use Rattle.steps.proofs.Sums.{learnedAt, keep-length, keep-part, keep-room}
+use Rattle.steps.proofs.Sums.{keep-length, keep-part, keep-room}
 use Rattle.plans.proofs.Flat.{rowIn}
 use Rattle.plans.proofs.Parts.{rows-of, rows-front}
 use Rattle.steps.proofs.Levels.{checks-suc, checks-le}
@@ -80,15 +80,13 @@ module _ (b : Bench) where
       level = omega arith;
       symbols = refl;
       marks = refl;
-      sums =
-          subst (λ n. drop (n * room) (keepSums at cs (b .sums) (upFrom 0 (P .rows))) ≡ drop (n * room) (b .sums)) (zero-add (P .rows))
-          (keep-room at cs narrow 0 (P .rows) (b .sums));
+      sums = keep-room at cs (P .rows) (b .sums);
       before = λ r l.
-          keep-part at cs narrow 0 (P .rows) at (b .sums) r (omega (arith, narrow)) zero-le (omega arith)
-          ∙ sets-out (learnedAt cs r) (take at (drop (r * room) (b .sums))) at (simp length-take (omega arith));
+          keep-part at cs (P .rows) (b .sums) at r (omega (arith, narrow)) l
+          ∙ sets-out (newSums cs r) (take at (drop (r * room) (b .sums))) at (simp length-take (omega arith));
       above = λ r l.
-          ap (drop next) (keep-part at cs narrow 0 (P .rows) room (b .sums) r (le-refl room) zero-le (omega arith))
-          ∙ drop-sets-before next (learnedAt cs r) (placesAt (b .sums) r) at (omega (arith, more, length-map cs (λ c. getD c r 0)));
+          ap (drop next) (keep-part at cs (P .rows) (b .sums) room r (le-refl room) l)
+          ∙ drop-sets-before next (newSums cs r) (placesAt (b .sums) r) at (omega (arith, more, length-map cs (λ c. getD c r 0)));
     }
 
 pub steps-keep-room : StepsKeepRoom
@@ -275,17 +273,17 @@ module _ (b : Bench) (s m u : List ℕ) (h : SameRead b (with b s m u)) where
         symbols = h .symbols;
         marks = h .marks;
         sums = λ r l.
-            let x = learnedAt cs r in
+            let x = newSums cs r in
             let here = drop (r * room) (b .sums) in
             let there = drop (r * room) u in
-            keep-part n cs slim 0 (Q .rows) n′ (b .sums) r (omega (arith, up, slim)) zero-le (omega arith)
+            keep-part n cs (Q .rows) (b .sums) n′ r (omega (arith, up, slim)) l
             ∙ sets-agree x (take n′ here) (take n′ there) n
             (simp (length-take, length-drop) (ap (λ k. min n′ (k - r * room)) (h .places)))
             (simp length-take (omega (arith, up, length-map cs (λ c. getD c r 0))))
             (take-take n n′ here (omega (arith, up)) ∙ h .sums r l ∙ sym (take-take n n′ there (omega (arith, up))))
-            ∙ sym (keep-part n cs slim 0 (Q .rows) n′ u r (omega (arith, up, slim)) zero-le (omega arith));
+            ∙ sym (keep-part n cs (Q .rows) u n′ r (omega (arith, up, slim)) l);
         places =
-            keep-length n cs (b .sums) (upFrom 0 (Q .rows)) ∙ h .places ∙ sym (keep-length n cs u (upFrom 0 (Q .rows)));
+            let news = map (newSums cs) (upFrom 0 (Q .rows)) in keep-length n news (b .sums) ∙ h .places ∙ sym (keep-length n news u);
       }
 
   -- refused alike

@@ -18,14 +18,13 @@ use Rattle.linear.proofs.Tests.{either}
 use Rattle.linear.proofs.Choices.{alike-agrees}
 use Rattle.linear.proofs.Filling.{Means, dependent-in, in-dependent, fill-means, fill-tied, fill-one}
 use Rattle.plans.specs.Plan.{Plan, planOf, checksTo, rowAt, marksAt}
-use Rattle.plans.specs.Answers.{stepNumber}
 use Rattle.plans.specs.Refusal.{allBelow, sumsAt}
 use Rattle.steps.specs.Steps.{fresh, stepped, rowFill, putRow, rowStepBy, rowStep, Learned, blocked, failing, learned, levelFill, raise, levelStepBy, levelStep}
-use Rattle.steps.specs.Rounds.{Standing, Turn, on, end, clash, counted, afterRow, afterLevel, takeTurn, goOn, turns}
+use Rattle.steps.specs.Rounds.{Standing, Turn, on, end, clash, more, afterRow, afterLevel, takeTurn, goOn, turns}
 use Rattle.repair.specs.Mending.{mended}
 use Rattle.plans.specs.declared.Bench.{Bench}
 use Rattle.plans.specs.declared.Stepped.{Stepped}
-use Rattle.plans.specs.declared.Step.the-variants.{Whole, Filled, Tied, Top}
+use Rattle.plans.specs.declared.Step.the-variants.{Whole, Filled, Top}
 use Rattle.plans.proofs.Rows.{row-length, row-again, marks-length}
 use Rattle.steps.proofs.Fit.{if-true, if-false}
 use Rattle.steps.proofs.Sound.{Sound, row-outside, row-step, level-step, row-place, filled-row, put-mark, put-mark-other, put-row, put-row-other}
@@ -242,11 +241,11 @@ module _ (p : ℕ) (stripe marks : List ℕ) (fit : Fit p stripe marks) where
             ]);
       }
 
-      row-goes : (a : Fill) → rowFill b k ≡ a → Goes (Round n) Out (afterRow m (rowStepBy b k a))
-      unfolding if_then_else_ afterRow rowStepBy stepped stepNumber putRow
+      row-goes : (a : Fill) → rowFill b k ≡ a → Goes (Round n) Out (afterRow m (rowStepBy b k a .answer) (rowStepBy b k a .bench))
+      unfolding if_then_else_ afterRow rowStepBy stepped putRow
       row-goes tied e =
           next-row b (ap (λ (c : Stepped). c .bench) (row-step b (i .reached .sound .fit) k (own-rows l) ∙ ap (rowStepBy b k) e)) refl (i .reached)
-          (tied-settled b (i .reached .sound) k (own-rows l) e) (λ r j h. h) (counted Tied (b .level) (m .restored))
+          (tied-settled b (i .reached .sound) k (own-rows l) e) (λ r j h. h) (m .restored)
       row-goes none e = λ X word agree.
           never-none (rowTied p (b .level) (b .marks) k) (rowAt Q X k) (sym (row-finds p X b (i .reached .held X word agree) k l) ∙ e)
       row-goes (one row) e = by (eqb (getD (b .marks) k 0) 0) refl
@@ -263,16 +262,17 @@ module _ (p : ℕ) (stripe marks : List ℕ) (fit : Fit p stripe marks) where
               (put-settled b (i .reached .sound) k (own-rows l) row e)
               (λ r j. put-settled-other b (i .reached .sound) k (own-rows l) row e r (λ q. omega (arith, q)))
 
-          by : (z : Bool) → eqb (getD (b .marks) k 0) 0 ≡ z → Goes (Round n) Out (afterRow m (stepped c (if z then Whole else Filled)))
-          by true q = next (counted Whole (b .level) (m .restored))
-          by false q = next (counted Filled (b .level) (m .restored))
+          by : (z : Bool) → eqb (getD (b .marks) k 0) 0 ≡ z → Goes (Round n) Out (afterRow m (if z then Whole else Filled) c)
+          by true q = next (m .restored)
+          by false q = next (more (b .level) 1 (m .restored))
 
       turn-row : Goes (Round n) Out (takeTurn m)
       unfolding takeTurn
       turn-row =
           subst (Goes (Round n) Out)
-          (sym (if-true (ltb k (planOf (b .plan) .rows)) (afterRow m (rowStep b k)) (afterLevel m (levelStep b .answer) (levelStep b .bench))
-          (lt→ltb k (planOf (b .plan) .rows) (own-rows l)) ∙ ap (afterRow m) (row-step b (i .reached .sound .fit) k (own-rows l))))
+          (sym (if-true (ltb k (planOf (b .plan) .rows)) (afterRow m (rowStep b k .answer) (rowStep b k .bench))
+          (afterLevel m (levelStep b .answer) (levelStep b .bench)) (lt→ltb k (planOf (b .plan) .rows) (own-rows l))
+          ∙ ap (λ (s : Stepped). afterRow m (s .answer) (s .bench)) (row-step b (i .reached .sound .fit) k (own-rows l))))
           (row-goes (rowFill b k) refl)
 
     -- ---- the level step's turn
@@ -339,7 +339,8 @@ module _ (p : ℕ) (stripe marks : List ℕ) (fit : Fit p stripe marks) where
       unfolding takeTurn
       turn-level =
           subst (Goes (Round n) Out)
-          (sym (if-false (ltb k (planOf (b .plan) .rows)) (afterRow m (rowStep b k)) (afterLevel m (levelStep b .answer) (levelStep b .bench))
+          (sym (if-false (ltb k (planOf (b .plan) .rows)) (afterRow m (rowStep b k .answer) (rowStep b k .bench))
+          (afterLevel m (levelStep b .answer) (levelStep b .bench))
           (le→nltb k (planOf (b .plan) .rows) (subst (λ q. planOf q .rows ≤ k) (sym (i .reached .plan)) (omega arith)))))
           (level-goes (ltb (b .level) top) refl (levelFill b) refl)
 

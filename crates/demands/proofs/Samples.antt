@@ -7,19 +7,17 @@ use native.Mathlib.Omega.{arith}
 use lib.Count.{ones as bitsSet, onesIn}
 use lib.Dec.{T, eqb, ltb, eqb→eq}
 use lib.ListN.{length, getD, replicate, set}
-use Rattle.field.specs.Lists.{if_then_else_, upFrom}
+use Rattle.field.specs.Lists.{if_then_else_, upFrom, weight}
 use Rattle.field.specs.Field.{_⊕_, size, double, times, mul, dot, gf2}
 use Rattle.field.proofs.Test.{both-left, both-right}
-use Rattle.field.proofs.Words.{weight}
 use Rattle.linear.specs.Lists.{any, all, only, same, zeros, vanish, first, rest}
 use Rattle.linear.specs.Marks.{bitsOf}
 use Rattle.linear.specs.Fill.{sumsOf, options, before, choices, loose, dependent, fillings, fillBy, fill}
 use Rattle.linear.proofs.Choices.{Alike, alike-at}
 use Rattle.plans.specs.Plan.{ones, bitChecks, wordOf, locations1, plan1, known, noPlan, planOf, noLevel, levelOf, checksTo, rowAt, marksAt, marksOf, across, checkPlacesOf, carried, marksOffset, symbolsOffset, fileLength}
-use Rattle.plans.specs.Answers.{stepNumber}
 use Rattle.plans.specs.Refusal.{firstFailed, unasked, inMemory, inFile, stripeFits, wordsFit, marksFit, allBelow, unmarkedBelow, symbolsFit, sumsAt, sumsFit, levelFits, lentRefusal, benchRefusal}
 use Rattle.steps.specs.Steps.{fresh, empty, stepped, unlessRefused, rowFill, putRow, rowStepBy, rowStep, lossy, join, joined, levelFill, keepSums, raise, levelStepBy, levelStep}
-use Rattle.steps.specs.Rounds.{Standing, on, counted, afterRow, afterLevel, takeTurn, goOn, turns}
+use Rattle.steps.specs.Rounds.{Standing, on, more, afterRow, afterLevel, takeTurn, goOn, turns}
 use Rattle.steps.specs.Walk.{standingOf}
 use Rattle.repair.specs.Mending.{mendReport, mendMarks}
 use Rattle.codewords.specs.Codeword.{rowsHold, totalsHold, isCodeword, encodeRefusal, extractRefusal}
@@ -28,7 +26,8 @@ use Rattle.plans.specs.declared.Bench.{Bench}
 use Rattle.plans.specs.declared.Answer.{Answer}
 use Rattle.plans.specs.declared.Answer.the-variants.{Restored, Stuck, Clash}
 use Rattle.plans.specs.declared.Place.the-variants.{Row}
-use Rattle.repair.proofs.Sheet.{Case, restored, stuck, clashed, blank, unchanged, blankRestored, row1, exampleStripe, exampleMarks, exampleAfter, exampleFile, cases, done, sheet}
+use Rattle.repair.specs.Sheet.{Case, restored, stuck, clashed, blank, unchanged, blankRestored, row1, exampleStripe, exampleMarks, exampleAfter, exampleFile, exampleData, cases, done}
+use Rattle.repair.proofs.Sheet.{sheet}
 use Rattle.repair.proofs.Samples.{noMarks, withByte, withBytes, file-order}
 use Rattle.steps.proofs.Sound.{row-outside}
 use Rattle.demands.specs.Words.{Codeword, Agree, Fit, Move, onRow, onLevel, walk, Quiet, rounds, rowsWith, counts, MeetsCounts, total, rowDistance, distance}
@@ -127,11 +126,11 @@ module _ (i : ℕ) where
 
 pub is-restored : mendReport 1 exampleStripe exampleMarks .answer ≡ Restored
 unfolding restored stuck clashed unchanged blankRestored cases done
-is-restored = ap (answers 1) (sheet .0)
+is-restored = ap (answers 1) (sheet .mending)
 
 pub is-stuck : mendReport 1 blank (row1 (0 ∷ 1 ∷ 3 ∷ 6 ∷ [])) .answer ≡ Stuck
 unfolding restored stuck clashed unchanged blankRestored cases done
-is-stuck = ap (answers 3) (sheet .0)
+is-stuck = ap (answers 3) (sheet .mending)
 
 -- and a codeword that agrees with what is Stuck: the stripe itself
 pub blank-word : Codeword 1 blank
@@ -141,7 +140,7 @@ blank-word = record { long = refl; symbols = tt; holds = tt }
 
 pub is-clash : mendReport 1 (set blank 0 1) (0 ∷ 0 ∷ 0 ∷ []) .answer ≡ Clash (Row 0 1)
 unfolding restored stuck clashed unchanged blankRestored cases done
-is-clash = ap (answers 7) (sheet .0)
+is-clash = ap (answers 7) (sheet .mending)
 
 -- ---- the stopping's: the standing of the example after its first round, rows 0 and 2 restored
 
@@ -159,10 +158,10 @@ exampleRound = standingOf
 pub goes-on : turns 4 (begun 1 exampleStripe exampleMarks) ≡ on exampleRound
 unfolding if_then_else_ upFrom _⊕_ size double times mul dot gf2 flatMap
     any all only same zeros vanish first rest bitsOf sumsOf options before choices loose dependent fillings fillBy fill
-    ones bitChecks locations1 plan1 known planOf noLevel levelOf checksTo rowAt marksAt stepNumber
+    ones bitChecks locations1 plan1 known planOf noLevel levelOf checksTo rowAt marksAt
     firstFailed unasked inMemory marksFit allBelow unmarkedBelow symbolsFit sumsAt sumsFit levelFits benchRefusal
     fresh stepped unlessRefused rowFill putRow rowStepBy rowStep lossy across join joined levelFill keepSums raise levelStepBy levelStep
-    counted afterRow afterLevel takeTurn goOn turns exampleStripe exampleMarks exampleAfter exampleEnd exampleRound
+    more afterRow afterLevel takeTurn goOn turns exampleStripe exampleMarks exampleAfter exampleEnd exampleRound
 goes-on = refl
 
 -- ---- the counts' premises: the example again, which has 1, 3 and 1 marks in a row
@@ -191,13 +190,8 @@ few-enough = omega arith
 
 -- ---- encoding's and extraction's: the bench sheet's data, the example's codeword, and buffers of the plan's lengths
 
-unfoldable pub exampleData : List ℕ
-exampleData = 1 ∷ replicate 14 0
-
 pub encode-fits : encodeRefusal 1 exampleData blank ≡ 0
-unfolding if_then_else_ upFrom size gf2 flatMap all only bitsOf plan1 wordOf known planOf marksAt marksOf
-    firstFailed unasked inMemory stripeFits allBelow checkPlacesOf carried encodeRefusal blank exampleData
-encode-fits = refl
+encode-fits = sheet .encodeFits
 
 pub lengths-fit : (length (replicate {A = ℕ} 15 0) ≡ carried (planOf 1)) × (length blank ≡ planOf 1 .rows * planOf 1 .columns)
 unfolding if_then_else_ upFrom flatMap only bitsOf plan1 wordOf planOf marksAt marksOf checkPlacesOf carried blank
@@ -260,7 +254,7 @@ both-13 = (refl, refl)
 pub still-marked : getD (marksOf (planOf 1) (mendMarks 1 blank (row1 (0 ∷ 1 ∷ 3 ∷ 6 ∷ [])))) 7 true ≡ true
 unfolding upFrom flatMap bitsOf plan1 planOf marksAt marksOf wordOf restored stuck clashed unchanged blankRestored row1 cases done
 still-marked =
-    ap (λ (cs : List Case). getD (marksOf (planOf 1) (getD (map (λ (c : Case). c .marksAfter) cs) 3 [])) 7 true) (sheet .0)
+    ap (λ (cs : List Case). getD (marksOf (planOf 1) (getD (map (λ (c : Case). c .marksAfter) cs) 3 [])) 7 true) (sheet .mending)
 
 -- a place that is still marked after a step: the same column, once row 0 is filled
 pub marked-after : getD (marksOf (planOf 1) (walk (onRow 0 ∷ []) (fresh 1 exampleStripe exampleMarks) .marks)) 7 true ≡ true

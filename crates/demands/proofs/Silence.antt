@@ -17,10 +17,10 @@ use Rattle.linear.specs.Fill.{Fill, tied, none, one}
 use Rattle.linear.proofs.Choices.{Alike}
 use Rattle.linear.proofs.Filling.{fill-alike}
 use Rattle.plans.specs.Plan.{Plan, Level, known, planOf, levelOf, checksTo, rowAt, marksAt, marksOf, across}
-use Rattle.plans.specs.Answers.{answerNumber, stepNumber}
+use Rattle.plans.specs.Answers.{answerNumber}
 use Rattle.plans.specs.Refusal.{unasked, inMemory, marksFit, sumsAt, sumsFit, levelFits, lentRefusal, benchRefusal}
 use Rattle.steps.specs.Steps.{fresh, empty, startedBy, started, stepped, unlessRefused, rowFill, putRow, rowStepBy, rowStep, lossy, Learned, blocked, failing, learned, joined, levelFill, raise, levelStepBy, levelStep}
-use Rattle.steps.specs.Rounds.{Standing, Turn, on, end, clash, counted, afterRow, afterLevel, takeTurn, goOn, turns}
+use Rattle.steps.specs.Rounds.{Standing, Turn, on, end, clash, more, nextRow, afterRow, afterLevel, takeTurn, goOn, turns}
 use Rattle.repair.specs.Mending.{mended, rowsLeft, endReport, turnReport, turnStripe, turnMarks, bare, mendReport, mendStripe, mendMarks}
 use Rattle.repair.specs.Text.{item, grid, summary, reportText, mendText}
 use Rattle.steps.specs.Learned.{benchOf}
@@ -30,7 +30,6 @@ use Rattle.plans.specs.declared.Stepped.{Stepped}
 use Rattle.plans.specs.declared.Step.{Step}
 use Rattle.plans.specs.declared.Step.the-variants.{Whole, Filled, Tied, Raised, Blocked, Top, Clash, Refused}
 use Rattle.plans.specs.declared.Place.{Place}
-use Rattle.plans.specs.declared.Place.the-variants.{Row}
 use Rattle.plans.specs.declared.Report.{Report}
 use Rattle.plans.specs.declared.Answer.{Answer}
 use Rattle.plans.specs.declared.Answer.the-variants.{Restored, Stuck, Clash as Clashing, Refused as Unmended}
@@ -257,18 +256,23 @@ module _ (m : Standing) (t : List ℕ) (h : SameUnmarked (m .bench .plan) (m .be
   abbrev n : Standing
   n = standingOf other (m .turn) (m .restored)
 
-  after-row : (x y : Stepped) → SameStep x y → SameTurn (afterRow m x) (afterRow n y)
-  unfolding if_then_else_ afterRow
+  after-row : (x y : Stepped) → SameStep x y → SameTurn (afterRow m (x .answer) (x .bench)) (afterRow n (y .answer) (y .bench))
+  unfolding afterRow
   after-row x y e =
-      subst (λ a. SameTurn (afterRow m x) (next n (eqb (stepNumber a) 2) a (y .bench))) (e .answer) (go (eqb (stepNumber (x .answer)) 2))
+      subst (λ a. SameTurn (afterRow m (x .answer) (x .bench)) (afterRow n a (y .bench))) (e .answer) (go (x .answer))
     where
-      next : Standing → Bool → Step → Bench → Turn
-      next m z a b =
-          if z then clash (Row (m .turn) (m .bench .level)) else on (standingOf b (suc (m .turn)) (counted a (m .bench .level) (m .restored)))
+      next : (restored : List ℕ) → SameTurn (nextRow m (x .bench) restored) (nextRow n (y .bench) restored)
+      next restored = same-on (standingOf (x .bench) (suc (m .turn)) restored) (y .bench) (e .bench)
 
-      go : (z : Bool) → SameTurn (next m z (x .answer) (x .bench)) (next n z (x .answer) (y .bench))
-      go true = same-clash (Row (m .turn) (mine .level))
-      go false = same-on (standingOf (x .bench) (suc (m .turn)) (counted (x .answer) (mine .level) (m .restored))) (y .bench) (e .bench)
+      go : (a : Step) → SameTurn (afterRow m a (x .bench)) (afterRow n a (y .bench))
+      go Clash = same-clash _
+      go Filled = next (more (mine .level) 1 (m .restored))
+      go Whole = next (m .restored)
+      go Tied = next (m .restored)
+      go Raised = next (m .restored)
+      go Blocked = next (m .restored)
+      go Top = next (m .restored)
+      go (Refused k) = next (m .restored)
 
   after-level : (x y : Stepped) → SameStep x y → SameTurn (afterLevel m (x .answer) (x .bench)) (afterLevel n (y .answer) (y .bench))
   unfolding afterLevel
@@ -292,9 +296,11 @@ module _ (m : Standing) (t : List ℕ) (h : SameUnmarked (m .bench .plan) (m .be
   unfolding if_then_else_ takeTurn
   own-turn = go (ltb (m .turn) (planOf (mine .plan) .rows))
     where
+      taken : Bool → (m : Standing) (r s : Stepped) → Turn
+      taken z m r s = if z then afterRow m (r .answer) (r .bench) else afterLevel m (s .answer) (s .bench)
+
       go : (z : Bool)
-          → SameTurn (if z then afterRow m (rowStep mine (m .turn)) else afterLevel m (levelStep mine .answer) (levelStep mine .bench))
-          (if z then afterRow n (rowStep other (m .turn)) else afterLevel n (levelStep other .answer) (levelStep other .bench))
+          → SameTurn (taken z m (rowStep mine (m .turn)) (levelStep mine)) (taken z n (rowStep other (m .turn)) (levelStep other))
       go true = after-row (rowStep mine (m .turn)) (rowStep other (m .turn)) (own-row mine t h beyond (m .turn))
       go false = after-level (levelStep mine) (levelStep other) (own-level mine t h beyond)
 

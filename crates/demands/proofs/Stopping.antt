@@ -12,7 +12,6 @@ use Rattle.field.specs.Lists.{if_then_else_}
 use Rattle.linear.specs.Fill.{Fill, tied, none, one}
 use Rattle.linear.proofs.Tests.{either}
 use Rattle.plans.specs.Plan.{planOf}
-use Rattle.plans.specs.Answers.{stepNumber}
 use Rattle.steps.specs.Steps.{fresh, stepped, rowFill, putRow, rowStepBy, rowStep, Learned, blocked, failing, learned, levelFill, levelStepBy, levelStep}
 use Rattle.steps.specs.Rounds.{Standing, Turn, on, end, clash, afterRow, afterLevel, takeTurn, goOn, turns}
 use Rattle.steps.specs.Walk.{standingOf}
@@ -83,7 +82,7 @@ module _ (p : ℕ) where
           record { sound = sound-row b (g .sound) k; plan = row-keeps b k .0 ∙ g .plan }
 
       row-goes : (f : Fill) → rowStep b k ≡ rowStepBy b k f → Next m (afterRow m (rowStepBy b k f))
-      unfolding if_then_else_ afterRow rowStepBy stepped stepNumber
+      unfolding if_then_else_ afterRow rowStepBy stepped
       row-goes tied e = row-next (rowStepBy b k tied) e _
       row-goes none e = clash-in-row l (ap (λ (s : Stepped). s .answer) e)
       row-goes (one row) e = by (eqb (getD (b .marks) k 0) 0) e

@@ -4,8 +4,8 @@ use mathlib.Core.Path.{_≡_}
 use mathlib.Core.List.{List}
 use lib.Dec.{T}
 use lib.ListN.{length}
+use Rattle.field.specs.Lists.{weight}
 use Rattle.field.specs.Field.{size}
-use Rattle.field.proofs.Words.{weight}
 use Rattle.linear.specs.Lists.{vanish}
 use Rattle.linear.specs.Fill.{sumsOf}
 use Rattle.plans.specs.Plan.{known, planOf, levelOf, carried}

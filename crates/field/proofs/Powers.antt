@@ -6,11 +6,12 @@ use Prim.Native.Nat.{ℕ, zero, suc, _+_, _<_, _≤_}
 use native.Mathlib.Nat.{zero-add, suc-add}
 use native.Mathlib.Omega.{arith}
 use lib.ListN.{length}
+use Rattle.field.specs.Lists.{weight}
 use Rattle.field.specs.Field.{_⊕_, Field, size, mul, dot}
 use Rattle.field.specs.Power.{power, powerSum}
 use Rattle.field.proofs.Sum.{of-bits, ⊕-comm, ⊕-self, ⊕-zero, zero-⊕, ⊕-four, ⊕-cancel}
 use Rattle.field.proofs.Laws.{IsField, zero-mul, mul-zero, mul-one, mul-⊕, mul-left-comm, domain}
-use Rattle.field.proofs.Words.{Fit, Apart, Distinct, weight}
+use Rattle.field.proofs.Words.{Fit, Apart, Distinct}
 
 -- each symbol times f of its location
 unfoldable scale : Field → (ℕ → ℕ) → List ℕ → List ℕ → List ℕ

@@ -1,4 +1,4 @@
--- Words and locations, which are lists of numbers: bounds, distinctness and weight, with tests that settle concrete lists. Assumes nothing.
+-- Words and locations, which are lists of numbers: bounds, distinctness, and what weight 0 means, with tests that settle concrete lists. Assumes nothing.
 use mathlib.Core.Path.{_≡_, refl, ap, subst}
 use mathlib.Core.Bool.{Bool, true, not, _&&_}
 use mathlib.Core.List.{List, [], _∷_}
@@ -8,6 +8,7 @@ use native.Mathlib.Nat.{not-suc-le-zero, le-of-suc-le-suc, le-trans}
 use native.Mathlib.Omega.{arith}
 use lib.Dec.{T, T-not, eqb, eqb-refl, ltb, ltb→lt}
 use lib.ListN.{length, getD, replicate}
+use Rattle.field.specs.Lists.{weight}
 use Rattle.field.proofs.Test.{both-left, both-right}
 
 -- every number of the list has the property
@@ -27,12 +28,6 @@ Apart a = Each (λ x. x ≢ a)
 abbrev pub Distinct : List ℕ → Type 0
 Distinct [] = Unit {0}
 Distinct (x ∷ xs) = Apart x xs × Distinct xs
-
--- how many are not 0
-unfoldable pub weight : List ℕ → ℕ
-weight [] = 0
-weight (zero ∷ w) = weight w
-weight (suc c ∷ w) = suc (weight w)
 
 -- ---- every number
 

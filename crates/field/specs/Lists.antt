@@ -1,5 +1,5 @@
 -- Lists of numbers, and a choice by a test.
-use Prim.Native.Nat.{ℕ, zero, suc}
+use Prim.Native.Nat.{ℕ, zero, suc, _-_}
 use mathlib.Core.Bool.{Bool, true, false}
 use mathlib.Core.List.{List, [], _∷_}
 
@@ -13,3 +13,14 @@ if false then a else b = b
 unfoldable pub upFrom : ℕ → ℕ → List ℕ
 upFrom k zero = []
 upFrom k (suc n) = k ∷ upFrom (suc k) n
+
+-- the numbers from k to n, both among them
+infix 60 _to_
+abbrev pub _to_ : ℕ → ℕ → List ℕ
+k to n = upFrom k (suc n - k)
+
+-- a word's weight: how many of its symbols are not 0
+unfoldable pub weight : List ℕ → ℕ
+weight [] = 0
+weight (zero ∷ w) = weight w
+weight (suc c ∷ w) = suc (weight w)

@@ -4,7 +4,7 @@ use mathlib.Core.Bool.{Bool, not, _&&_}
 use mathlib.Core.List.{List, [], _∷_, _++_, map, flatMap}
 use lib.Dec.{ltb}
 use lib.ListN.{length, take, drop, getD, replicate}
-use Rattle.field.specs.Lists.{upFrom}
+use Rattle.field.specs.Lists.{upFrom, _to_}
 use Rattle.field.specs.Field.{Field, dot, gf2, gf16, gf32}
 use Rattle.field.specs.Power.{power}
 use Rattle.linear.specs.Lists.{only}
@@ -41,7 +41,7 @@ wordOf (c ∷ cs) = 2 ^ c + wordOf cs
 -- ---- plan 1: column c has location c + 1
 
 unfoldable pub locations1 : List ℕ
-locations1 = upFrom 1 7
+locations1 = 1 to 7
 
 unfoldable pub plan1 : Plan
 plan1 = record {
@@ -58,7 +58,7 @@ plan1 = record {
 -- ---- plan 2: column c from 0 to 30 has location a ^ c, column 31 has location 0
 
 unfoldable pub locations2 : List ℕ
-locations2 = map (power gf32 2) (upFrom 0 31) ++ (0 ∷ [])
+locations2 = map (power gf32 2) (0 to 30) ++ (0 ∷ [])
 
 unfoldable pub powers2 : ℕ → List (List ℕ)
 powers2 p = bitChecks 5 (map (λ x. power gf32 x p) locations2)
@@ -73,13 +73,13 @@ plan2 = record {
       ∷ record { checks = powers2 3; weights = ones 8 ∷ [] }
       ∷ record { checks = powers2 5; weights = ones 8 ∷ [] }
       ∷ [];
-  checkPlaces = replicate 7 (wordOf (upFrom 0 5 ++ (31 ∷ []))) ++ (wordOf (upFrom 0 15 ++ (31 ∷ [])) ∷ []);
+  checkPlaces = replicate 7 (wordOf ((0 to 4) ++ (31 ∷ []))) ++ (wordOf ((0 to 14) ++ (31 ∷ [])) ∷ []);
 }
 
 -- ---- plan 3: column c has location a ^ c
 
 unfoldable pub locations3 : List ℕ
-locations3 = map (power gf16 2) (upFrom 0 15)
+locations3 = map (power gf16 2) (0 to 14)
 
 unfoldable pub powers3 : ℕ → List ℕ
 powers3 p = map (λ x. power gf16 x p) locations3
@@ -90,11 +90,11 @@ plan3 = record {
   rows = 8;
   columns = 15;
   levels =
-      record { checks = map powers3 (upFrom 0 2); weights = [] }
-      ∷ record { checks = map powers3 (upFrom 2 1); weights = ones 8 ∷ map (power gf16 2) (upFrom 0 8) ∷ [] }
-      ∷ record { checks = map powers3 (upFrom 3 4); weights = ones 8 ∷ [] }
+      record { checks = map powers3 (0 to 1); weights = [] }
+      ∷ record { checks = powers3 2 ∷ []; weights = ones 8 ∷ map (power gf16 2) (0 to 7) ∷ [] }
+      ∷ record { checks = map powers3 (3 to 6); weights = ones 8 ∷ [] }
       ∷ [];
-  checkPlaces = replicate 6 (wordOf (upFrom 13 2)) ++ (wordOf (upFrom 12 3) ∷ wordOf (upFrom 8 7) ∷ []);
+  checkPlaces = replicate 6 (wordOf (13 to 14)) ++ (wordOf (12 to 14) ∷ wordOf (8 to 14) ∷ []);
 }
 
 -- ---- a plan by its number

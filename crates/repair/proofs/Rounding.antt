@@ -13,10 +13,10 @@ use Rattle.field.specs.Lists.{if_then_else_, upFrom}
 use Rattle.linear.specs.Lists.{only}
 use Rattle.plans.specs.Plan.{planOf}
 use Rattle.steps.specs.Steps.{lossy, Learned, blocked, failing, learned, levelFill, raise}
-use Rattle.steps.specs.Rounds.{Turn, end, clash, turns}
+use Rattle.steps.specs.Rounds.{Turn, end, clash, more, turns}
 use Rattle.repair.specs.Mending.{roundsOn, rowsLeft, endReport, bare}
 use Rattle.steps.specs.Learned.{benchOf, learningOf, sumsAfter}
-use Rattle.steps.specs.Walk.{standingOf, Settled, more, Walked}
+use Rattle.steps.specs.Walk.{standingOf, Settled, Walked}
 use Rattle.repair.specs.Ended.{startOf, Ended}
 use Rattle.plans.specs.declared.Report.{Report}
 use Rattle.plans.specs.declared.Place.the-variants.{Row, Across}

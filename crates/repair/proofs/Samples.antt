@@ -16,8 +16,8 @@ use Rattle.plans.specs.Plan.{ones, bitChecks, wordOf, locations1, plan1, locati
 use Rattle.plans.specs.Refusal.{firstFailed, unasked, inMemory, inFile, stripeFits, wordsFit, marksFit, allBelow, unmarkedBelow, symbolsFit, sumsAt, sumsFit, levelFits, lentRefusal, benchRefusal}
 use Rattle.codewords.specs.Codeword.{rowsHold, totalsHold, isCodeword, testRefusal, encodeRefusal, extractRefusal}
 use Rattle.repair.specs.File.{bytes2, headerOf, blanked, planIn, wordAt, marksIn, symbolsIn, fileRefusal, readRefusal, writeRefusal}
+use Rattle.repair.specs.Sheet.{blank, exampleFile}
 use Rattle.plans.specs.declared.Bench.{Bench}
-use Rattle.repair.proofs.Sheet.{blank, exampleFile}
 
 -- a row of n symbols below q, read off a number, column 0 last
 unfoldable pub rowOf : (q n : ℕ) → ℕ → List ℕ

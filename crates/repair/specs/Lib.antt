@@ -3,5 +3,7 @@ pub mod Mending
 pub mod Encoding
 pub mod File
 pub mod Text
+-- the bench sheet's cases
+pub mod Sheet
 -- what the contracts of inner functions cite
 pub mod Ended

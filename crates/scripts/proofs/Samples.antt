@@ -17,7 +17,8 @@ use Rattle.plans.specs.Refusal.{firstFailed, inMemory, marksFit, allBelow, benc
 use Rattle.codewords.specs.Codeword.{rowsHold, totalsHold, isCodeword}
 use Rattle.steps.specs.Steps.{fresh, startedBy, started, stepped, unlessRefused, putRow, rowStep, lossy, raise, levelStep}
 use Rattle.plans.specs.declared.Bench.{Bench}
-use Rattle.repair.proofs.Sheet.{Case, restored, stuck, clashed, unchanged, blankRestored, exampleStripe, exampleMarks, exampleAfter, cases, done, sheet}
+use Rattle.repair.specs.Sheet.{Case, restored, stuck, clashed, unchanged, blankRestored, exampleStripe, exampleMarks, exampleAfter, cases, done}
+use Rattle.repair.proofs.Sheet.{sheet}
 use Rattle.steps.proofs.Fit.{marks-fit, fit-lent}
 use Rattle.steps.proofs.Sound.{unmarked-below}
 use Rattle.steps.proofs.Settled.{put-whole}
@@ -86,7 +87,7 @@ pub example-restored : take (length exampleStripe) (benchIn (script 1 exampleStr
 unfolding restored stuck clashed unchanged blankRestored cases done
 example-restored =
     scripts-end-mended 1 exampleStripe exampleMarks example used used-long otherOrder order-quiet .stripe-left
-    ∙ ap (λ (cs : List Case). getD (map (λ (c : Case). c .stripeAfter) cs) 1 []) (sheet .0)
+    ∙ ap (λ (cs : List Case). getD (map (λ (c : Case). c .stripeAfter) cs) 1 []) (sheet .mending)
 
 -- ---- plan 3: a zero stripe, rows 0 and 1 with 3 and 7 marks
 

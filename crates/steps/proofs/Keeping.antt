@@ -1,79 +1,103 @@
 -- Learned sums, written check by check. Assumes nothing.
-use mathlib.Core.Path.{_≡_, refl, sym, ap, _∙_}
-use mathlib.Core.List.{List, [], _∷_, _++_, map, map-append}
-use Prim.Native.Nat.{ℕ, zero, suc, _+_, _*_, _-_, _≤_, _<_}
+use mathlib.Core.Path.{_≡_, refl, sym, ap, ap₂, _∙_}
+use mathlib.Core.List.{List, [], _∷_, _++_, map, map-append, append-assoc}
+use Prim.Native.Nat.{ℕ, suc, _+_, _*_, _-_, _≤_, _<_}
 use native.Mathlib.Nat.{suc-mul}
 use native.Mathlib.Numerals.{add-one}
 use native.Mathlib.Omega.{arith}
-use lib.ListN.{length, getD, set, take, length-map}
-use lib.Seq.{sets, set-comm, getD-take}
+use lib.ListN.{length, getD, set, take, drop, length-map, length-take, take-append-drop}
+use lib.Seq.{sets, take-add, drop-drop, getD-take}
 use Rattle.field.specs.Lists.{upFrom}
 use Rattle.plans.specs.Refusal.{room}
-use Rattle.steps.specs.Steps.{keepSums}
-use Rattle.plans.proofs.Rows.{sets-append}
+use Rattle.steps.specs.Steps.{newSums, keepSums}
+use Rattle.plans.proofs.Rows.{written, take-sets, drop-sets-before, sets-append, sets-out}
+use Rattle.steps.proofs.Sums.{keep-here, keep-behind}
 
--- ---- one check's sums
+-- ---- one check's sums, row after row
 
--- the rows before r are written
+-- row r's new sums, stored at their place in the whole list
+module _ (at r : ℕ) (new l : List ℕ) (narrow : at + length new ≤ room) where
+  abbrev start : ℕ
+  start = r * room
+
+  abbrev next : List ℕ
+  next = sets l (start + at) new
+
+  before : take (suc r * room) next ≡ take start l ++ sets (take room (drop start l)) at new
+  before =
+      ap (λ i. take i next) (suc-mul r room) ∙ take-add start room next
+      ∙ ap₂ _++_ (take-sets start new l (start + at) ∙ sets-out new (take start l) (start + at) (simp length-take (omega arith)))
+      (written room start at new l)
+
+  after : drop (suc r * room) next ≡ drop room (drop start l)
+  after =
+      drop-sets-before (suc r * room) new l (start + at) (omega (arith, suc-mul r room))
+      ∙ ap (λ i. drop i l) (suc-mul r room) ∙ sym (drop-drop room start l)
+
+  store-row : (news : List (List ℕ))
+      → take (suc r * room) next ++ keepSums at news (drop (suc r * room) next) ≡ take start l ++ keepSums at (new ∷ news) (drop start l)
+  unfolding keepSums
+  store-row news =
+      ap₂ (λ a b. a ++ keepSums at news b) before after
+      ∙ append-assoc (take start l) (sets (take room (drop start l)) at new) (keepSums at news (drop room (drop start l)))
+
+-- the rows before r are written, and the rest of them are to come
 pub record Keeping (at rows : ℕ) (c old : List ℕ) (r : ℕ) (l : List ℕ) : Type 0 where
+  pub narrow : at < room
   pub within : r ≤ rows
-  pub rest : keepSums at (take rows c ∷ []) l (upFrom r (rows - r)) ≡ keepSums at (take rows c ∷ []) old (upFrom 0 rows)
+  pub rest : take (r * room) l ++ keepSums at (map (newSums (take rows c ∷ [])) (upFrom r (rows - r))) (drop (r * room) l)
+      ≡ keepSums at (map (newSums (take rows c ∷ [])) (upFrom 0 rows)) old
 
 module _ (at rows : ℕ) (c old : List ℕ) where
-  abbrev keep : List ℕ → List ℕ → List ℕ
-  keep l rs = keepSums at (take rows c ∷ []) l rs
+  abbrev keep : List ℕ → (r n : ℕ) → List ℕ
+  keep l r n = take (r * room) l ++ keepSums at (map (newSums (take rows c ∷ [])) (upFrom r n)) (drop (r * room) l)
 
-  pub keeping-starts : Keeping at rows c old 0 old
-  keeping-starts = record { within = omega arith; rest = ap (λ n. keep old (upFrom 0 n)) (omega arith) }
+  pub keeping-starts : at < room → Keeping at rows c old 0 old
+  keeping-starts narrow = record { narrow = narrow; within = omega arith; rest = ap (keep old 0) (omega arith) }
 
   pub keeping-turns : {r : ℕ} {l : List ℕ} → r < rows → Keeping at rows c old r l
       → Keeping at rows c old (r + 1) (set l (r * room + at) (getD c r 0))
-  unfolding upFrom keepSums
+  unfolding upFrom
   keeping-turns {r} {l} more s =
       let e : rows - r ≡ suc (rows - suc r) = omega arith in
       record {
+        narrow = s .narrow;
         within = omega arith;
-        rest = rw (add-one r) (ap (λ v. keep (set l (r * room + at) v) (upFrom (suc r) (rows - suc r))) (sym (getD-take rows c r 0 more))
-            ∙ ap (λ n. keep l (upFrom r n)) (sym e) ∙ s .rest);
+        rest = rw (add-one r) (ap (λ v. keep (set l (r * room + at) v) (suc r) (rows - suc r)) (sym (getD-take rows c r 0 more))
+            ∙ store-row at r (newSums (take rows c ∷ []) r) l (omega (arith, s .narrow)) (map (newSums (take rows c ∷ [])) (upFrom (suc r) (rows - suc r)))
+            ∙ ap (keep l r) (sym e) ∙ s .rest);
       }
 
-  pub keeping-ends : {r : ℕ} {l : List ℕ} → rows ≤ r → Keeping at rows c old r l → l ≡ keepSums at (take rows c ∷ []) old (upFrom 0 rows)
+  pub keeping-ends : {r : ℕ} {l : List ℕ} → rows ≤ r → Keeping at rows c old r l
+      → l ≡ keepSums at (map (newSums (take rows c ∷ [])) (upFrom 0 rows)) old
   unfolding upFrom keepSums
-  keeping-ends {r} {l} all s = let e : rows - r ≡ 0 = omega arith in ap (λ n. keep l (upFrom r n)) (sym e) ∙ s .rest
+  keeping-ends {r} {l} all s =
+      let e : rows - r ≡ 0 = omega arith in sym (take-append-drop (r * room) l) ∙ ap (keep l r) (sym e) ∙ s .rest
 
 -- ---- one check's sums behind those of others
 
-pub keep-none : (at : ℕ) (l rs : List ℕ) → keepSums at [] l rs ≡ l
+pub keep-none : (at : ℕ) (rs l : List ℕ) → keepSums at (map (newSums []) rs) l ≡ l
 unfolding keepSums
-keep-none at l [] = refl
-keep-none at l (r ∷ rs) = keep-none at l rs
+keep-none at [] l = refl
+keep-none at (r ∷ rs) l = ap (λ k. take room l ++ k) (keep-none at rs (drop room l)) ∙ take-append-drop room l
 
-set-sets : (x l : List ℕ) (i j v : ℕ) → j < i → set (sets l i x) j v ≡ sets (set l j v) i x
-set-sets [] l i j v h = refl
-set-sets (a ∷ x) l i j v h = set-sets x (set l i a) (suc i) j v (omega arith) ∙ ap (λ k. sets k (suc i) x) (set-comm l i j a v (λ e. omega arith))
+-- the sums under one more check
+module _ (at : ℕ) (cs : List (List ℕ)) (c : List ℕ) where
+  abbrev both : List (List ℕ)
+  both = cs ++ (c ∷ [])
 
-module _ (at : ℕ) (cs : List (List ℕ)) where
-  -- a place before the rows' places
-  set-keep : (k n : ℕ) (l : List ℕ) (j v : ℕ) → j < k * room + at → set (keepSums at cs l (upFrom k n)) j v ≡ keepSums at cs (set l j v) (upFrom k n)
-  unfolding upFrom keepSums
-  set-keep k zero l j v h = refl
-  set-keep k (suc n) l j v h =
-      let sums = map (λ c. getD c k 0) cs in
-      set-keep (suc k) n (sets l (k * room + at) sums) j v (omega (arith, suc-mul k room))
-      ∙ ap (λ s. keepSums at cs s (upFrom (suc k) n)) (set-sets sums l (k * room + at) j v h)
+  new-last : (r : ℕ) (l : List ℕ) → sets (sets l at (newSums cs r)) (at + length cs) (newSums (c ∷ []) r) ≡ sets l at (newSums both r)
+  new-last r l =
+      ap (λ n. sets (sets l at (newSums cs r)) (at + n) (newSums (c ∷ []) r)) (sym (length-map cs (λ c. getD c r 0)))
+      ∙ sym (sets-append (newSums cs r) (newSums (c ∷ []) r) l at) ∙ ap (sets l at) (sym (map-append (λ c. getD c r 0) cs (c ∷ [])))
 
-  -- the sums under one more check
-  pub keep-last : (c : List ℕ) → at + length cs < room → (k n : ℕ) (l : List ℕ)
-      → keepSums (at + length cs) (c ∷ []) (keepSums at cs l (upFrom k n)) (upFrom k n) ≡ keepSums at (cs ++ (c ∷ [])) l (upFrom k n)
-  unfolding upFrom keepSums
-  keep-last c narrow k zero l = refl
-  keep-last c narrow k (suc n) l =
-      let sums = map (λ c. getD c k 0) cs in
-      let i = k * room + at in
-      let v = getD c k 0 in
-      ap (λ s. keepSums (at + length cs) (c ∷ []) s (upFrom (suc k) n))
-      (set-keep (suc k) n (sets l i sums) (k * room + (at + length cs)) v (omega (arith, suc-mul k room))
-      ∙ ap (λ s. keepSums at cs s (upFrom (suc k) n))
-      (ap (λ j. set (sets l i sums) j v) (omega (arith, length-map cs (λ c. getD c k 0)))
-      ∙ sym (sets-append sums (v ∷ []) l i) ∙ ap (sets l i) (sym (map-append (λ c. getD c k 0) cs (c ∷ [])))))
-      ∙ keep-last c narrow (suc k) n (sets l i (map (λ c. getD c k 0) (cs ++ (c ∷ []))))
+  pub keep-last : (rs l : List ℕ)
+      → keepSums (at + length cs) (map (newSums (c ∷ [])) rs) (keepSums at (map (newSums cs) rs) l) ≡ keepSums at (map (newSums both) rs) l
+  unfolding keepSums
+  keep-last [] l = refl
+  keep-last (r ∷ rs) l =
+      let old = map (newSums cs) rs in
+      let more = map (newSums (c ∷ [])) rs in
+      ap₂ (λ a b. sets a (at + length cs) (newSums (c ∷ []) r) ++ keepSums (at + length cs) more b)
+      (keep-here at (newSums cs r) old l) (keep-behind at (newSums cs r) old l)
+      ∙ ap₂ _++_ (new-last r (take room l)) (keep-last rs (drop room l))

@@ -1,7 +1,7 @@
 -- Learning a level: one check's sums filled, and the checks joined. Assumes nothing.
 use mathlib.Core.Path.{_≡_, refl, sym, ap, ap₂, _∙_}
 use mathlib.Core.Bool.{Bool}
-use mathlib.Core.List.{List, [], _∷_, _++_}
+use mathlib.Core.List.{List, [], _∷_, _++_, map}
 use Prim.Native.Nat.{ℕ, zero, suc, _+_, _*_, _^_, _≤_, _<_}
 use native.Mathlib.Numerals.{add-one}
 use native.Mathlib.Omega.{arith}
@@ -21,7 +21,7 @@ use Rattle.linear.specs.declared.Outcome.{Outcome}
 use Rattle.linear.specs.declared.Outcome.the-variants.{Tied, None, One}
 use Rattle.linear.proofs.Answers.{wide-tied}
 use Rattle.plans.specs.Plan.{planOf, levelOf, checksTo}
-use Rattle.steps.specs.Steps.{lossy, Learned, blocked, failing, learned, levelFill, keepSums, raise, stepped, unlessRefused, levelStepBy, levelStep}
+use Rattle.steps.specs.Steps.{lossy, Learned, blocked, failing, learned, levelFill, newSums, keepSums, raise, stepped, unlessRefused, levelStepBy, levelStep}
 use Rattle.plans.specs.Refusal.{unasked, benchRefusal}
 use Rattle.plans.specs.Tables.{padded, checkTable, rowSums}
 use Rattle.steps.specs.Learned.{columnOf, columnFill, benchOf, learningOf, sumsAfter}
@@ -34,7 +34,7 @@ use Rattle.plans.proofs.Shape.{some-check}
 use Rattle.plans.proofs.Parts.{part, rows-front}
 use Rattle.plans.proofs.Plans.{rows-most}
 use Rattle.plans.proofs.Sizes.{totals-most}
-use Rattle.plans.proofs.Tables.{weights-lt, sums-more, sums-most}
+use Rattle.plans.proofs.Tables.{weights-lt, sums-more}
 use Rattle.steps.proofs.Keeping.{keep-none, keep-last}
 use Rattle.plans.proofs.Lossy.{lossyFrom}
 use Rattle.steps.proofs.Joining.{none-untied, Joining, joining-starts, joining-one, joining-tied, joining-none, joining-ends, level-fill}
@@ -139,7 +139,7 @@ pub record LearnedTo (p t rows last word : ℕ) (symbols marks old : List ℕ) (
   pub columns : List (List ℕ)
   pub walk : Joining (columnFill (planOf p) t symbols (lossy (planOf p) marks)) (length (checksTo (planOf p) t))
       (length (levelOf (planOf p) (suc t) .checks)) columns j
-  pub written : kept ≡ keepSums (length (checksTo (planOf p) t)) columns old (upFrom 0 (planOf p .rows))
+  pub written : kept ≡ keepSums (length (checksTo (planOf p) t)) (map (newSums columns) (upFrom 0 (planOf p .rows))) old
 
 -- what learning answers and leaves
 abbrev pub Learns : (p t : ℕ) (symbols marks old : List ℕ) → Learning → List ℕ → Type 0
@@ -180,7 +180,7 @@ learned-starts p t {rows} {first} {last} {word} symbols {marks} old high start e
   small = rw high at (told .1);
   columns = [];
   walk = rw start (joining-starts _ _ _);
-  written = sym (keep-none _ old _);
+  written = sym (keep-none _ (upFrom 0 (planOf p .rows)) old);
 }
 
 -- more rows with marks than totals block it
@@ -241,11 +241,12 @@ module _ {p t rows last word j : ℕ} {symbols marks old kept : List ℕ} (s : L
 
       pub learned-more : (column : List ℕ) {next : List ℕ} → a ≡ One
           → take (planOf p .rows) column ≡ vectorOf (columnFill (planOf p) t symbols (bitsOf (planOf p .rows) word) j) (columnOf (planOf p) symbols j)
-          → next ≡ keepSums j (take rows column ∷ []) kept (upFrom 0 rows) → LearnedTo p t rows last word symbols marks old (j + 1) next
+          → next ≡ keepSums j (map (newSums (take rows column ∷ [])) (upFrom 0 rows)) kept → LearnedTo p t rows last word symbols marks old (j + 1) next
       learned-more column e filled keeps =
           let P = planOf p in
           let at = length (checksTo P t) in
           let c = take (P .rows) column in
+          let rs = upFrom 0 (P .rows) in
           record {
             high = s .high;
             end = s .end;
@@ -256,9 +257,9 @@ module _ {p t rows last word j : ℕ} {symbols marks old kept : List ℕ} (s : L
                 (answer-one _ (columnOf P symbols j) (told ∙ e)
                 ∙ ap one (ap (λ ms. vectorOf (columnFill P t symbols ms j) (columnOf P symbols j)) (sym (s .bits)) ∙ sym filled)) (s .walk);
             written =
-                keeps ∙ ap₂ (λ r l. keepSums j (take r column ∷ []) l (upFrom 0 r)) (s .high) (s .written)
-                ∙ ap (λ i. keepSums i (c ∷ []) (keepSums at (s .columns) old (upFrom 0 (P .rows))) (upFrom 0 (P .rows))) (sym (s .walk .count))
-                ∙ keep-last at (s .columns) c (omega (arith, s .walk .count, learned-here, sums-most p (suc t))) 0 (P .rows) old;
+                keeps ∙ ap₂ (λ r l. keepSums j (map (newSums (take r column ∷ [])) (upFrom 0 r)) l) (s .high) (s .written)
+                ∙ ap (λ i. keepSums i (map (newSums (c ∷ [])) rs) (keepSums at (map (newSums (s .columns)) rs) old)) (sym (s .walk .count))
+                ∙ keep-last at (s .columns) c rs old;
           }
 
 -- ---- the level step that learning makes

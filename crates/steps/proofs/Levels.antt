@@ -1,7 +1,7 @@
 -- The checks of levels 1 to t, and a row's sums: what a further level adds to them. Assumes nothing.
 use mathlib.Core.Path.{_≡_, sym, ap, ap₂, _∙_}
-use mathlib.Core.List.{List, [], _∷_, _++_, flatMap, append-nil}
-use Prim.Native.Nat.{ℕ, suc, _+_, _*_, _-_, _<_, _≤_, zero-le}
+use mathlib.Core.List.{List, [], _∷_, _++_, map, flatMap, append-nil}
+use Prim.Native.Nat.{ℕ, suc, _+_, _*_, _-_, _<_, _≤_}
 use native.Mathlib.Nat.{add-sub-of-le}
 use native.Mathlib.Omega.{arith}
 use lib.ListN.{length, take, drop, getD, length-append, length-map, length-drop, drop-of-length-le}
@@ -9,10 +9,10 @@ use lib.Seq.{take-add, take-suc, take-take, sets-eq, length-take-le}
 use Rattle.field.specs.Lists.{upFrom}
 use Rattle.plans.specs.Plan.{Plan, Level, noLevel, levelOf, checksTo}
 use Rattle.plans.specs.Refusal.{room, sumsAt}
-use Rattle.steps.specs.Steps.{keepSums}
+use Rattle.steps.specs.Steps.{newSums, keepSums}
 use Rattle.plans.proofs.Flat.{flat-append}
 use Rattle.plans.proofs.Rows.{row-end}
-use Rattle.steps.proofs.Sums.{learnedAt, keep-part}
+use Rattle.steps.proofs.Sums.{keep-part}
 
 module _ (P : Plan) where
   pub checks-suc : (t : ℕ) → t < length (P .levels) → checksTo P (suc t) ≡ checksTo P t ++ levelOf P (suc t) .checks
@@ -49,7 +49,7 @@ module _ (P : Plan) where
   pub sums-learned : (t : ℕ) (cs : List (List ℕ)) (sums : List ℕ) (r : ℕ)
       → t < length (P .levels) → length cs ≡ length (levelOf P (suc t) .checks) → length (checksTo P (suc t)) ≤ room
       → P .rows * room ≤ length sums → r < P .rows
-      → sumsAt P (suc t) (keepSums (length (checksTo P t)) cs sums (upFrom 0 (P .rows))) r ≡ sumsAt P t sums r ++ learnedAt cs r
+      → sumsAt P (suc t) (keepSums (length (checksTo P t)) (map (newSums cs) (upFrom 0 (P .rows))) sums) r ≡ sumsAt P t sums r ++ newSums cs r
   unfolding sumsAt
   sums-learned t cs sums r low count narrow long inside =
       let at = length (checksTo P t) in
@@ -57,11 +57,11 @@ module _ (P : Plan) where
       let part = take m (drop (r * room) sums) in
       let e : m ≡ at + length cs =
       ap length (checks-suc t low) ∙ length-append (checksTo P t) (levelOf P (suc t) .checks) ∙ ap (λ n. at + n) (sym count) in
-      let f : length (learnedAt cs r) ≡ length cs = length-map cs (λ c. getD c r 0) in
+      let f : length (newSums cs r) ≡ length cs = length-map cs (λ c. getD c r 0) in
       let g : r * room + room ≤ P .rows * room = row-end room inside in
       let full : length part ≡ m = length-take-le m (drop (r * room) sums) (simp length-drop (omega arith)) in
-      keep-part at cs (omega arith) 0 (P .rows) m sums r narrow zero-le (omega arith)
-      ∙ sets-eq (learnedAt cs r) part at (omega arith)
-      ∙ ap₂ (λ a b. a ++ learnedAt cs r ++ b) (take-take at m (drop (r * room) sums) (omega arith))
-      (drop-of-length-le part {i = at + length (learnedAt cs r)} (omega arith))
-      ∙ append-nil (take at (drop (r * room) sums) ++ learnedAt cs r)
+      keep-part at cs (P .rows) sums m r narrow inside
+      ∙ sets-eq (newSums cs r) part at (omega arith)
+      ∙ ap₂ (λ a b. a ++ newSums cs r ++ b) (take-take at m (drop (r * room) sums) (omega arith))
+      (drop-of-length-le part {i = at + length (newSums cs r)} (omega arith))
+      ∙ append-nil (take at (drop (r * room) sums) ++ newSums cs r)

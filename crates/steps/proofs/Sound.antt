@@ -23,12 +23,12 @@ use Rattle.linear.proofs.Choices.{Agrees, Allowed, agrees-length, agrees-symbol
 use Rattle.linear.proofs.Filling.{Means, fill-means}
 use Rattle.plans.specs.Plan.{Plan, Level, planOf, levelOf, checksTo, rowAt, marksAt, across}
 use Rattle.plans.specs.Refusal.{unasked, allBelow, unmarkedBelow, sumsAt, lentRefusal, benchRefusal}
-use Rattle.steps.specs.Steps.{fresh, stepped, unlessRefused, rowFill, putRow, rowStepBy, rowStep, lossy, Learned, blocked, failing, learned, join, joined, levelFill, raise, levelStepBy, levelStep}
+use Rattle.steps.specs.Steps.{fresh, stepped, unlessRefused, rowFill, putRow, rowStepBy, rowStep, lossy, Learned, blocked, failing, learned, join, joined, levelFill, newSums, raise, levelStepBy, levelStep}
 use Rattle.plans.specs.declared.Bench.{Bench}
 use Rattle.plans.specs.declared.Step.the-variants.{Top}
 use Rattle.steps.proofs.Fit.{RowFits, BenchFit, Sized, lent-fit, bench-fit, fit-bench, sized-fresh, fit-fresh}
 use Rattle.plans.proofs.Rows.{of-rows, row-end, row-same, row-other, marks-length}
-use Rattle.steps.proofs.Sums.{learnedAt, keep-length}
+use Rattle.steps.proofs.Sums.{keep-length}
 use Rattle.steps.proofs.Levels.{checks-le, sums-learned}
 use Rattle.plans.proofs.Shape.{shape, plan-field}
 
@@ -117,13 +117,13 @@ module _ {A : Type 0} (f : A → Fill) where
 
   -- where each filling holds symbols, so do the sums that a row learns
   ones-below : (q : ℕ) → 0 < q → ((x : A) (v : List ℕ) → f x ≡ one v → T (allBelow q v))
-      → (xs : List A) (vs : List (List ℕ)) → Ones f xs vs → (r : ℕ) → T (allBelow q (learnedAt vs r))
+      → (xs : List A) (vs : List (List ℕ)) → Ones f xs vs → (r : ℕ) → T (allBelow q (newSums vs r))
   unfolding allBelow all
   ones-below q z h [] [] o r = tt
   ones-below q z h [] (v ∷ vs) o r = absurd o
   ones-below q z h (x ∷ xs) [] o r = absurd o
   ones-below q z h (x ∷ xs) (v ∷ vs) o r =
-      both (ltb (getD v r 0) q) (allBelow q (learnedAt vs r)) (at v (h x v (o .0)) r) (ones-below q z h xs vs (o .1) r)
+      both (ltb (getD v r 0) q) (allBelow q (newSums vs r)) (at v (h x v (o .0)) r) (ones-below q z h xs vs (o .1) r)
     where
       at : (v : List ℕ) → T (allBelow q v) → (r : ℕ) → T (ltb (getD v r 0) q)
       at [] t r = lt→ltb 0 q z
@@ -198,7 +198,7 @@ module _ (b : Bench) where
   sized-raise s cs = record {
     symbols = s .symbols;
     marks = s .marks;
-    sums = keep-length (length (checksTo P (b .level))) cs (b .sums) (upFrom 0 (P .rows)) ∙ s .sums;
+    sums = keep-length (length (checksTo P (b .level))) (map (newSums cs) (upFrom 0 (P .rows))) (b .sums) ∙ s .sums;
   }
 
   module _ (f : BenchFit b) where
@@ -282,7 +282,7 @@ module _ (b : Bench) where
     learned-length cs e = ones-length (totalFill b L) (L .checks) cs (learned-ones cs e)
 
     -- the sums that a row learns are symbols
-    learned-below : (cs : List (List ℕ)) → levelFill b ≡ learned cs → (r : ℕ) → T (allBelow (size (P .field)) (learnedAt cs r))
+    learned-below : (cs : List (List ℕ)) → levelFill b ≡ learned cs → (r : ℕ) → T (allBelow (size (P .field)) (newSums cs r))
     unfolding allBelow
     learned-below cs e =
         ones-below (totalFill b L) (size (P .field)) (size-pos (P .field)) symbols (L .checks) cs (learned-ones cs e)
@@ -297,14 +297,14 @@ module _ (b : Bench) where
 
     module _ (s : Sized b) (low : b .level < length (P .levels)) (cs : List (List ℕ)) (count : length cs ≡ length (L .checks)) where
       -- row r's sums once the level is learned: the old ones, then the new
-      pub raise-sums : (r : ℕ) → r < P .rows → sumsAt P (suc (b .level)) (raise b cs .sums) r ≡ sumsAt P (b .level) (b .sums) r ++ learnedAt cs r
+      pub raise-sums : (r : ℕ) → r < P .rows → sumsAt P (suc (b .level)) (raise b cs .sums) r ≡ sumsAt P (b .level) (b .sums) r ++ newSums cs r
       unfolding raise
       raise-sums r inside =
           let sh = shape (b .plan) (f .plan-known) in
           sums-learned P (b .level) cs (b .sums) r low count (omega (arith, checks-le P low, sh .sums-le))
           (omega (arith, sh .rows-le, s .sums)) inside
 
-      pub fit-raise : ((r : ℕ) → r < P .rows → T (allBelow (size (P .field)) (learnedAt cs r))) → BenchFit (raise b cs)
+      pub fit-raise : ((r : ℕ) → r < P .rows → T (allBelow (size (P .field)) (newSums cs r))) → BenchFit (raise b cs)
       unfolding raise allBelow
       fit-raise below = record {
         plan-known = f .plan-known;
@@ -314,7 +314,7 @@ module _ (b : Bench) where
         row-fits = f .row-fits;
         sums-fits = λ r h.
             rw (raise-sums r h)
-            (all-append (λ x. ltb x (size (P .field))) (sumsAt P (b .level) (b .sums) r) (learnedAt cs r) (f .sums-fits r h) (below r h));
+            (all-append (λ x. ltb x (size (P .field))) (sumsAt P (b .level) (b .sums) r) (newSums cs r) (f .sums-fits r h) (below r h));
       }
 
   module _ (s : Sound b) where

@@ -1,65 +1,109 @@
 -- Learned sums: what stands in each row's places after a level was learned, and in the room. Assumes nothing.
-use mathlib.Core.Path.{_≡_, refl, ap, _∙_, subst}
-use mathlib.Core.Logic.{inl, inr}
-use mathlib.Core.List.{List, [], _∷_, map}
-use Prim.Native.Nat.{ℕ, zero, suc, _+_, _*_, _<_, _≤_}
-use native.Mathlib.Nat.{eq-or-lt-of-le}
+use mathlib.Core.Path.{_≡_, refl, sym, ap, ap₂, _∙_, subst}
+use mathlib.Core.Logic.{_⊎_, inl, inr}
+use mathlib.Core.List.{List, [], _∷_, _++_, map, append-nil}
+use Prim.Native.Nat.{ℕ, zero, suc, _+_, _*_, _<_, _≤_, zero-le}
+use native.Mathlib.Nat.{suc-mul, add-comm, le-of-suc-le-suc, not-suc-le-zero}
 use native.Mathlib.Omega.{arith}
-use lib.ListN.{length, take, drop, getD, length-map}
-use lib.Seq.{sets, length-sets}
+use lib.Dec.{ltb, ltb→lt, nltb→le}
+use lib.ListN.{length, take, drop, getD, length-append, length-map, length-take, take-append-drop, drop-of-length-le}
+use lib.Seq.{sets, length-sets, length-take-le, take-all, take-at, drop-at, take-take, drop-drop}
 use Rattle.field.specs.Lists.{upFrom}
+use Rattle.field.proofs.Lists.{length-up, getD-map-below}
+use Rattle.linear.proofs.Tests.{either}
 use Rattle.plans.specs.Refusal.{room}
-use Rattle.steps.specs.Steps.{keepSums}
-use Rattle.plans.proofs.Rows.{written, apart, drop-sets-before}
+use Rattle.steps.specs.Steps.{newSums, keepSums}
+use Rattle.plans.proofs.Rows.{take-sets, sets-out}
 
--- what row r learns
-abbrev pub learnedAt : List (List ℕ) → ℕ → List ℕ
-learnedAt cs r = map (λ c. getD c r 0) cs
-
-pub keep-length : (at : ℕ) (cs : List (List ℕ)) (sums rs : List ℕ) → length (keepSums at cs sums rs) ≡ length sums
+pub keep-length : (n : ℕ) (news : List (List ℕ)) (sums : List ℕ) → length (keepSums n news sums) ≡ length sums
 unfolding keepSums
-keep-length at cs sums [] = refl
-keep-length at cs sums (r ∷ rs) =
-    keep-length at cs (sets sums (r * room + at) (learnedAt cs r)) rs ∙ length-sets sums (r * room + at) (learnedAt cs r)
+keep-length n [] sums = refl
+keep-length n (new ∷ news) sums =
+    length-append (sets (take room sums) n new) (keepSums n news (drop room sums))
+    ∙ ap₂ _+_ (length-sets (take room sums) n new) (keep-length n news (drop room sums))
+    ∙ sym (length-append (take room sums) (drop room sums)) ∙ ap length (take-append-drop room sums)
 
-module _ (at : ℕ) (cs : List (List ℕ)) (narrow : at + length cs ≤ room) where
-  slim : (r : ℕ) → at + length (learnedAt cs r) ≤ room
-  slim r = simp length-map narrow
+-- where there are no places nothing is written
+keep-nowhere : (n : ℕ) (news : List (List ℕ)) → keepSums n news [] ≡ []
+unfolding keepSums
+keep-nowhere n [] = refl
+keep-nowhere n (new ∷ news) = ap₂ _++_ (sets-out new [] n zero-le) (keep-nowhere n news)
 
-  -- rows before k
-  keep-before : (k n m : ℕ) (sums : List ℕ) (r : ℕ) → m ≤ room → r < k
-      → take m (drop (r * room) (keepSums at cs sums (upFrom k n))) ≡ take m (drop (r * room) sums)
-  unfolding keepSums upFrom
-  keep-before k zero m sums r g h = refl
-  keep-before k (suc n) m sums r g h =
-      keep-before (suc k) n m (sets sums (k * room + at) (learnedAt cs k)) r g (omega arith)
-      ∙ apart room m at k r (learnedAt cs k) sums (slim k) g (omega arith)
+-- ---- the first row's places, and the places behind them
 
-  -- the first m of a row's places
-  pub keep-part : (k n m : ℕ) (sums : List ℕ) (r : ℕ) → m ≤ room → k ≤ r → r < k + n
-      → take m (drop (r * room) (keepSums at cs sums (upFrom k n))) ≡ sets (take m (drop (r * room) sums)) at (learnedAt cs r)
-  unfolding keepSums upFrom
-  keep-part k zero m sums r g h l = absurd (omega arith)
-  keep-part k (suc n) m sums r g h l =
-      elim (eq-or-lt-of-le h) [
-        | inl e ↦ subst (λ r. take m (drop (r * room) (keepSums at cs next (upFrom (suc k) n)))
-            ≡ sets (take m (drop (r * room) sums)) at (learnedAt cs r)) e
-            (keep-before (suc k) n m next k g (omega arith) ∙ written m (k * room) at (learnedAt cs k) sums)
-        | inr j ↦ keep-part (suc k) n m next r g j (omega arith)
-            ∙ ap (λ part. sets part at (learnedAt cs r)) (apart room m at k r (learnedAt cs k) sums (slim k) g (omega arith))
+module _ (n : ℕ) (new : List ℕ) (news : List (List ℕ)) (sums : List ℕ) where
+  abbrev here : List ℕ
+  here = sets (take room sums) n new
+
+  abbrev behind : List ℕ
+  behind = keepSums n news (drop room sums)
+
+  -- the row has all its places, or nothing stands behind them
+  seam : (length here ≡ room) ⊎ (behind ≡ [])
+  seam =
+      elim (either (ltb (length sums) room)) [
+        | inl t ↦ inr (ap (keepSums n news) (drop-of-length-le sums (short (ltb→lt (length sums) room t))) ∙ keep-nowhere n news)
+        | inr t ↦ inl (length-sets (take room sums) n new ∙ length-take-le room sums (nltb→le (length sums) room t))
       ]
     where
-      next : List ℕ
-      next = sets sums (k * room + at) (learnedAt cs k)
+      short : length sums < room → length sums ≤ room
+      short h = omega arith
 
-  -- the room behind all rows
-  pub keep-room : (k n : ℕ) (sums : List ℕ) → drop ((k + n) * room) (keepSums at cs sums (upFrom k n)) ≡ drop ((k + n) * room) sums
-  unfolding keepSums upFrom
-  keep-room k zero sums = refl
-  keep-room k (suc n) sums =
-      let e : suc k + n ≡ k + suc n = omega arith in
-      subst (λ n′. drop (n′ * room) (keepSums at cs next (upFrom (suc k) n)) ≡ drop (n′ * room) next) e (keep-room (suc k) n next)
-      ∙ drop-sets-before ((k + suc n) * room) (learnedAt cs k) sums (k * room + at) (omega (arith, slim k))
-    where
-      next : List ℕ
-      next = sets sums (k * room + at) (learnedAt cs k)
+  here-le : length here ≤ room
+  here-le = simp (length-sets, length-take) (omega arith)
+
+  pub keep-here : take room (keepSums n (new ∷ news) sums) ≡ sets (take room sums) n new
+  unfolding keepSums
+  keep-here =
+      elim seam [
+        | inl e ↦ take-at here behind room e
+        | inr e ↦ ap (λ k. take room (here ++ k)) e ∙ ap (take room) (append-nil here) ∙ take-all room here here-le
+      ]
+
+  pub keep-behind : drop room (keepSums n (new ∷ news) sums) ≡ keepSums n news (drop room sums)
+  unfolding keepSums
+  keep-behind =
+      elim seam [
+        | inl e ↦ drop-at here behind room e
+        | inr e ↦ ap (λ k. drop room (here ++ k)) e ∙ ap (drop room) (append-nil here) ∙ drop-of-length-le here here-le ∙ sym e
+      ]
+
+-- ---- row r's places, and the room behind all rows
+
+-- a row further on
+further : (r : ℕ) (l : List ℕ) → drop (suc r * room) l ≡ drop (r * room) (drop room l)
+further r l = ap (λ i. drop i l) (suc-mul r room ∙ add-comm (r * room) room) ∙ sym (drop-drop (r * room) room l)
+
+part-at : (n : ℕ) (news : List (List ℕ)) (m : ℕ) (sums : List ℕ) (r : ℕ) → m ≤ room → r < length news
+    → take m (drop (r * room) (keepSums n news sums)) ≡ sets (take m (drop (r * room) sums)) n (getD news r [])
+part-at n [] m sums r g l = absurd (not-suc-le-zero l)
+part-at n (new ∷ news) m sums zero g l =
+    sym (take-take m room (keepSums n (new ∷ news) sums) g) ∙ ap (take m) (keep-here n new news sums)
+    ∙ take-sets m new (take room sums) n ∙ ap (λ k. sets k n new) (take-take m room sums g)
+part-at n (new ∷ news) m sums (suc r) g l =
+    ap (take m) (further r (keepSums n (new ∷ news) sums)) ∙ ap (λ k. take m (drop (r * room) k)) (keep-behind n new news sums)
+    ∙ part-at n news m (drop room sums) r g (le-of-suc-le-suc l)
+    ∙ ap (λ k. sets (take m k) n (getD news r [])) (sym (further r sums))
+
+room-behind : (n : ℕ) (news : List (List ℕ)) (sums : List ℕ) → drop (length news * room) (keepSums n news sums) ≡ drop (length news * room) sums
+unfolding keepSums
+room-behind n [] sums = refl
+room-behind n (new ∷ news) sums =
+    further (length news) (keepSums n (new ∷ news) sums) ∙ ap (drop (length news * room)) (keep-behind n new news sums)
+    ∙ room-behind n news (drop room sums) ∙ sym (further (length news) sums)
+
+module _ (at : ℕ) (cs : List (List ℕ)) (R : ℕ) (sums : List ℕ) where
+  abbrev news : List (List ℕ)
+  news = map (newSums cs) (upFrom 0 R)
+
+  news-length : length news ≡ R
+  news-length = length-map (upFrom 0 R) (newSums cs) ∙ length-up 0 R
+
+  -- the first m of row r's places
+  pub keep-part : (m r : ℕ) → m ≤ room → r < R
+      → take m (drop (r * room) (keepSums at news sums)) ≡ sets (take m (drop (r * room) sums)) at (newSums cs r)
+  keep-part m r g l =
+      part-at at news m sums r g (rw news-length l) ∙ ap (sets (take m (drop (r * room) sums)) at) (getD-map-below (newSums cs) R r [] l)
+
+  pub keep-room : drop (R * room) (keepSums at news sums) ≡ drop (R * room) sums
+  keep-room = subst (λ k. drop (k * room) (keepSums at news sums) ≡ drop (k * room) sums) news-length (room-behind at news sums)

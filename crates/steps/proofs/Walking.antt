@@ -14,9 +14,9 @@ use Rattle.linear.specs.Fill.{sumsOf, Fill, tied, none, one, fill}
 use Rattle.plans.specs.Plan.{planOf, checksTo, rowAt, marksAt}
 use Rattle.plans.specs.Refusal.{room, sumsAt, unasked, benchRefusal}
 use Rattle.steps.specs.Steps.{rowFill, putRow}
-use Rattle.steps.specs.Rounds.{clash, turns}
+use Rattle.steps.specs.Rounds.{clash, more, turns}
 use Rattle.steps.specs.Learned.{benchOf}
-use Rattle.steps.specs.Walk.{standingOf, Arrays, HasSums, Settled, more, Walked}
+use Rattle.steps.specs.Walk.{standingOf, Arrays, HasSums, Settled, Walked}
 use Rattle.plans.specs.declared.Bench.{Bench}
 use Rattle.plans.specs.declared.Place.the-variants.{Row}
 use Rattle.linear.specs.declared.Outcome.{Outcome}

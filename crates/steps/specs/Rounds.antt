@@ -1,14 +1,12 @@
 -- Rounds of steps. A round is taken turn by turn: rows 0 to R - 1, then the level step.
-use Prim.Native.Nat.{ℕ, zero, suc, pred}
+use Prim.Native.Nat.{ℕ, zero, suc, pred, _+_}
 use mathlib.Core.List.{List}
-use lib.Dec.{eqb, ltb}
+use lib.Dec.{ltb}
 use lib.ListN.{getD, set}
 use Rattle.field.specs.Lists.{if_then_else_}
 use Rattle.plans.specs.Plan.{planOf}
-use Rattle.plans.specs.Answers.{stepNumber}
 use Rattle.steps.specs.Steps.{rowStep, levelStep}
 use Rattle.plans.specs.declared.Bench.{Bench}
-use Rattle.plans.specs.declared.Stepped.{Stepped}
 use Rattle.plans.specs.declared.Step.{Step}
 use Rattle.plans.specs.declared.Step.the-variants.{Whole, Filled, Tied, Raised, Blocked, Top, Clash, Refused}
 use Rattle.plans.specs.declared.Place.{Place}
@@ -26,16 +24,26 @@ pub data Turn : Type 0 where
   end : Standing → Turn
   clash : Place → Turn
 
--- a row counts as restored at the level at which it was filled
-unfoldable pub counted : Step → (level : ℕ) → List ℕ → List ℕ
-counted s t restored = if eqb (stepNumber s) 4 then set restored (pred t) (suc (getD restored (pred t) 0)) else restored
+-- k rows more restored at level t
+unfoldable pub more : (t k : ℕ) → List ℕ → List ℕ
+more t k restored = set restored (pred t) (getD restored (pred t) 0 + k)
 
-unfoldable pub afterRow : Standing → Stepped → Turn
-afterRow m s =
-    if eqb (stepNumber (s .answer)) 2
-    then clash (Row (m .turn) (m .bench .level))
-    else on (record { bench = s .bench; turn = suc (m .turn); restored = counted (s .answer) (m .bench .level) (m .restored) })
+-- the next row has its turn
+abbrev pub nextRow : Standing → Bench → (restored : List ℕ) → Turn
+nextRow m b restored = on (record { bench = b; turn = suc (m .turn); restored = restored })
 
+-- a Clash stops at the row; a row that was filled counts as restored at the level; after any other step the rows go on as they were
+unfoldable pub afterRow : Standing → Step → Bench → Turn
+afterRow m Clash b = clash (Row (m .turn) (m .bench .level))
+afterRow m Filled b = nextRow m b (more (m .bench .level) 1 (m .restored))
+afterRow m Whole b = nextRow m b (m .restored)
+afterRow m Tied b = nextRow m b (m .restored)
+afterRow m Raised b = nextRow m b (m .restored)
+afterRow m Blocked b = nextRow m b (m .restored)
+afterRow m Top b = nextRow m b (m .restored)
+afterRow m (Refused n) b = nextRow m b (m .restored)
+
+-- a Clash stops at the level whose totals fail; a level that was raised starts the next round; all others end the rounds
 unfoldable pub afterLevel : Standing → Step → Bench → Turn
 afterLevel m Raised b = on (record { bench = b; turn = 0; restored = m .restored })
 afterLevel m Clash b = clash (Across (suc (m .bench .level)))
@@ -48,9 +56,10 @@ afterLevel m (Refused n) b = end m
 
 unfoldable pub takeTurn : Standing → Turn
 takeTurn m =
+    let r = rowStep (m .bench) (m .turn) in
     let s = levelStep (m .bench) in
     if ltb (m .turn) (planOf (m .bench .plan) .rows)
-    then afterRow m (rowStep (m .bench) (m .turn))
+    then afterRow m (r .answer) (r .bench)
     else afterLevel m (s .answer) (s .bench)
 
 unfoldable pub goOn : (Standing → Turn) → Turn → Turn

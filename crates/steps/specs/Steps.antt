@@ -1,9 +1,9 @@
 -- The bench and its steps.
-use Prim.Native.Nat.{ℕ, zero, suc, _+_, _*_, _-_}
+use Prim.Native.Nat.{ℕ, zero, suc, _*_, _-_}
 use mathlib.Core.Bool.{Bool, not}
 use mathlib.Core.List.{List, [], _∷_, _++_, map}
 use lib.Dec.{eqb, ltb}
-use lib.ListN.{length, getD, set, replicate}
+use lib.ListN.{length, take, drop, getD, set, replicate}
 use lib.Seq.{sets}
 use Rattle.field.specs.Lists.{if_then_else_, upFrom}
 use Rattle.linear.specs.Lists.{zeros}
@@ -109,10 +109,14 @@ levelFill b =
     let L = levelOf P (suc (b .level)) in
     joined (map (λ c. fill (P .field) (L .weights) (zeros (L .weights)) (lossy P (b .marks)) (across P (b .symbols) c)) (L .checks))
 
--- the sums of the given rows written behind those learned before
-unfoldable pub keepSums : (at : ℕ) → List (List ℕ) → List ℕ → (rows : List ℕ) → List ℕ
-keepSums at cs sums [] = sums
-keepSums at cs sums (r ∷ rs) = keepSums at cs (sets sums (r * room + at) (map (λ c. getD c r 0) cs)) rs
+-- the new sums of row r, one for each check
+abbrev pub newSums : List (List ℕ) → (r : ℕ) → List ℕ
+newSums cs r = map (λ c. getD c r 0) cs
+
+-- row by row: in the row's places the new sums are written behind the n sums before them. All else is as it was
+unfoldable pub keepSums : (n : ℕ) → (news : List (List ℕ)) → (sums : List ℕ) → List ℕ
+keepSums n [] sums = sums
+keepSums n (new ∷ news) sums = sets (take room sums) n new ++ keepSums n news (drop room sums)
 
 -- all rows' sums learned, t one higher
 unfoldable pub raise : Bench → List (List ℕ) → Bench
@@ -123,7 +127,7 @@ raise b cs =
       level = suc (b .level);
       symbols = b .symbols;
       marks = b .marks;
-      sums = keepSums (length (checksTo P (b .level))) cs (b .sums) (upFrom 0 (P .rows));
+      sums = keepSums (length (checksTo P (b .level))) (map (newSums cs) (upFrom 0 (P .rows))) (b .sums);
     }
 
 unfoldable pub levelStepBy : Bench → Learned → Stepped

@@ -5,14 +5,14 @@ use mathlib.Core.Bool.{Bool}
 use mathlib.Core.List.{List}
 use lib.Count.{ones}
 use lib.Dec.{ltb}
-use lib.ListN.{length, getD, set}
+use lib.ListN.{length, getD}
 use Rattle.field.specs.Lists.{if_then_else_, upFrom}
 use Rattle.linear.specs.Lists.{all}
 use Rattle.linear.specs.Marks.{bitsOf}
 use Rattle.linear.specs.Fill.{sumsOf, Fill, fill}
 use Rattle.plans.specs.Plan.{Plan, planOf, checksTo, rowAt}
 use Rattle.plans.specs.Refusal.{sumsAt, benchRefusal, unasked}
-use Rattle.steps.specs.Rounds.{Standing, clash, turns}
+use Rattle.steps.specs.Rounds.{Standing, clash, more, turns}
 use Rattle.plans.specs.declared.Bench.{Bench}
 use Rattle.plans.specs.declared.Place.the-variants.{Row}
 
@@ -41,10 +41,6 @@ HasSums b r =
 -- every row without marks has them
 abbrev pub Settled : Bench → Type 0
 Settled b = (r : ℕ) → r < planOf (b .plan) .rows → getD (b .marks) r 0 ≡ 0 → HasSums b r
-
--- k rows more restored at level t
-unfoldable pub more : (t k : ℕ) → List ℕ → List ℕ
-more t k restored = set restored (pred t) (getD restored (pred t) 0 + k)
 
 -- the row turns of a round lead from bench b to bench c, which is settled, and to the level step's turn; or to a Clash in row `row`,
 -- which is below R

@@ -5,14 +5,14 @@ use plans::Stepped;
 use plans::plan;
 use plans::sums;
 ghost use mathlib.Core.Path.{_≡_};
-ghost use mathlib.Core.List.{_∷_, []};
+ghost use mathlib.Core.List.{_∷_, [], map};
 ghost use Prim.Native.Nat.{suc, _*_, _^_, _<_, _≤_};
 ghost use lib.ListN.{length, take};
 ghost use Rattle.field.specs.Lists.{upFrom};
 ghost use Rattle.field.specs.Ours.{products};
 ghost use Rattle.linear.specs.Marks.{bitsOf, answerOf, vectorOf};
 ghost use Rattle.plans.specs.Plan.{planOf, checksTo};
-ghost use Rattle.steps.specs.Steps.{keepSums, levelFill, levelStepBy};
+ghost use Rattle.steps.specs.Steps.{newSums, keepSums, levelFill, levelStepBy};
 ghost use Rattle.plans.specs.Tables.{checkTable};
 ghost use Rattle.steps.specs.Learned.{columnOf, columnFill, benchOf, learningOf, sumsAfter};
 
@@ -27,7 +27,7 @@ pub enum Learning {
 // Writes the rows' sums under check `at` to each row's place for them.
 fn keep_column(rows: usize, at: usize, column: &[u8; 8], kept: &mut [u8; 128])
     requires { ⌜ (rows ≤ 8) × (at < 16) ⌝ }
-    ensures { λ _. ⌜ now (kept .exit) ≡ keepSums at (take rows (now (column .entry)) ∷ []) (now (kept .entry)) (upFrom 0 rows) ⌝ }
+    ensures { λ _. ⌜ now (kept .exit) ≡ keepSums at (map (newSums (take rows (now (column .entry)) ∷ [])) (upFrom 0 rows)) (now (kept .entry)) ⌝ }
 {
     for r in 0..rows {
         kept[r * 16 + at] = column[r];

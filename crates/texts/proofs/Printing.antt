@@ -17,16 +17,15 @@ use Rattle.linear.specs.Lists.{all, only}
 use Rattle.linear.specs.Marks.{bitsOf}
 use Rattle.linear.specs.Fill.{none, one}
 use Rattle.plans.specs.Plan.{Plan, planOf, known, rowAt, marksAt}
-use Rattle.plans.specs.Answers.{answerNumber, placeValues, answerValues, reportValues, stepNumber}
+use Rattle.plans.specs.Answers.{answerNumber, placeValues, answerValues, reportValues}
 use Rattle.plans.specs.Refusal.{unasked, allBelow, unmarkedBelow, symbolsFit, lentRefusal}
 use Rattle.steps.specs.Steps.{fresh, rowStep, lossy, levelStep}
-use Rattle.steps.specs.Rounds.{Standing, Turn, on, end, clash, counted, afterRow, afterLevel, takeTurn, goOn, turns}
+use Rattle.steps.specs.Rounds.{Standing, Turn, on, end, clash, more as moreRows, nextRow, afterRow, afterLevel, takeTurn, goOn, turns}
 use Rattle.repair.specs.Mending.{mended, rowsLeft, endReport, bare, turnReport, turnStripe, turnMarks, mendReport, mendStripe, mendMarks}
 use Rattle.repair.specs.File.{planIn, symbolsIn, marksIn, fileRefusal}
 use Rattle.repair.specs.Text.{item, lineEnd, reportText, mendText, printed}
 use Rattle.plans.specs.declared.Step.{Step}
 use Rattle.plans.specs.declared.Step.the-variants.{Whole, Filled, Tied, Raised, Blocked, Top, Clash, Refused}
-use Rattle.plans.specs.declared.Place.the-variants.{Row}
 use Rattle.plans.specs.declared.Answer.the-variants.{Restored, Stuck}
 use Rattle.plans.specs.declared.Report.{Report}
 use Rattle.plans.proofs.Rows.{row-end, row-append}
@@ -65,22 +64,14 @@ set-le n (x ∷ l) zero v h e (suc i) = h (suc i)
 set-le n (x ∷ l) (suc j) v h e zero = h zero
 set-le n (x ∷ l) (suc j) v h e (suc i) = set-le n l j v (λ i. h (suc i)) e i
 
-module _ (s : Step) (t : ℕ) (l : List ℕ) where
-  counted-length : length (counted s t l) ≡ length l
-  unfolding if_then_else_ counted
-  counted-length = go (eqb (stepNumber s) 4)
-    where
-      go : (b : Bool) → length (if b then set l (pred t) (suc (getD l (pred t) 0)) else l) ≡ length l
-      go true = length-set l (pred t) (suc (getD l (pred t) 0))
-      go false = refl
+module _ (t : ℕ) (l : List ℕ) where
+  more-length : length (moreRows t 1 l) ≡ length l
+  unfolding moreRows
+  more-length = length-set l (pred t) (getD l (pred t) 0 + 1)
 
-  counted-le : (n : ℕ) → ((i : ℕ) → getD l i 0 ≤ n) → (i : ℕ) → getD (counted s t l) i 0 ≤ suc n
-  unfolding if_then_else_ counted
-  counted-le n h = go (eqb (stepNumber s) 4)
-    where
-      go : (b : Bool) (i : ℕ) → getD (if b then set l (pred t) (suc (getD l (pred t) 0)) else l) i 0 ≤ suc n
-      go true = let v = h (pred t) in set-le (suc n) l (pred t) (suc (getD l (pred t) 0)) (λ i. let w = h i in omega arith) (omega arith)
-      go false = λ i. let w = h i in omega arith
+  more-le : (n : ℕ) → ((i : ℕ) → getD l i 0 ≤ n) → (i : ℕ) → getD (moreRows t 1 l) i 0 ≤ suc n
+  unfolding moreRows
+  more-le n h = let v = h (pred t) in set-le (suc n) l (pred t) (getD l (pred t) 0 + 1) (λ i. let w = h i in omega arith) (omega arith)
 
 below-more : (x : ℕ) (l : List ℕ) → x < 100 → T (allBelow 100 l) → T (allBelow 100 (x ∷ l))
 unfolding all allBelow
@@ -107,23 +98,29 @@ module _ (p n : ℕ) (m : Standing) (a : After p n m) where
   level-low : m .bench .level < 50
   level-low = omega (arith, a .sound .fit .level-le, sizes .levels-le)
 
-  row-reached : m .turn < planOf (m .bench .plan) .rows → Reached p (suc n) (afterRow m (rowStep (m .bench) (m .turn)))
-  unfolding if_then_else_ placeValues afterRow
-  row-reached h = go (eqb (stepNumber (rowStep (m .bench) (m .turn) .answer)) 2)
-    where
-      go : (b : Bool)
-          → let s = rowStep (m .bench) (m .turn) in
-          Reached p (suc n) (if b then clash (Row (m .turn) (m .bench .level))
-          else on (record { bench = s .bench; turn = suc (m .turn); restored = counted (s .answer) (m .bench .level) (m .restored) }))
-      go true =
-          below-more (m .bench .level) (m .turn ∷ []) (omega (arith, level-low))
-          (below-more (m .turn) [] (omega (arith, sizes .rows-le)) below-none)
-      go false = record {
-        sound = sound-row (m .bench) (a .sound) (m .turn);
-        plan = row-keeps (m .bench) (m .turn) .0 ∙ a .plan;
-        three = counted-length (rowStep (m .bench) (m .turn) .answer) (m .bench .level) (m .restored) ∙ a .three;
-        few = counted-le (rowStep (m .bench) (m .turn) .answer) (m .bench .level) (m .restored) n (a .few);
-      }
+  next-reached : (restored : List ℕ) → length restored ≡ 3 → ((i : ℕ) → getD restored i 0 ≤ suc n)
+      → Reached p (suc n) (nextRow m (rowStep (m .bench) (m .turn) .bench) restored)
+  next-reached restored three few = record {
+    sound = sound-row (m .bench) (a .sound) (m .turn);
+    plan = row-keeps (m .bench) (m .turn) .0 ∙ a .plan;
+    three = three;
+    few = few;
+  }
+
+  row-reached : m .turn < planOf (m .bench .plan) .rows → (s : Step) → Reached p (suc n) (afterRow m s (rowStep (m .bench) (m .turn) .bench))
+  unfolding placeValues afterRow
+  row-reached h Clash =
+      below-more (m .bench .level) (m .turn ∷ []) (omega (arith, level-low))
+      (below-more (m .turn) [] (omega (arith, sizes .rows-le)) below-none)
+  row-reached h Filled =
+      let t = m .bench .level in
+      next-reached (moreRows t 1 (m .restored)) (more-length t (m .restored) ∙ a .three) (more-le t (m .restored) n (a .few))
+  row-reached h Whole = next-reached (m .restored) (a .three) (later .few)
+  row-reached h Tied = next-reached (m .restored) (a .three) (later .few)
+  row-reached h Raised = next-reached (m .restored) (a .three) (later .few)
+  row-reached h Blocked = next-reached (m .restored) (a .three) (later .few)
+  row-reached h Top = next-reached (m .restored) (a .three) (later .few)
+  row-reached h (Refused k) = next-reached (m .restored) (a .three) (later .few)
 
   level-reached : (s : Step) → Reached p (suc n) (afterLevel m s (levelStep (m .bench) .bench))
   unfolding placeValues afterLevel
@@ -146,9 +143,10 @@ module _ (p n : ℕ) (m : Standing) (a : After p n m) where
   turn-reached = go (ltb (m .turn) (planOf (m .bench .plan) .rows)) refl
     where
       go : (b : Bool) → ltb (m .turn) (planOf (m .bench .plan) .rows) ≡ b
-          → let s = levelStep (m .bench) in
-          Reached p (suc n) (if b then afterRow m (rowStep (m .bench) (m .turn)) else afterLevel m (s .answer) (s .bench))
-      go true e = row-reached (ltb-true (m .turn) (planOf (m .bench .plan) .rows) e)
+          → let r = rowStep (m .bench) (m .turn) in
+          let s = levelStep (m .bench) in
+          Reached p (suc n) (if b then afterRow m (r .answer) (r .bench) else afterLevel m (s .answer) (s .bench))
+      go true e = row-reached (ltb-true (m .turn) (planOf (m .bench .plan) .rows) e) (rowStep (m .bench) (m .turn) .answer)
       go false e = level-reached (levelStep (m .bench) .answer)
 
 -- n turns more
