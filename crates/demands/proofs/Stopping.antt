@@ -81,14 +81,14 @@ module _ (p : ℕ) where
           subst (λ (s : Stepped). Going (standingOf (s .bench) (suc k) restored)) e
           record { sound = sound-row b (g .sound) k; plan = row-keeps b k .0 ∙ g .plan }
 
-      row-goes : (f : Fill) → rowStep b k ≡ rowStepBy b k f → Next m (afterRow m (rowStepBy b k f))
+      row-goes : (f : Fill) → rowStep b k ≡ rowStepBy b k f → Next m (afterRow m (rowStepBy b k f .answer) (rowStepBy b k f .bench))
       unfolding if_then_else_ afterRow rowStepBy stepped
       row-goes tied e = row-next (rowStepBy b k tied) e _
       row-goes none e = clash-in-row l (ap (λ (s : Stepped). s .answer) e)
       row-goes (one row) e = by (eqb (getD (b .marks) k 0) 0) e
         where
           by : (z : Bool) → rowStep b k ≡ stepped (putRow b k row) (if z then Whole else Filled)
-              → Next m (afterRow m (stepped (putRow b k row) (if z then Whole else Filled)))
+              → Next m (afterRow m (if z then Whole else Filled) (putRow b k row))
           by true e = row-next (stepped (putRow b k row) Whole) e _
           by false e = row-next (stepped (putRow b k row) Filled) e _
 
@@ -96,8 +96,8 @@ module _ (p : ℕ) where
       unfolding takeTurn
       turn-row =
           subst (Next m)
-          (sym (if-true (ltb k (planOf (b .plan) .rows)) (afterRow m (rowStep b k)) (afterLevel m (levelStep b .answer) (levelStep b .bench))
-          (lt→ltb k (planOf (b .plan) .rows) own-row) ∙ ap (afterRow m) row-is))
+          (sym (if-true (ltb k (planOf (b .plan) .rows)) (afterRow m (rowStep b k .answer) (rowStep b k .bench)) (afterLevel m (levelStep b .answer) (levelStep b .bench))
+          (lt→ltb k (planOf (b .plan) .rows) own-row) ∙ ap (λ (s : Stepped). afterRow m (s .answer) (s .bench)) row-is))
           (row-goes (rowFill b k) row-is)
 
     -- ---- the level step's
@@ -120,7 +120,7 @@ module _ (p : ℕ) where
       unfolding takeTurn
       turn-level =
           subst (Next m)
-          (sym (if-false (ltb k (planOf (b .plan) .rows)) (afterRow m (rowStep b k)) (afterLevel m (levelStep b .answer) (levelStep b .bench))
+          (sym (if-false (ltb k (planOf (b .plan) .rows)) (afterRow m (rowStep b k .answer) (rowStep b k .bench)) (afterLevel m (levelStep b .answer) (levelStep b .bench))
           (le→nltb k (planOf (b .plan) .rows) (subst (λ q. planOf q .rows ≤ k) (sym (g .plan)) full))
           ∙ ap (λ (s : Stepped). afterLevel m (s .answer) (s .bench)) level-is))
           (level-goes (ltb (b .level) (length (planOf (b .plan) .levels))) (levelFill b) level-is)
