@@ -1,19 +1,21 @@
 -- Data at the places that are not marked: put there, taken from there, and what two stripes with the same data share. Assumes nothing.
-use mathlib.Core.Path.{_≡_, refl, sym, ap, ap₂, _∙_}
-use mathlib.Core.Bool.{Bool, true, false, not}
-use mathlib.Core.List.{List, [], _∷_, _++_}
-use Prim.Native.Nat.{ℕ, suc, _+_, _≤_}
-use native.Mathlib.Nat.{suc-inj, le-of-suc-le-suc}
+use mathlib.Core.Path.{_≡_, refl, sym, ap, _∙_}
+use mathlib.Core.Bool.{Bool, true, false}
+use mathlib.Core.List.{List, [], _∷_, _++_, flatMap}
+use Prim.Native.Nat.{ℕ, suc, _+_}
+use native.Mathlib.Nat.{suc-inj}
 use native.Mathlib.Omega.{arith}
 use lib.Dec.{T}
 use lib.ListN.{length, take, drop}
-use lib.Seq.{drop-nil}
 use Rattle.field.specs.Lists.{if_then_else_}
-use Rattle.field.proofs.Test.{both-left, both-right, both}
-use Rattle.linear.specs.Lists.{all, only, first, rest}
+use Rattle.field.proofs.Test.{both}
+use Rattle.linear.specs.Lists.{all, only, first, rest, beside}
+use Rattle.linear.proofs.Tests.{all-first, all-rest}
 use Rattle.linear.proofs.Choices.{Alike}
+use Rattle.linear.proofs.Beside.{drop-rest, beside-append, beside-front, beside-alike}
 use Rattle.codewords.specs.Codeword.{placed, taken}
 use Rattle.plans.specs.Tables.{unmarked}
+use Rattle.plans.proofs.Flat.{flat-append}
 
 -- ---- how much is put and taken
 
@@ -27,31 +29,27 @@ pub placed-length : (ms : List Bool) (ds : List ℕ) → length (placed ms ds) �
 unfolding placed
 placed-length [] ds = refl
 placed-length (true ∷ ms) ds = ap suc (placed-length ms ds)
-placed-length (false ∷ ms) [] = ap suc (placed-length ms [])
-placed-length (false ∷ ms) (d ∷ ds) = ap suc (placed-length ms ds)
+placed-length (false ∷ ms) ds = ap suc (placed-length ms (rest ds))
 
 pub placed-all : (q : ℕ → Bool) → T (q 0) → (ms : List Bool) (ds : List ℕ) → T (all q ds) → T (all q (placed ms ds))
 unfolding all placed
 placed-all q z [] ds t = tt
 placed-all q z (true ∷ ms) ds t = both (q 0) (all q (placed ms ds)) z (placed-all q z ms ds t)
-placed-all q z (false ∷ ms) [] t = both (q 0) (all q (placed ms [])) z (placed-all q z ms [] t)
-placed-all q z (false ∷ ms) (d ∷ ds) t =
-    both (q d) (all q (placed ms ds)) (both-left (q d) (all q ds) t) (placed-all q z ms ds (both-right (q d) (all q ds) t))
+placed-all q z (false ∷ ms) ds t =
+    both (q (first ds)) (all q (placed ms (rest ds))) (all-first q z ds t) (placed-all q z ms (rest ds) (all-rest q ds t))
 
-pub taken-length : (ms : List Bool) (v : List ℕ) → length ms ≤ length v → length (taken ms v) ≡ unmarked ms
-unfolding if_then_else_ only taken
-taken-length [] v l = refl
-taken-length (m ∷ ms) [] l = absurd (omega arith)
-taken-length (true ∷ ms) (x ∷ v) l = taken-length ms v (le-of-suc-le-suc l)
-taken-length (false ∷ ms) (x ∷ v) l = ap suc (taken-length ms v (le-of-suc-le-suc l))
+pub taken-length : (ms : List Bool) (v : List ℕ) → length (taken ms v) ≡ unmarked ms
+unfolding if_then_else_ only flatMap beside taken
+taken-length [] v = refl
+taken-length (true ∷ ms) v = taken-length ms (rest v)
+taken-length (false ∷ ms) v = ap suc (taken-length ms (rest v))
 
-pub taken-all : (q : ℕ → Bool) (ms : List Bool) (v : List ℕ) → T (all q v) → T (all q (taken ms v))
-unfolding all taken
-taken-all q [] v t = tt
-taken-all q (m ∷ ms) [] t = tt
-taken-all q (true ∷ ms) (x ∷ v) t = taken-all q ms v (both-right (q x) (all q v) t)
-taken-all q (false ∷ ms) (x ∷ v) t =
-    both (q x) (all q (taken ms v)) (both-left (q x) (all q v) t) (taken-all q ms v (both-right (q x) (all q v) t))
+pub taken-all : (q : ℕ → Bool) → T (q 0) → (ms : List Bool) (v : List ℕ) → T (all q v) → T (all q (taken ms v))
+unfolding if_then_else_ all flatMap beside taken
+taken-all q z [] v t = tt
+taken-all q z (true ∷ ms) v t = taken-all q z ms (rest v) (all-rest q v t)
+taken-all q z (false ∷ ms) v t =
+    both (q (first v)) (all q (taken ms (rest v))) (all-first q z v t) (taken-all q z ms (rest v) (all-rest q v t))
 
 -- ---- in two parts
 
@@ -60,34 +58,24 @@ pub placed-append : (ms ns : List Bool) (ds : List ℕ) → placed (ms ++ ns) ds
 unfolding if_then_else_ only placed
 placed-append [] ns ds = refl
 placed-append (true ∷ ms) ns ds = ap (λ l. 0 ∷ l) (placed-append ms ns ds)
-placed-append (false ∷ ms) ns [] = ap (λ l. 0 ∷ l) (placed-append ms ns [] ∙ ap (λ d. placed ms [] ++ placed ns d) (drop-nil (unmarked ms)))
-placed-append (false ∷ ms) ns (d ∷ ds) = ap (λ l. d ∷ l) (placed-append ms ns ds)
-
-taken-none : (ms : List Bool) → taken ms [] ≡ []
-unfolding taken
-taken-none [] = refl
-taken-none (m ∷ ms) = refl
+placed-append (false ∷ ms) ns ds =
+    ap (λ l. first ds ∷ l)
+    (placed-append ms ns (rest ds) ∙ ap (λ l. placed ms (rest ds) ++ placed ns l) (sym (drop-rest (unmarked ms) ds)))
 
 pub taken-append : (ms ns : List Bool) (v : List ℕ) → taken (ms ++ ns) v ≡ taken ms v ++ taken ns (drop (length ms) v)
 unfolding taken
-taken-append [] ns v = refl
-taken-append (m ∷ ms) ns [] = sym (taken-none ns)
-taken-append (true ∷ ms) ns (x ∷ v) = taken-append ms ns v
-taken-append (false ∷ ms) ns (x ∷ v) = ap (λ l. x ∷ l) (taken-append ms ns v)
+taken-append ms ns v = ap (flatMap (λ l. l)) (beside-append _ ms ns v) ∙ flat-append (λ l. l) (beside _ ms v) (beside _ ns (drop (length ms) v))
 
 -- what stands behind the places is not taken
 pub taken-front : (ms : List Bool) (v : List ℕ) → taken ms (take (length ms) v) ≡ taken ms v
 unfolding taken
-taken-front [] v = refl
-taken-front (m ∷ ms) [] = refl
-taken-front (true ∷ ms) (x ∷ v) = taken-front ms v
-taken-front (false ∷ ms) (x ∷ v) = ap (λ l. x ∷ l) (taken-front ms v)
+taken-front ms v = ap (flatMap (λ l. l)) (beside-front _ ms v)
 
 -- ---- put and taken back
 
 -- what was put is taken back
 pub taken-placed : (ms : List Bool) (ds : List ℕ) → length ds ≡ unmarked ms → taken ms (placed ms ds) ≡ ds
-unfolding if_then_else_ only placed taken
+unfolding if_then_else_ only flatMap first rest beside placed taken
 taken-placed [] [] l = refl
 taken-placed [] (d ∷ ds) l = absurd (omega arith)
 taken-placed (true ∷ ms) ds l = taken-placed ms ds l
@@ -95,18 +83,12 @@ taken-placed (false ∷ ms) [] l = absurd (omega arith)
 taken-placed (false ∷ ms) (d ∷ ds) l = ap (λ t. d ∷ t) (taken-placed ms ds (suc-inj l))
 
 -- vectors agree where unmarked exactly where the same is taken from them
-pub alike-taken : (ms : List Bool) (v w : List ℕ) → length v ≡ length ms → length w ≡ length ms → Alike ms v w → taken ms v ≡ taken ms w
-unfolding first rest taken
-alike-taken [] v w l k a = refl
-alike-taken (m ∷ ms) [] w l k a = absurd (omega arith)
-alike-taken (m ∷ ms) (x ∷ v) [] l k a = absurd (omega arith)
-alike-taken (true ∷ ms) (x ∷ v) (y ∷ w) l k a = alike-taken ms v w (suc-inj l) (suc-inj k) a
-alike-taken (false ∷ ms) (x ∷ v) (y ∷ w) l k a = ap₂ _∷_ (a .0) (alike-taken ms v w (suc-inj l) (suc-inj k) (a .1))
+pub alike-taken : (ms : List Bool) (v w : List ℕ) → Alike ms v w → taken ms v ≡ taken ms w
+unfolding if_then_else_ taken
+alike-taken ms v w a = ap (flatMap (λ l. l)) (beside-alike _ (λ x y. refl) ms v w a)
 
-pub taken-alike : (ms : List Bool) (v w : List ℕ) → length v ≡ length ms → length w ≡ length ms → taken ms v ≡ taken ms w → Alike ms v w
-unfolding first rest taken
-taken-alike [] v w l k e = tt
-taken-alike (m ∷ ms) [] w l k e = absurd (omega arith)
-taken-alike (m ∷ ms) (x ∷ v) [] l k e = absurd (omega arith)
-taken-alike (true ∷ ms) (x ∷ v) (y ∷ w) l k e = taken-alike ms v w (suc-inj l) (suc-inj k) e
-taken-alike (false ∷ ms) (x ∷ v) (y ∷ w) l k e = (ap first e, taken-alike ms v w (suc-inj l) (suc-inj k) (ap rest e))
+pub taken-alike : (ms : List Bool) (v w : List ℕ) → taken ms v ≡ taken ms w → Alike ms v w
+unfolding if_then_else_ flatMap first rest beside taken
+taken-alike [] v w e = tt
+taken-alike (true ∷ ms) v w e = taken-alike ms (rest v) (rest w) e
+taken-alike (false ∷ ms) v w e = (ap first e, taken-alike ms (rest v) (rest w) (ap rest e))

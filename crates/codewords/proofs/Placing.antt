@@ -8,13 +8,14 @@ use native.Mathlib.Omega.{arith}
 use borrow.Author.Tests.{eq-eqb, ne-eqb}
 use lib.Dec.{eqb}
 use lib.ListN.{length, take, drop, getD, set, length-drop, drop-of-length-le}
-use lib.Seq.{sets, length-sets, drop-cons}
+use lib.Seq.{sets, length-sets}
 use Rattle.field.specs.Lists.{if_then_else_, upFrom}
 use Rattle.field.proofs.Sum.{bit}
-use Rattle.linear.specs.Lists.{only}
+use Rattle.linear.specs.Lists.{only, beside}
 use Rattle.systems.specs.Words.{bitAt}
 use Rattle.linear.specs.Marks.{bitsOf}
 use Rattle.linear.proofs.Marked.{length-bits}
+use Rattle.linear.proofs.Beside.{first-drop}
 use Rattle.plans.specs.Plan.{Plan, planOf, marksAt, marksOf}
 use Rattle.codewords.specs.Codeword.{placed, taken}
 use Rattle.plans.specs.Tables.{unmarked}
@@ -101,13 +102,13 @@ pub record Taking (f : ℕ → List Bool) (xs old : List ℕ) (k next : ℕ) (s 
 
 module _ {f : ℕ → List Bool} {xs old : List ℕ} where
   pub taking-starts : Taking f xs old 0 0 old
-  unfolding upFrom flatMap only taken
+  unfolding upFrom flatMap only beside taken
   taking-starts = record { count = refl; done = refl }
 
   pub taking-length : {k next : ℕ} {s : List ℕ} → Taking f xs old k next s → length s ≡ length old
   taking-length {k} t = ap length (t .done) ∙ length-sets old 0 (taken (marksTo f k) xs)
 
-  module _ {k next : ℕ} {s : List ℕ} (long : length (marksTo f k) ≤ length xs) (t : Taking f xs old k next s) where
+  module _ {k next : ℕ} {s : List ℕ} (t : Taking f xs old k next s) where
     pub taking-turns : {n : ℕ} {u : List ℕ} → n ≡ next + unmarked (f k) → u ≡ sets s next (taken (f k) (drop (length (marksTo f k)) xs))
         → Taking f xs old (k + 1) n u
     taking-turns en eu =
@@ -117,13 +118,13 @@ module _ {f : ℕ → List Bool} {xs old : List ℕ} where
           done =
               eu ∙ ap (λ l. sets l next (taken (f k) (drop (length ms) xs))) (t .done)
               ∙ ap (λ i. sets (sets old 0 (taken ms xs)) i (taken (f k) (drop (length ms) xs)))
-              (t .count ∙ sym (taken-length ms xs long) ∙ sym (zero-add _))
+              (t .count ∙ sym (taken-length ms xs) ∙ sym (zero-add _))
               ∙ sym (sets-append (taken ms xs) (taken (f k) (drop (length ms) xs)) old 0)
               ∙ ap (sets old 0) (sym (taken-append ms (f k) xs) ∙ ap (λ l. taken l xs) (sym (marks-next f k)));
         }
 
     pub taking-ends : length old ≡ unmarked (marksTo f k) → s ≡ taken (marksTo f k) xs
-    taking-ends e = t .done ∙ sets-whole (taken (marksTo f k) xs) old (taken-length (marksTo f k) xs long ∙ sym e)
+    taking-ends e = t .done ∙ sets-whole (taken (marksTo f k) xs) old (taken-length (marksTo f k) xs ∙ sym e)
 
 -- ---- a turn for each column of a row
 
@@ -161,13 +162,7 @@ module _ (w c : ℕ) where
     unfolding if_then_else_ only placed
     place-data z =
         placing-turns p (ap (λ b. next + unmarked (b ∷ [])) (clear z))
-        (ap (sets s c) (sym (one next ds)) ∙ ap₂ (λ i b. sets s i (placed (b ∷ []) (drop next ds))) (sym (bits-length w c)) (clear z))
-      where
-        one : (n : ℕ) (ds : List ℕ) → placed (false ∷ []) (drop n ds) ≡ getD ds n 0 ∷ []
-        one zero [] = refl
-        one zero (d ∷ ds) = refl
-        one (suc n) [] = refl
-        one (suc n) (d ∷ ds) = one n ds
+        (ap (set s c) (sym (first-drop next ds)) ∙ ap₂ (λ i b. sets s i (placed (b ∷ []) (drop next ds))) (sym (bits-length w c)) (clear z))
 
     pub place-none : (bitAt w c ≡ 0 → ⊥) → Placing (bitOf w) ds old (c + 1) next (set s c 0)
     unfolding if_then_else_ only placed
@@ -180,29 +175,23 @@ module _ (w c : ℕ) where
         let all : marksTo (bitOf w) c ≡ bitsOf (length old) w = bits-to w c ∙ ap (λ n. bitsOf n w) e in
         (p .count ∙ ap unmarked all, placing-ends p (sym (bits-length w c ∙ e)) ∙ ap (λ ms. placed ms ds) all)
 
-  pub row-taken : {xs old s : List ℕ} {next : ℕ} → Taking (bitOf w) xs old c next s → c ≡ length xs
-      → (next ≡ unmarked (bitsOf (length xs) w)) × (s ≡ sets old 0 (taken (bitsOf (length xs) w) xs))
-  row-taken {xs} {old} t e =
-      let all : marksTo (bitOf w) c ≡ bitsOf (length xs) w = bits-to w c ∙ ap (λ n. bitsOf n w) e in
-      (t .count ∙ ap unmarked all, t .done ∙ ap (λ ms. sets old 0 (taken ms xs)) all)
-
-  module _ {xs old s : List ℕ} {next : ℕ} (h : c < length xs) (t : Taking (bitOf w) xs old c next s) where
-    long : length (marksTo (bitOf w) c) ≤ length xs
-    long = omega (arith, bits-length w c)
-
+  module _ {xs old s : List ℕ} {next : ℕ} (t : Taking (bitOf w) xs old c next s) where
     pub take-symbol : bitAt w c ≡ 0 → Taking (bitOf w) xs old (c + 1) (next + 1) (set s next (getD xs c 0))
-    unfolding if_then_else_ only taken
+    unfolding if_then_else_ only flatMap beside taken
     take-symbol z =
-        taking-turns long t (ap (λ b. next + unmarked (b ∷ [])) (clear z))
-        (ap (λ l. sets s next (taken (false ∷ []) l)) (sym (drop-cons xs c 0 h))
-        ∙ ap₂ (λ i b. sets s next (taken (b ∷ []) (drop i xs))) (sym (bits-length w c)) (clear z))
+        taking-turns t (ap (λ b. next + unmarked (b ∷ [])) (clear z))
+        (ap (set s next) (sym (first-drop c xs)) ∙ ap₂ (λ i b. sets s next (taken (b ∷ []) (drop i xs))) (sym (bits-length w c)) (clear z))
 
     pub take-none : (bitAt w c ≡ 0 → ⊥) → Taking (bitOf w) xs old (c + 1) next s
-    unfolding if_then_else_ only taken
+    unfolding if_then_else_ only flatMap beside taken
     take-none nz =
-        taking-turns long t (sym (add-zero next) ∙ ap (λ b. next + unmarked (b ∷ [])) (marked nz))
-        (ap (λ l. sets s next (taken (true ∷ []) l)) (sym (drop-cons xs c 0 h))
-        ∙ ap₂ (λ i b. sets s next (taken (b ∷ []) (drop i xs))) (sym (bits-length w c)) (marked nz))
+        taking-turns t (sym (add-zero next) ∙ ap (λ b. next + unmarked (b ∷ [])) (marked nz))
+        (ap₂ (λ i b. sets s next (taken (b ∷ []) (drop i xs))) (sym (bits-length w c)) (marked nz))
+
+    pub row-taken : c ≡ length xs → (next ≡ unmarked (bitsOf (length xs) w)) × (s ≡ sets old 0 (taken (bitsOf (length xs) w) xs))
+    row-taken e =
+        let all : marksTo (bitOf w) c ≡ bitsOf (length xs) w = bits-to w c ∙ ap (λ n. bitsOf n w) e in
+        (t .count ∙ ap unmarked all, t .done ∙ ap (λ ms. sets old 0 (taken ms xs)) all)
 
 -- ---- a turn for each row
 
@@ -216,12 +205,11 @@ module _ (P : Plan) (words : List ℕ) where
   rows-placed {ds} {r = r} e long p =
       placing-ends p (long ∙ ap (λ n. n * P .columns) (sym e) ∙ sym (rows-length r)) ∙ ap (λ n. placed (marksTo (marksAt P words) n) ds) e
 
-  pub rows-taken : {xs old s : List ℕ} {r next : ℕ} → r ≡ P .rows → length xs ≡ P .rows * P .columns → length old ≡ unmarked (marksOf P words)
+  pub rows-taken : {xs old s : List ℕ} {r next : ℕ} → r ≡ P .rows → length old ≡ unmarked (marksOf P words)
       → Taking (marksAt P words) xs old r next s → s ≡ taken (marksOf P words) xs
   unfolding marksOf
-  rows-taken {xs} {r = r} e long room t =
-      taking-ends (omega (arith, rows-length r, ap (λ n. n * P .columns) e)) t (room ∙ ap (λ n. unmarked (marksTo (marksAt P words) n)) (sym e))
-      ∙ ap (λ n. taken (marksTo (marksAt P words) n) xs) e
+  rows-taken {xs} {r = r} e room t =
+      taking-ends t (room ∙ ap (λ n. unmarked (marksTo (marksAt P words) n)) (sym e)) ∙ ap (λ n. taken (marksTo (marksAt P words) n) xs) e
 
 -- what a turn at row r of the stripe `xs` knows, the next data being from `next` on among `ds`: the row stands in the stripe and its data among
 -- all, and both can be lent
@@ -283,7 +271,7 @@ module _ {p q rows n : ℕ} (is : Numbers p q rows n) (words xs : List ℕ) (lon
       let start : r * n ≡ length (marksTo (marksAt P words) r) = ap (λ k. r * k) (is .wide) ∙ sym (rows-length P words r) in
       let short : length (drop next s) ≤ length s - next = simp length-drop (omega arith) in
       let none : drop (length s - next) (drop next s) ≡ [] = drop-of-length-le (drop next s) short in
-      taking-turns (omega (arith, row-ends, start)) t (ap (λ k. next + k) (em ∙ ap unmarked its-marks))
+      taking-turns t (ap (λ k. next + k) (em ∙ ap unmarked its-marks))
       (ap (λ l. take next s ++ (v ++ l)) none
       ∙ ap (λ l. take next s ++ l) (append-nil v ∙ ev ∙ ap (λ l. sets l 0 (taken (bitsOf (length row) (getD words r 0)) row)) (rest-of next s))
       ∙ sets-behind next (taken (bitsOf (length row) (getD words r 0)) row) s

@@ -1,12 +1,12 @@
 -- The rule of the code; data and check places; what encoding refuses; extraction.
 use Prim.Native.Nat.{ℕ, zero, suc}
 use mathlib.Core.Bool.{Bool, true, false, _&&_}
-use mathlib.Core.List.{List, [], _∷_}
+use mathlib.Core.List.{List, [], _∷_, flatMap}
 use lib.Dec.{eqb}
 use lib.ListN.{length, drop}
 use Rattle.field.specs.Lists.{if_then_else_, upFrom}
 use Rattle.field.specs.Field.{size}
-use Rattle.linear.specs.Lists.{all, vanish}
+use Rattle.linear.specs.Lists.{all, vanish, first, rest, beside}
 use Rattle.linear.specs.Fill.{sumsOf}
 use Rattle.plans.specs.Plan.{Plan, Level, planOf, known, levelOf, rowAt, checkPlacesOf, carried, across}
 use Rattle.plans.specs.Refusal.{inMemory, unasked, stripeFits, allBelow}
@@ -44,15 +44,11 @@ tested p stripe =
 unfoldable pub placed : List Bool → List ℕ → List ℕ
 placed [] ds = []
 placed (true ∷ ms) ds = 0 ∷ placed ms ds
-placed (false ∷ ms) [] = 0 ∷ placed ms []
-placed (false ∷ ms) (d ∷ ds) = d ∷ placed ms ds
+placed (false ∷ ms) ds = first ds ∷ placed ms (rest ds)
 
 -- the symbols at the places that are not marked, in order
 unfoldable pub taken : List Bool → List ℕ → List ℕ
-taken [] xs = []
-taken (m ∷ ms) [] = []
-taken (true ∷ ms) (x ∷ xs) = taken ms xs
-taken (false ∷ ms) (x ∷ xs) = x ∷ taken ms xs
+taken ms xs = flatMap (λ l. l) (beside (λ m x. if m then [] else x ∷ []) ms xs)
 
 -- ---- what encoding refuses
 

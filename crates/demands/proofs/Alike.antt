@@ -16,7 +16,7 @@ use Rattle.field.specs.Lists.{if_then_else_, upFrom}
 use Rattle.field.specs.Field.{Field}
 use Rattle.field.proofs.Sum.{of-bits, bit}
 use Rattle.field.proofs.Test.{both-left, both-right, both}
-use Rattle.linear.specs.Lists.{all, only, vanish, first, rest}
+use Rattle.linear.specs.Lists.{all, only, vanish, first, rest, beside}
 use Rattle.linear.specs.Marks.{bitsOf}
 use Rattle.linear.proofs.Choices.{Alike, Inside, getD-first, getD-rest, alike-at}
 use Rattle.linear.proofs.Filling.{Independent, independent-of}
@@ -66,7 +66,7 @@ alike-unmarked (false ∷ ms) (x ∷ v) (y ∷ w) z l k a = ap₂ _∷_ (a .0) (
 
 -- where no symbol is marked, each is below q
 pub unmarked-all : (q : ℕ) (ms : List Bool) (v : List ℕ) → marked ms ≡ 0 → length v ≡ length ms → T (unmarkedBelow q ms v) → T (allBelow q v)
-unfolding if_then_else_ only all allBelow unmarkedBelow
+unfolding if_then_else_ only all first rest beside allBelow unmarkedBelow
 unmarked-all q [] [] z l t = tt
 unmarked-all q [] (x ∷ v) z l t = absurd (omega arith)
 unmarked-all q (true ∷ ms) v z l t = absurd (omega arith)

@@ -1,23 +1,25 @@
 -- What does not look under marks: the tests of refusal, a file, a printed grid. And lists that agree at a place. Assumes nothing.
 use mathlib.Core.Path.{_≡_, refl, sym, ap, ap₂, _∙_, subst}
 use mathlib.Core.Logic.{inl, inr}
-use mathlib.Core.Bool.{Bool, true, false, _&&_}
+use mathlib.Core.Bool.{Bool, _&&_}
 use mathlib.Core.List.{List, [], _∷_, _++_, flatMap}
 use Prim.Native.Nat.{ℕ, zero, suc, _+_, _*_, _-_, _<_, _≤_}
 use native.Mathlib.Nat.{suc-inj, le-of-suc-le-suc, eq-or-lt-of-le}
 use native.Mathlib.Omega.{arith}
-use lib.Dec.{eqb, ltb}
+use lib.Dec.{eqb}
 use lib.ListN.{length, take, drop, getD, set, length-set, length-take, length-drop}
 use lib.Seq.{sets, ext-getD}
 use Rattle.field.specs.Lists.{if_then_else_, upFrom}
 use Rattle.field.specs.Field.{size}
-use Rattle.linear.specs.Lists.{all, first, rest}
+use Rattle.linear.specs.Lists.{all}
 use Rattle.linear.specs.Marks.{bitsOf}
 use Rattle.linear.proofs.Choices.{Alike}
+use Rattle.linear.proofs.Beside.{beside-alike}
 use Rattle.plans.specs.Plan.{Plan, known, planOf, rowAt, marksAt, marksOf, fileLength}
 use Rattle.plans.specs.Refusal.{unasked, inMemory, stripeFits, wordsFit, marksFit, unmarkedBelow, symbolsFit, lentRefusal}
 use Rattle.repair.specs.File.{bytes4, headerOf, blanked, fileOf, writeRefusal, writeFile}
-use Rattle.repair.specs.Text.{hex, lineEnd, shown, grid}
+use Rattle.repair.specs.Text.{lineEnd, shown, grid}
+use Rattle.plans.proofs.Refusals.{unmarked-alike}
 use Rattle.demands.specs.Silence.{SameUnmarked, SilentWriting}
 use Rattle.demands.proofs.Alike.{at-alike, row-at, agree-rows}
 
@@ -99,32 +101,9 @@ row-equal P s t r l h =
 
 -- ---- what does not look under marks
 
-below-alike : (q : ℕ) (ms : List Bool) (v w : List ℕ) → length v ≡ length w → Alike ms v w → unmarkedBelow q ms v ≡ unmarkedBelow q ms w
-unfolding unmarkedBelow first rest
-below-alike q [] v w l a = refl
-below-alike q (m ∷ ms) [] [] l a = refl
-below-alike q (m ∷ ms) [] (y ∷ w) l a = absurd (omega arith)
-below-alike q (m ∷ ms) (x ∷ v) [] l a = absurd (omega arith)
-below-alike q (true ∷ ms) (x ∷ v) (y ∷ w) l a = below-alike q ms v w (suc-inj l) a
-below-alike q (false ∷ ms) (x ∷ v) (y ∷ w) l a = ap₂ (λ z b. ltb z q && b) (a .0) (below-alike q ms v w (suc-inj l) (a .1))
-
-pub blanked-alike : (ms : List Bool) (v w : List ℕ) → length v ≡ length w → Alike ms v w → blanked ms v ≡ blanked ms w
-unfolding blanked first rest
-blanked-alike [] v w l a = refl
-blanked-alike (m ∷ ms) [] [] l a = refl
-blanked-alike (m ∷ ms) [] (y ∷ w) l a = absurd (omega arith)
-blanked-alike (m ∷ ms) (x ∷ v) [] l a = absurd (omega arith)
-blanked-alike (true ∷ ms) (x ∷ v) (y ∷ w) l a = ap (λ z. 0 ∷ z) (blanked-alike ms v w (suc-inj l) a)
-blanked-alike (false ∷ ms) (x ∷ v) (y ∷ w) l a = ap₂ _∷_ (a .0) (blanked-alike ms v w (suc-inj l) (a .1))
-
-shown-alike : (ms : List Bool) (v w : List ℕ) → length v ≡ length w → Alike ms v w → shown ms v ≡ shown ms w
-unfolding shown first rest
-shown-alike [] v w l a = refl
-shown-alike (m ∷ ms) [] [] l a = refl
-shown-alike (m ∷ ms) [] (y ∷ w) l a = absurd (omega arith)
-shown-alike (m ∷ ms) (x ∷ v) [] l a = absurd (omega arith)
-shown-alike (true ∷ ms) (x ∷ v) (y ∷ w) l a = ap (λ z. 63 ∷ z) (shown-alike ms v w (suc-inj l) a)
-shown-alike (false ∷ ms) (x ∷ v) (y ∷ w) l a = ap₂ (λ x z. hex x ∷ z) (a .0) (shown-alike ms v w (suc-inj l) (a .1))
+pub blanked-alike : (ms : List Bool) (v w : List ℕ) → Alike ms v w → blanked ms v ≡ blanked ms w
+unfolding if_then_else_ blanked
+blanked-alike = beside-alike (λ m x. if m then 0 else x) (λ x y. refl)
 
 -- the same for every row
 pub all-same : (f g : ℕ → Bool) (k n : ℕ) → ((r : ℕ) → r < k + n → f r ≡ g r) → all f (upFrom k n) ≡ all g (upFrom k n)
@@ -154,7 +133,7 @@ module _ (p : ℕ) (marks s t : List ℕ) (h : SameUnmarked p marks s t) where
   symbols-same =
       all-same (λ r. unmarkedBelow (size (Q .field)) (marksAt Q marks r) (rowAt Q s r))
       (λ r. unmarkedBelow (size (Q .field)) (marksAt Q marks r) (rowAt Q t r)) 0 (Q .rows) (λ r l.
-      below-alike (size (Q .field)) (marksAt Q marks r) (rowAt Q s r) (rowAt Q t r) (row-lengths Q s t r (h .long)) (rows-alike r (omega arith)))
+      unmarked-alike (size (Q .field)) (marksAt Q marks r) (rowAt Q s r) (rowAt Q t r) (rows-alike r (omega arith)))
 
   pub lent-same : lentRefusal p s marks ≡ lentRefusal p t marks
   unfolding lentRefusal stripeFits
@@ -163,17 +142,16 @@ module _ (p : ℕ) (marks s t : List ℕ) (h : SameUnmarked p marks s t) where
       (h .long) symbols-same
 
   pub grid-same : grid Q s marks ≡ grid Q t marks
-  unfolding grid
+  unfolding if_then_else_ grid shown
   grid-same =
       flat-same (λ r. shown (marksAt Q marks r) (rowAt Q s r) ++ lineEnd) (λ r. shown (marksAt Q marks r) (rowAt Q t r) ++ lineEnd) 0 (Q .rows)
       (λ r l.
-      ap (λ z. z ++ lineEnd)
-      (shown-alike (marksAt Q marks r) (rowAt Q s r) (rowAt Q t r) (row-lengths Q s t r (h .long)) (rows-alike r (omega arith))))
+      ap (λ z. z ++ lineEnd) (beside-alike _ (λ x y. refl) (marksAt Q marks r) (rowAt Q s r) (rowAt Q t r) (rows-alike r (omega arith))))
 
 -- ---- writing a file
 
 pub silent-writing : SilentWriting
-unfolding writeRefusal writeFile fileOf stripeFits
+unfolding if_then_else_ blanked writeRefusal writeFile fileOf stripeFits
 silent-writing p marks s t file h =
     let P = planOf p in
     let e : writeRefusal p s marks file ≡ writeRefusal p t marks file =
@@ -183,5 +161,5 @@ silent-writing p marks s t file h =
     (h .long) (symbols-same p marks s t h) in (
       e,
       ap₂ (λ n bytes. if eqb n 0 then headerOf p ++ flatMap bytes4 marks ++ bytes else file) e
-          (blanked-alike (marksOf P marks) s t (h .long) (at-alike (marksOf P marks) s t (h .agree))),
+          (beside-alike _ (λ x y. refl) (marksOf P marks) s t (at-alike (marksOf P marks) s t (h .agree))),
     )

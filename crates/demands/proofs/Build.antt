@@ -18,12 +18,15 @@ use Rattle.field.proofs.Laws.{IsField, size-pos, dot-lt}
 use Rattle.linear.specs.Lists.{zeros, vanish}
 use Rattle.linear.specs.Fill.{sumsOf}
 use Rattle.linear.proofs.Tests.{In, either, all-append, zeros-vanish}
-use Rattle.linear.proofs.Choices.{areSymbols, agrees-alike, agrees-length, agrees-symbols, alike-at}
+use Rattle.linear.proofs.Choices.{areSymbols, agrees-alike, agrees-length, alike-at}
 use Rattle.linear.proofs.Vectors.{sums-append}
 use Rattle.linear.proofs.Filling.{Filling}
 use Rattle.plans.specs.Plan.{Plan, Level, planOf, levelOf, checksTo, marksAt}
+use Rattle.plans.specs.Refusal.{allBelow}
 use Rattle.steps.proofs.Levels.{checks-suc}
+use Rattle.steps.proofs.Sound.{agrees-below}
 use Rattle.plans.proofs.Flat.{all-getD}
+use Rattle.plans.proofs.Refusals.{unmarked-below}
 use Rattle.demands.proofs.Lists.{map-in, all-map, append-same}
 use Rattle.demands.proofs.Codewords.{sums-count}
 use Rattle.demands.proofs.Square.{Square, zeros-symbols, zeros-length}
@@ -138,10 +141,12 @@ module _ (p : ℕ) (K : IsField (planOf p .field)) (D : ℕ → List ℕ) where
         (getD-map-below (λ r. ltb t (mendLevel p r)) (P .rows) r true h ∙ le-ltb t (mendLevel p r) l)
 
     learned-symbol : (c : List ℕ) (r : ℕ) → T (symbol (getD (learn c) r 0))
+    unfolding allBelow
     learned-symbol c r =
         all-getD symbol 0 (lt→ltb 0 (size F) (size-pos F K)) (learn c)
-        (agrees-symbols F (pending p t) (rowSums (s .word) c) (learn c)
-        (all-map symbol (λ r. dot F c (s .word r)) (λ r. lt→ltb (dot F c (s .word r)) (size F) (dot-lt F K c (s .word r))) (upFrom 0 (P .rows)))
+        (agrees-below F (pending p t) (rowSums (s .word) c) (learn c)
+        (unmarked-below F (pending p t) (rowSums (s .word) c)
+        (all-map symbol (λ r. dot F c (s .word r)) (λ r. lt→ltb (dot F c (s .word r)) (size F) (dot-lt F K c (s .word r))) (upFrom 0 (P .rows))))
         (filled c .1 .agrees)) r
 
     -- row r's new sums, and all its sums

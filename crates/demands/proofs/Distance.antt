@@ -24,7 +24,7 @@ use Rattle.codewords.specs.Codeword.{rowsHold, totalsHold, isCodeword}
 use Rattle.repair.specs.Mending.{mendStripe}
 use Rattle.plans.proofs.Shape.{plan-field}
 use Rattle.steps.proofs.Fit.{rows-all, all-zeros, all-take, all-drop, fit-lent}
-use Rattle.steps.proofs.Sound.{unmarked-below}
+use Rattle.plans.proofs.Refusals.{unmarked-below}
 use Rattle.demands.specs.Words.{Codeword, Agree, Fit, total, distance}
 use Rattle.demands.specs.Parameters.{Distance}
 use Rattle.demands.proofs.Lists.{all-map}
@@ -142,7 +142,7 @@ module _ (p : ℕ) (kn : T (known p)) (X : List ℕ) (word : Codeword p X) where
     long = word .long;
     words = length-map (upFrom 0 (Q .rows)) markWord ∙ length-up 0 (Q .rows);
     mark-lt = λ r h. rw (word-at r h) (word-low r h);
-    row-fits = λ r h. unmarked-below (size F) (marksAt Q marks r) (rowAt Q X r) (word-below p X word r h);
+    row-fits = λ r h. unmarked-below F (marksAt Q marks r) (rowAt Q X r) (word-below p X word r h);
   }
 
   blank-agrees : Agree p marks (blankOf Q) X

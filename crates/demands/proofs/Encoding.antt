@@ -4,7 +4,7 @@ use mathlib.Core.Logic.{_⊎_, inl, inr}
 use mathlib.Core.Bool.{Bool, _&&_}
 use mathlib.Core.List.{List}
 use Prim.Native.Nat.{ℕ, zero, suc, _*_, _^_, _<_}
-use native.Mathlib.Nat.{le-of-eq, eq-or-lt-of-le}
+use native.Mathlib.Nat.{eq-or-lt-of-le}
 use native.Mathlib.Omega.{arith}
 use lib.Dec.{T, T-not, leb, leb→le, nleb→lt, eqb, ltb, eqb→eq, ltb→lt, lt→ltb}
 use lib.ListN.{length, drop, getD}
@@ -22,7 +22,7 @@ use Rattle.codewords.specs.Codeword.{isCodeword, placed, encodeRefusal, extract
 use Rattle.repair.specs.Encoding.{encoded, encodeStripe}
 use Rattle.plans.proofs.Shape.{of-known}
 use Rattle.steps.proofs.Fit.{eq→eqb, Passed, passed, passes, if-true, all-take, all-drop, fit-lent}
-use Rattle.steps.proofs.Sound.{unmarked-below}
+use Rattle.plans.proofs.Refusals.{unmarked-below}
 use Rattle.codewords.proofs.Placing.{rows-length}
 use Rattle.codewords.proofs.Carrying.{words-count}
 use Rattle.codewords.proofs.Data.{placed-length, placed-all, taken-length, taken-all, taken-placed, alike-taken, taken-alike}
@@ -99,35 +99,32 @@ module _ (p : ℕ) (kn : T (known p)) (ds : List ℕ) (count : length ds ≡ car
         ltb→lt (getD (P .checkPlaces) r 0) (2 ^ P .columns)
         (at (P .rows) (λ r. ltb (getD (P .checkPlaces) r 0) (2 ^ P .columns)) (places-low p kn) r h);
     row-fits = λ r h.
-        unmarked-below (size (P .field)) (marksAt P (P .checkPlaces) r) (rowAt P D r)
+        unmarked-below (P .field) (marksAt P (P .checkPlaces) r) (rowAt P D r)
         (all-take (λ x. ltb x (size (P .field))) (P .columns) (drop (r * P .columns) D)
         (all-drop (λ x. ltb x (size (P .field))) (r * P .columns) D
         (placed-all (λ x. ltb x (size (P .field))) (lt→ltb 0 (size (P .field)) (size-pos (P .field))) (checkPlacesOf P) ds symbols)));
   }
 
   -- a stripe holds the data exactly if it agrees with D outside the check places
-  data-agrees : (X : List ℕ) → Codeword p X → extracted P X ≡ ds → Agree p (P .checkPlaces) X D
+  data-agrees : (X : List ℕ) → extracted P X ≡ ds → Agree p (P .checkPlaces) X D
   unfolding carried extracted checkPlacesOf
-  data-agrees X word e =
-      alike-at (checkPlacesOf P) X D
-      (taken-alike (checkPlacesOf P) X D (word .long ∙ sym (places-count P)) (placed-length (checkPlacesOf P) ds)
-      (e ∙ sym (taken-placed (checkPlacesOf P) ds count)))
+  data-agrees X e =
+      alike-at (checkPlacesOf P) X D (taken-alike (checkPlacesOf P) X D (e ∙ sym (taken-placed (checkPlacesOf P) ds count)))
 
-  agrees-data : (X : List ℕ) → Codeword p X → Agree p (P .checkPlaces) X D → extracted P X ≡ ds
+  agrees-data : (X : List ℕ) → Agree p (P .checkPlaces) X D → extracted P X ≡ ds
   unfolding carried extracted checkPlacesOf
-  agrees-data X word a =
-      alike-taken (checkPlacesOf P) X D (word .long ∙ sym (places-count P)) (placed-length (checkPlacesOf P) ds) (at-alike (checkPlacesOf P) X D a)
-      ∙ taken-placed (checkPlacesOf P) ds count
+  agrees-data X a =
+      alike-taken (checkPlacesOf P) X D (at-alike (checkPlacesOf P) X D a) ∙ taken-placed (checkPlacesOf P) ds count
 
   -- mending D gives the codeword that holds the data
   pub encodes : (X : List ℕ) → Codeword p X → extracted P X ≡ ds → encoded p ds ≡ X
   unfolding encoded
-  encodes X word e = restores p X D (P .checkPlaces) word fit (data-agrees X word e) (places-clear p) .1
+  encodes X word e = restores p X D (P .checkPlaces) word fit (data-agrees X e) (places-clear p) .1
 
   pub is-encoded : IsEncoded p ds (encoded p ds)
   is-encoded =
       let h = codeword-holds p D fit in
-      let holds = agrees-data (h .0) (h .1) (h .2) in
+      let holds = agrees-data (h .0) (h .2) in
       let same : encoded p ds ≡ h .0 = encodes (h .0) (h .1) holds in
       record { codeword = rw same (h .1); holds = rw same holds; only = λ X word e. sym (encodes X word e) }
 
@@ -206,8 +203,8 @@ codewords-are-encodings p X buffer stripe kn word count long =
     let P = planOf p in
     let ds = extracted P X in
     let given = gives p X buffer kn word count in
-    let enough : length ds ≡ carried P = taken-length (checkPlacesOf P) X (le-of-eq (places-count P ∙ sym (word .long))) in
-    let symbols : T (allBelow (size (P .field)) ds) = taken-all (λ x. ltb x (size (P .field))) (checkPlacesOf P) X (word .symbols) in
+    let enough : length ds ≡ carried P = taken-length (checkPlacesOf P) X in
+    let symbols : T (allBelow (size (P .field)) ds) = taken-all (λ x. ltb x (size (P .field))) (lt→ltb 0 (size (P .field)) (size-pos (P .field))) (checkPlacesOf P) X (word .symbols) in
     let accepted = encode-passes p ds stripe kn enough long symbols in
     record {
       extracts = accepts p X buffer kn word count;

@@ -99,7 +99,7 @@ module _ (f g : List ℕ) (h : SameFile f g) where
   blanked-same : blanked (marksOf (planOf (planIn f)) (marksIn f)) (symbolsIn f) ≡ blanked (marksOf (planOf (planIn g)) (marksIn g)) (symbolsIn g)
   blanked-same =
       let ms = marksOf (planOf (planIn f)) (marksIn f) in
-      blanked-alike ms (symbolsIn f) (symbolsIn g) (symbols-alike .long) (at-alike ms (symbolsIn f) (symbolsIn g) (h .agree))
+      blanked-alike ms (symbolsIn f) (symbolsIn g) (at-alike ms (symbolsIn f) (symbolsIn g) (h .agree))
       ∙ (λ i. blanked (marksOf (planOf (plan-same i)) (marks-in-same i)) (symbolsIn g))
 
   -- the same tests but the last

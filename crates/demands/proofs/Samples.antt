@@ -1,26 +1,26 @@
 -- The premises of each theorem can be met on plan 1: stripes of the bench sheet, by computation. Assumes nothing.
 use mathlib.Core.Path.{_≡_, refl, sym, ap, subst}
-use mathlib.Core.Bool.{Bool, true, false, _&&_}
+use mathlib.Core.Bool.{true}
 use mathlib.Core.List.{List, [], _∷_, _++_, map, flatMap}
 use Prim.Native.Nat.{ℕ, zero, suc, _*_, _<_}
 use native.Mathlib.Omega.{arith}
 use lib.Count.{ones as bitsSet, onesIn}
-use lib.Dec.{T, eqb, ltb, eqb→eq}
+use lib.Dec.{T, ltb}
 use lib.ListN.{length, getD, replicate, set}
 use Rattle.field.specs.Lists.{if_then_else_, upFrom, weight}
 use Rattle.field.specs.Field.{_⊕_, size, double, times, mul, dot, gf2}
-use Rattle.field.proofs.Test.{both-left, both-right}
-use Rattle.linear.specs.Lists.{any, all, only, same, zeros, vanish, first, rest}
+use Rattle.linear.specs.Lists.{any, all, only, same, zeros, vanish, first, rest, beside}
 use Rattle.linear.specs.Marks.{bitsOf}
-use Rattle.linear.specs.Fill.{sumsOf, options, before, choices, loose, dependent, fillings, fillBy, fill}
-use Rattle.linear.proofs.Choices.{Alike, alike-at}
+use Rattle.linear.specs.Fill.{sumsOf, options, before, oneOfEach, choices, loose, dependent, fillings, fillBy, fill}
+use Rattle.linear.proofs.Choices.{alike-at}
 use Rattle.plans.specs.Plan.{ones, bitChecks, wordOf, locations1, plan1, known, noPlan, planOf, noLevel, levelOf, checksTo, rowAt, marksAt, marksOf, across, checkPlacesOf, carried, marksOffset, symbolsOffset, fileLength}
 use Rattle.plans.specs.Refusal.{firstFailed, unasked, inMemory, inFile, stripeFits, wordsFit, marksFit, allBelow, unmarkedBelow, symbolsFit, sumsAt, sumsFit, levelFits, lentRefusal, benchRefusal}
 use Rattle.steps.specs.Steps.{fresh, empty, stepped, unlessRefused, rowFill, putRow, rowStepBy, rowStep, lossy, join, joined, levelFill, keepSums, raise, levelStepBy, levelStep}
 use Rattle.steps.specs.Rounds.{Standing, on, more, afterRow, afterLevel, takeTurn, goOn, turns}
 use Rattle.steps.specs.Walk.{standingOf}
 use Rattle.repair.specs.Mending.{mendReport, mendMarks}
-use Rattle.codewords.specs.Codeword.{rowsHold, totalsHold, isCodeword, encodeRefusal, extractRefusal}
+use Rattle.codewords.specs.Codeword.{rowsHold, totalsHold, isCodeword, taken, encodeRefusal, extractRefusal}
+use Rattle.codewords.proofs.Data.{taken-alike}
 use Rattle.repair.specs.File.{bytes2, headerOf, blanked, writeRefusal, planIn, wordAt, marksIn, symbolsIn, fileRefusal, readRefusal}
 use Rattle.plans.specs.declared.Bench.{Bench}
 use Rattle.plans.specs.declared.Answer.{Answer}
@@ -41,21 +41,6 @@ use Rattle.demands.proofs.Encoding.{codewords-are-encodings}
 use Rattle.demands.proofs.Third.{rounds-suffice}
 use Rattle.demands.proofs.Silence.{fresh-same}
 
--- the test of stripes that agree
-alikeTest : List Bool → List ℕ → List ℕ → Bool
-alikeTest [] v w = true
-alikeTest (true ∷ ms) v w = alikeTest ms (rest v) (rest w)
-alikeTest (false ∷ ms) v w = eqb (first v) (first w) && alikeTest ms (rest v) (rest w)
-
-are-alike : (ms : List Bool) (v w : List ℕ) → T (alikeTest ms v w) → Alike ms v w
-unfolding alikeTest
-are-alike [] v w t = tt
-are-alike (true ∷ ms) v w t = are-alike ms (rest v) (rest w) t
-are-alike (false ∷ ms) v w t = (
-  eqb→eq (first v) (first w) (both-left (eqb (first v) (first w)) (alikeTest ms (rest v) (rest w)) t),
-  are-alike ms (rest v) (rest w) (both-right (eqb (first v) (first w)) (alikeTest ms (rest v) (rest w)) t),
-)
-
 -- the plans' numbers
 pub plans-known : T (known 1) × T (known 2) × T (known 3)
 unfolding known
@@ -69,14 +54,14 @@ unfolding if_then_else_ upFrom _⊕_ size double times mul dot gf2 all vanish su
 example-word = record { long = refl; symbols = tt; holds = tt }
 
 pub example : Premise 1 exampleStripe exampleMarks
-unfolding if_then_else_ upFrom flatMap size gf2 all first rest bitsOf plan1 known planOf rowAt marksAt marksOf
-    firstFailed unasked inMemory stripeFits wordsFit marksFit unmarkedBelow symbolsFit lentRefusal exampleStripe exampleMarks exampleAfter alikeTest
+unfolding if_then_else_ upFrom flatMap size gf2 all first rest beside bitsOf plan1 known planOf rowAt marksAt marksOf
+    firstFailed unasked inMemory stripeFits wordsFit marksFit unmarkedBelow symbolsFit lentRefusal exampleStripe exampleMarks exampleAfter taken
 example = record {
   fit = refl;
   true-stripe = exampleAfter;
   codeword = example-word;
   agrees =
-      let ms = marksOf (planOf 1) exampleMarks in alike-at ms exampleAfter exampleStripe (are-alike ms exampleAfter exampleStripe tt);
+      let ms = marksOf (planOf 1) exampleMarks in alike-at ms exampleAfter exampleStripe (taken-alike ms exampleAfter exampleStripe refl);
 }
 
 -- two sequences of steps that end quiet: the rounds, and a shorter one in another order
@@ -95,7 +80,7 @@ exampleEnd =
 
 other-ends : walk otherOrder (fresh 1 exampleStripe exampleMarks) ≡ exampleEnd
 unfolding if_then_else_ upFrom _⊕_ size double times mul dot gf2 flatMap
-    any all only same zeros vanish first rest bitsOf sumsOf options before choices loose dependent fillings fillBy fill
+    any all only same zeros vanish first rest beside bitsOf sumsOf options before oneOfEach choices loose dependent fillings fillBy fill
     ones bitChecks locations1 plan1 known planOf noLevel levelOf checksTo rowAt marksAt
     firstFailed unasked inMemory marksFit allBelow unmarkedBelow symbolsFit sumsAt sumsFit levelFits benchRefusal
     fresh stepped unlessRefused rowFill putRow rowStepBy rowStep lossy across join joined levelFill keepSums raise levelStepBy levelStep
@@ -104,7 +89,7 @@ other-ends = refl
 
 end-quiet : Quiet exampleEnd
 unfolding if_then_else_ upFrom _⊕_ size double times mul dot gf2 flatMap
-    any all only same zeros vanish first rest bitsOf sumsOf options before choices loose dependent fillings fillBy fill
+    any all only same zeros vanish first rest beside bitsOf sumsOf options before oneOfEach choices loose dependent fillings fillBy fill
     ones bitChecks locations1 plan1 known planOf noLevel levelOf checksTo rowAt marksAt
     firstFailed unasked inMemory marksFit allBelow unmarkedBelow symbolsFit sumsAt sumsFit levelFits benchRefusal
     stepped unlessRefused rowFill putRow rowStepBy rowStep levelStep exampleAfter exampleEnd
@@ -161,7 +146,7 @@ unfolding if_then_else_ upFrom _⊕_ size double times mul dot gf2 flatMap
     ones bitChecks locations1 plan1 known planOf noLevel levelOf checksTo rowAt marksAt
     firstFailed unasked inMemory marksFit allBelow unmarkedBelow symbolsFit sumsAt sumsFit levelFits benchRefusal
     fresh stepped unlessRefused rowFill putRow rowStepBy rowStep lossy across join joined levelFill keepSums raise levelStepBy levelStep
-    more afterRow afterLevel takeTurn goOn turns exampleStripe exampleMarks exampleAfter exampleEnd exampleRound
+    more afterRow afterLevel takeTurn goOn turns exampleStripe exampleMarks exampleAfter exampleEnd exampleRound beside oneOfEach
 goes-on = refl
 
 -- ---- the counts' premises: the example again, which has 1, 3 and 1 marks in a row
@@ -176,13 +161,13 @@ unfoldable pub fewMarks : List ℕ
 fewMarks = 2 ∷ 16 ∷ 4 ∷ []
 
 pub few-fit : Fit 1 exampleStripe fewMarks
-unfolding if_then_else_ upFrom size gf2 all bitsOf plan1 known planOf rowAt marksAt
+unfolding if_then_else_ upFrom size gf2 all first rest beside bitsOf plan1 known planOf rowAt marksAt
     firstFailed unasked inMemory stripeFits wordsFit marksFit unmarkedBelow symbolsFit lentRefusal exampleStripe fewMarks
 few-fit = refl
 
 pub few-agree : Agree 1 fewMarks exampleAfter exampleStripe
-unfolding upFrom flatMap first rest bitsOf plan1 planOf marksAt marksOf exampleStripe exampleAfter fewMarks alikeTest
-few-agree = let ms = marksOf (planOf 1) fewMarks in alike-at ms exampleAfter exampleStripe (are-alike ms exampleAfter exampleStripe tt)
+unfolding if_then_else_ upFrom flatMap first rest beside bitsOf plan1 planOf marksAt marksOf exampleStripe exampleAfter fewMarks taken
+few-agree = let ms = marksOf (planOf 1) fewMarks in alike-at ms exampleAfter exampleStripe (taken-alike ms exampleAfter exampleStripe refl)
 
 pub few-enough : total fewMarks < distance 1
 unfolding bitsSet onesIn total distance fewMarks
@@ -206,10 +191,10 @@ unfoldable pub otherStripe : List ℕ
 otherStripe = set (set exampleStripe 1 255) 7 7
 
 pub same-unmarked : SameUnmarked 1 exampleMarks exampleStripe otherStripe
-unfolding upFrom flatMap first rest bitsOf plan1 planOf marksAt marksOf exampleStripe exampleMarks otherStripe alikeTest
+unfolding if_then_else_ upFrom flatMap first rest beside bitsOf plan1 planOf marksAt marksOf exampleStripe exampleMarks otherStripe taken
 same-unmarked = record {
   long = refl;
-  agree = let ms = marksOf (planOf 1) exampleMarks in alike-at ms exampleStripe otherStripe (are-alike ms exampleStripe otherStripe tt);
+  agree = let ms = marksOf (planOf 1) exampleMarks in alike-at ms exampleStripe otherStripe (taken-alike ms exampleStripe otherStripe refl);
 }
 
 pub same-benches : SameButMarks (fresh 1 exampleStripe exampleMarks) (fresh 1 otherStripe exampleMarks)
@@ -218,13 +203,13 @@ same-benches = fresh-same 1 exampleMarks exampleStripe otherStripe same-unmarked
 -- files that differ in a byte under a mark: one is read, the other is refused with 22
 pub same-file : SameFile exampleFile (withByte 21 1)
 unfolding upFrom flatMap first rest bitsOf plan1 planOf marksAt marksOf marksOffset symbolsOffset planIn wordAt marksIn symbolsIn
-    exampleFile withByte alikeTest
+    exampleFile withByte taken beside if_then_else_
 same-file = record {
   long = refl;
   before = refl;
   agree =
       let ms = marksOf (planOf 1) (marksIn exampleFile) in
-      alike-at ms (symbolsIn exampleFile) (symbolsIn (withByte 21 1)) (are-alike ms (symbolsIn exampleFile) (symbolsIn (withByte 21 1)) tt);
+      alike-at ms (symbolsIn exampleFile) (symbolsIn (withByte 21 1)) (taken-alike ms (symbolsIn exampleFile) (symbolsIn (withByte 21 1)) refl);
 }
 
 pub read-and-22 : (readRefusal exampleFile blank noMarks ≡ 0) × (readRefusal (withByte 21 1) blank noMarks ≡ 22)
@@ -233,7 +218,7 @@ read-and-22 = (file-order .8, file-order .7)
 -- and two that are both refused, with 13: the first unmarked symbol is 2
 pub same-unfit : SameFile (withByte 20 2) (withBytes 20 2 21 1)
 unfolding upFrom flatMap first rest bitsOf plan1 planOf marksAt marksOf marksOffset symbolsOffset planIn wordAt marksIn symbolsIn
-    exampleFile withByte withBytes alikeTest
+    exampleFile withByte withBytes taken beside if_then_else_
 same-unfit = record {
   long = refl;
   before = refl;
@@ -241,13 +226,13 @@ same-unfit = record {
       let ms = marksOf (planOf 1) (marksIn exampleFile) in
       let f = symbolsIn (withByte 20 2) in
       let g = symbolsIn (withBytes 20 2 21 1) in
-      alike-at ms f g (are-alike ms f g tt);
+      alike-at ms f g (taken-alike ms f g refl);
 }
 
 pub both-13 : (fileRefusal (withByte 20 2) unasked ≡ 13) × (fileRefusal (withBytes 20 2 21 1) unasked ≡ 13)
 unfolding if_then_else_ upFrom size gf2 flatMap all same bitsOf plan1 known noPlan planOf rowAt marksAt marksOf
     firstFailed unasked inFile marksFit unmarkedBelow symbolsFit
-    bytes2 marksOffset symbolsOffset fileLength headerOf blanked planIn wordAt marksIn symbolsIn fileRefusal exampleFile withByte withBytes
+    bytes2 marksOffset symbolsOffset fileLength headerOf blanked planIn wordAt marksIn symbolsIn fileRefusal exampleFile withByte withBytes first rest beside
 both-13 = (refl, refl)
 
 -- a place that is still marked once a stripe is Stuck: column 0 of row 1
@@ -259,7 +244,7 @@ still-marked =
 -- a place that is still marked after a step: the same column, once row 0 is filled
 pub marked-after : getD (marksOf (planOf 1) (walk (onRow 0 ∷ []) (fresh 1 exampleStripe exampleMarks) .marks)) 7 true ≡ true
 unfolding if_then_else_ upFrom _⊕_ size double times mul dot gf2 flatMap
-    any all only same zeros vanish first rest bitsOf sumsOf options before choices loose dependent fillings fillBy fill
+    any all only same zeros vanish first rest beside bitsOf sumsOf options before oneOfEach choices loose dependent fillings fillBy fill
     ones bitChecks locations1 plan1 known planOf noLevel levelOf checksTo rowAt marksAt marksOf
     firstFailed unasked inMemory marksFit allBelow unmarkedBelow symbolsFit sumsAt sumsFit levelFits benchRefusal
     fresh stepped unlessRefused rowFill putRow rowStepBy rowStep exampleStripe exampleMarks
@@ -296,7 +281,7 @@ pub refusals :
     × (readRefusal [] blank [] ≡ 20) × (writeRefusal 1 blank (128 ∷ 0 ∷ 0 ∷ []) (replicate 41 0) ≡ 12)
     -- a row step; a level step
     × (benchRefusal otherRoom (ltb 3 (planOf (otherRoom .plan) .rows)) ≡ 14) × (benchRefusal empty unasked ≡ 10)
-unfolding if_then_else_ upFrom _⊕_ size double times mul dot gf2 flatMap all only vanish bitsOf sumsOf
+unfolding if_then_else_ upFrom _⊕_ size double times mul dot gf2 flatMap all only vanish first rest beside bitsOf sumsOf
     ones bitChecks wordOf locations1 plan1 known planOf noLevel levelOf checksTo rowAt marksAt marksOf
     firstFailed unasked inMemory inFile stripeFits wordsFit marksFit allBelow unmarkedBelow symbolsFit sumsAt sumsFit levelFits lentRefusal benchRefusal
     empty across rowsHold totalsHold isCodeword checkPlacesOf carried encodeRefusal extractRefusal

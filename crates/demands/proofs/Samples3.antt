@@ -8,9 +8,9 @@ use lib.ListN.{length, replicate, set}
 use Rattle.field.specs.Lists.{if_then_else_, upFrom}
 use Rattle.field.specs.Field.{_⊕_, size, double, times, mul, dot, gf16}
 use Rattle.field.specs.Power.{power}
-use Rattle.linear.specs.Lists.{any, all, only, same, zeros, vanish, first, rest}
+use Rattle.linear.specs.Lists.{any, all, only, same, zeros, vanish, first, rest, beside}
 use Rattle.linear.specs.Marks.{bitsOf}
-use Rattle.linear.specs.Fill.{sumsOf, options, before, choices, loose, dependent, fillings, fillBy, fill}
+use Rattle.linear.specs.Fill.{sumsOf, options, before, choices, loose, dependent, fillings, fillBy, fill, oneOfEach}
 use Rattle.plans.specs.Plan.{ones, wordOf, locations3, powers3, plan3, known, noPlan, planOf, noLevel, levelOf, checksTo, rowAt, marksAt, marksOf, checkPlacesOf, carried, marksOffset, symbolsOffset, fileLength}
 use Rattle.plans.specs.Refusal.{firstFailed, unasked, inMemory, inFile, stripeFits, wordsFit, marksFit, allBelow, unmarkedBelow, symbolsFit, sumsAt, sumsFit, levelFits, lentRefusal, benchRefusal}
 use Rattle.steps.specs.Steps.{fresh, stepped, unlessRefused, rowFill, putRow, rowStepBy, rowStep}
@@ -60,7 +60,7 @@ firstMark = 1 ∷ replicate 7 0
 
 pub lost-fit : Fit 3 lostFirst firstMark
 unfolding if_then_else_ upFrom size gf16 all bitsOf plan3 known planOf rowAt marksAt
-    firstFailed unasked inMemory stripeFits wordsFit marksFit unmarkedBelow symbolsFit lentRefusal blank3 lostFirst firstMark
+    firstFailed unasked inMemory stripeFits wordsFit marksFit unmarkedBelow symbolsFit lentRefusal blank3 lostFirst firstMark first rest beside
 lost-fit = refl
 
 -- its first turn restores row 0
@@ -69,7 +69,7 @@ unfolding if_then_else_ upFrom _⊕_ size double times mul dot gf16 power flatMa
     any all only same zeros vanish first rest bitsOf sumsOf options before choices loose dependent fillings fillBy fill
     ones locations3 powers3 plan3 known planOf noLevel levelOf checksTo rowAt marksAt
     firstFailed unasked inMemory marksFit allBelow unmarkedBelow symbolsFit sumsAt sumsFit levelFits benchRefusal
-    fresh stepped unlessRefused rowFill putRow rowStepBy rowStep more afterRow takeTurn goOn turns blank3 lostFirst firstMark
+    fresh stepped unlessRefused rowFill putRow rowStepBy rowStep more afterRow takeTurn goOn turns blank3 lostFirst firstMark beside oneOfEach
 goes-on = refl
 
 -- a Clash: one symbol of row 0 is not 0
@@ -78,7 +78,7 @@ unfolding if_then_else_ upFrom _⊕_ size double times mul dot gf16 power flatMa
     any all only same zeros vanish first rest bitsOf sumsOf options before choices loose dependent fillings fillBy fill
     ones locations3 powers3 plan3 known planOf noLevel levelOf checksTo rowAt marksAt
     firstFailed unasked inMemory stripeFits wordsFit marksFit allBelow unmarkedBelow symbolsFit sumsAt sumsFit levelFits lentRefusal benchRefusal
-    fresh stepped unlessRefused rowFill rowStepBy rowStep more afterRow takeTurn goOn turns mended bare turnReport mendReport blank3
+    fresh stepped unlessRefused rowFill rowStepBy rowStep more afterRow takeTurn goOn turns mended bare turnReport mendReport blank3 beside oneOfEach
 is-clash = refl
 
 -- ---- reading: files of zeros with a mark on the first symbol
@@ -101,5 +101,5 @@ pub reads :
     × (fileRefusal (file3 0 16) unasked ≡ 13) × (fileRefusal (file3 5 16) unasked ≡ 13)
 unfolding if_then_else_ upFrom size gf16 flatMap all same bitsOf plan3 known noPlan planOf rowAt marksAt marksOf
     firstFailed unasked inFile stripeFits wordsFit marksFit unmarkedBelow symbolsFit
-    bytes2 marksOffset symbolsOffset fileLength headerOf blanked planIn wordAt marksIn symbolsIn fileRefusal readRefusal blank3 file3
+    bytes2 marksOffset symbolsOffset fileLength headerOf blanked planIn wordAt marksIn symbolsIn fileRefusal readRefusal blank3 file3 first rest beside
 reads = (refl, refl, refl, refl)

@@ -15,7 +15,7 @@ use Rattle.field.proofs.Lists.{length-up, getD-map-below}
 use Rattle.field.proofs.Test.{both-left, both-right, both}
 use Rattle.field.proofs.Words.{Fit, each-at}
 use Rattle.linear.specs.Lists.{all, same}
-use Rattle.linear.proofs.Tests.{same→eq, same-refl}
+use Rattle.linear.proofs.Tests.{is-true, same→eq, same-refl}
 use Rattle.plans.specs.Plan.{Plan, planOf, known, marksOf, marksOffset, symbolsOffset, fileLength}
 use Rattle.plans.specs.Refusal.{firstFailed, unasked, inMemory, inFile, stripeFits, wordsFit, marksFit, symbolsFit, lentRefusal}
 use Rattle.repair.specs.File.{bytes2, bytes4, headerOf, blanked, fileOf, writeRefusal, writeFile, planIn, wordAt, marksIn, symbolsIn, fileRefusal, readRefusal, readStripe, readMarks}
@@ -99,10 +99,6 @@ module _ (file : List ℕ) where
   unfolding symbolsIn fileLength
   symbols-behind e =
       let P = planOf (planIn file) in take-all (P .rows * P .columns) (drop (symbolsOffset P) file) (simp length-drop (omega arith))
-
-is-true : (b : Bool) → T b → b ≡ true
-is-true true t = refl
-is-true false t = absurd t
 
 -- a file of its plan's length, as code that knows its rows reads it
 pub record Whole (p n : ℕ) (file : List ℕ) : Type 0 where
@@ -284,7 +280,7 @@ module _ (p : ℕ) (stripe marks : List ℕ) (f : LentFit p stripe marks) where
   length-front = length-append (headerOf p) (flatMap bytes4 marks) ∙ ap (λ n. 8 + n) (length-bytes marks ∙ ap (λ n. 4 * n) (f .words))
 
   length-back : length (blanked (marksOf Q marks) stripe) ≡ Q .rows * Q .columns
-  length-back = length-blanked (marksOf Q marks) stripe (length-marks-of Q marks ∙ sym (f .long)) ∙ f .long
+  length-back = length-blanked (marksOf Q marks) stripe ∙ length-marks-of Q marks
 
   pub plan-written : planIn file ≡ p
   unfolding bytes2 headerOf fileOf planIn
@@ -328,7 +324,7 @@ module _ (p : ℕ) (stripe marks : List ℕ) (f : LentFit p stripe marks) where
     header = header-written ∙ ap headerOf (sym plan-written);
     whole = length-written ∙ ap (λ k. fileLength (planOf k)) (sym plan-written);
     marks = rw (plan-written, marks-written) (fit-marks Q marks (f .mark-lt));
-    symbols = rw (plan-written, marks-written, symbols-written) (fit-blanked Q marks stripe (f .long) (fit-symbols Q marks stripe (f .row-fits)));
+    symbols = rw (plan-written, marks-written, symbols-written) (fit-blanked Q marks stripe (fit-symbols Q marks stripe (f .row-fits)));
     blank = rw (plan-written, marks-written, symbols-written) (sym (blanked-twice (marksOf Q marks) stripe));
   }
 

@@ -1,5 +1,5 @@
 -- What `choices` lists: exactly the vectors that agree. Assumes nothing.
-use mathlib.Core.Path.{_≡_, refl, sym, ap, ap₂, _∙_, subst}
+use mathlib.Core.Path.{_≡_, refl, sym, ap, _∙_, subst}
 use mathlib.Core.Logic.{inl, inr}
 use mathlib.Core.Bool.{Bool, true, false}
 use mathlib.Core.List.{List, [], _∷_, map, Memᴰ·append-left, Memᴰ·append-right, Memᴰ·map, Memᴰ·of-map, Memᴰ·cast}
@@ -8,15 +8,14 @@ use mathlib.Core.List.{List·Memᴰ·append-cases, List·Memᴰ·eq-of-singleton
 use Prim.Native.Nat.{ℕ, zero, suc, _<_}
 use native.Mathlib.Nat.{suc-inj}
 use native.Mathlib.Omega.{arith}
-use lib.Dec.{T, ltb, ltb→lt, lt→ltb}
+use lib.Dec.{T, ltb, ltb→lt}
 use lib.ListN.{length, getD}
-use Rattle.field.specs.Lists.{upFrom}
 use Rattle.field.specs.Field.{Field, size}
-use Rattle.field.proofs.Test.{both-left, both-right, both}
+use Rattle.field.proofs.Test.{both-left, both-right}
 use Rattle.field.proofs.Ring.{size-pos}
-use Rattle.linear.specs.Lists.{all, zeros, first, rest}
-use Rattle.linear.specs.Fill.{options, before, choices}
-use Rattle.linear.proofs.Tests.{In, all-first, all-rest, up-in, in-up}
+use Rattle.linear.specs.Lists.{all, zeros, first, rest, beside}
+use Rattle.linear.specs.Fill.{options, before, oneOfEach, choices}
+use Rattle.linear.proofs.Tests.{In, up-in, in-up}
 
 -- ---- how vectors and marks compare
 
@@ -94,18 +93,6 @@ module _ (F : Field) where
   alike-agrees (false ∷ ms) v (y ∷ ys) a l t =
       (sym (a .0), alike-agrees ms (rest v) ys (a .1) (suc-inj l) (both-right (ltb y (size F)) (areSymbols F ys) t))
 
-  -- where v holds symbols, so does what agrees with it
-  pub agrees-symbols : (ms : List Bool) (v w : List ℕ) → T (areSymbols F v) → Agrees F ms v w → T (areSymbols F w)
-  unfolding all
-  agrees-symbols [] v w t a = subst (λ l. T (areSymbols F l)) (sym a) tt
-  agrees-symbols (m ∷ ms) v [] t a = absurd a
-  agrees-symbols (m ∷ ms) v (y ∷ ys) t a =
-      both (ltb y (size F)) (areSymbols F ys) (symbol m (a .0)) (agrees-symbols ms (rest v) ys (all-rest (λ y. ltb y (size F)) v t) (a .1))
-    where
-      symbol : (m : Bool) → Allowed F m (first v) y → T (ltb y (size F))
-      symbol true h = lt→ltb y (size F) h
-      symbol false h = rw h (all-first (λ y. ltb y (size F)) (lt→ltb 0 (size F) (size-pos F)) v t)
-
   widen : (m n : Bool) (y : ℕ) → (T m → T n) → Allowed F m 0 y → Allowed F n 0 y
   widen true true y i h = h
   widen true false y i h = absurd (i tt)
@@ -154,22 +141,15 @@ module _ (F : Field) where
   in-options false x y h = List·Memᴰ·head h
 
   pub choices-in : (ms : List Bool) (v w : List ℕ) → In w (choices F ms v) → Agrees F ms v w
-  unfolding choices
+  unfolding beside oneOfEach choices
   choices-in [] v w h = List·Memᴰ·eq-of-singleton h
   choices-in (m ∷ ms) v w h =
       let r = before-in (options F m (first v)) (choices F ms (rest v)) h in
       subst (Agrees F (m ∷ ms) v) (sym (r .4)) (options-in m (first v) (r .0) (r .2), choices-in ms (rest v) (r .1) (r .3))
 
   pub in-choices : (ms : List Bool) (v w : List ℕ) → Agrees F ms v w → In w (choices F ms v)
-  unfolding choices
+  unfolding beside oneOfEach choices
   in-choices [] v w a = List·Memᴰ·head a
   in-choices (m ∷ ms) v [] a = absurd a
   in-choices (m ∷ ms) v (y ∷ ys) a =
       in-before (options F m (first v)) (choices F ms (rest v)) (in-options m (first v) y (a .0)) (in-choices ms (rest v) ys (a .1))
-
-  -- what stands under marks does not matter
-  pub choices-alike : (ms : List Bool) (v w : List ℕ) → Alike ms v w → choices F ms v ≡ choices F ms w
-  unfolding options choices
-  choices-alike [] v w a = refl
-  choices-alike (true ∷ ms) v w a = ap (before (upFrom 0 (size F))) (choices-alike ms (rest v) (rest w) a)
-  choices-alike (false ∷ ms) v w a = ap₂ (λ x tails. before (x ∷ []) tails) (a .0) (choices-alike ms (rest v) (rest w) (a .1))

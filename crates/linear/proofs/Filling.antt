@@ -10,10 +10,11 @@ use Rattle.field.specs.Lists.{if_then_else_}
 use Rattle.field.specs.Field.{Field}
 use Rattle.field.proofs.Test.{both-left, both-right, both}
 use Rattle.linear.specs.Lists.{only, same, zeros, vanish, plus}
-use Rattle.linear.specs.Fill.{sumsOf, choices, loose, dependent, fillings, Fill, tied, none, one, fillBy, fill}
+use Rattle.linear.specs.Fill.{sumsOf, options, oneOfEach, choices, loose, dependent, fillings, Fill, tied, none, one, fillBy, fill}
 use Rattle.linear.proofs.Tests.{In, either, if-cases, any-in, in-any, only-in, in-only, same→eq, same-refl}
 use Rattle.linear.proofs.Choices.{Agrees, areSymbols, Alike, Inside}
-use Rattle.linear.proofs.Choices.{agrees-length, alike-agrees, inside-agrees, choices-in, in-choices, choices-alike}
+use Rattle.linear.proofs.Choices.{agrees-length, alike-agrees, inside-agrees, choices-in, in-choices}
+use Rattle.linear.proofs.Beside.{beside-alike}
 use Rattle.linear.proofs.Vectors.{plus-cancel, plus-agrees, sums-plus-vanish, sums-fewer}
 
 -- ---- dependent columns
@@ -158,9 +159,10 @@ module _ (F : Field) (checks : List (List ℕ)) (target : List ℕ) (ms : List B
 -- what stands under marks does not matter
 pub fill-alike : (F : Field) (checks : List (List ℕ)) (target : List ℕ) (ms : List Bool) (v w : List ℕ) → Alike ms v w
     → fill F checks target ms v ≡ fill F checks target ms w
-unfolding fill fillings
+unfolding options choices fill fillings
 fill-alike F checks target ms v w a =
-    ap (λ l. fillBy (dependent F checks ms) (only (λ y. same (sumsOf F checks y) target) l)) (choices-alike F ms v w a)
+    ap (λ l. fillBy (dependent F checks ms) (only (λ y. same (sumsOf F checks y) target) (oneOfEach l)))
+    (beside-alike (options F) (λ x y. refl) ms v w a)
 
 -- with the sums of a vector that v agrees with, that vector is the answer, or the columns are dependent
 pub fill-true : (F : Field) (checks : List (List ℕ)) (ms : List Bool) (v x : List ℕ)

@@ -15,7 +15,7 @@ use Rattle.linear.specs.Lists.{same}
 use Rattle.linear.specs.Fill.{sumsOf}
 use Rattle.systems.specs.System.{vec, ent, inner}
 use Rattle.linear.specs.Marks.{rowsOf}
-use Rattle.linear.proofs.Tests.{same→eq, same-refl}
+use Rattle.linear.proofs.Tests.{is-true, same→eq, same-refl}
 use Rattle.systems.proofs.Inner.{inner-first, inner-same, inner-zero}
 use Rattle.field.proofs.Laws as laws
 
@@ -35,11 +35,7 @@ part-length start size l h =
 
 -- the test of two lists, from what is known of them
 pub eq-same : (a b : List ℕ) → a ≡ b → true ≡ same a b
-eq-same a b e = go (same a b) (subst (λ l. T (same a l)) e (same-refl a))
-  where
-    go : (t : Bool) → T t → true ≡ t
-    go true h = refl
-    go false h = absurd h
+eq-same a b e = sym (is-true (same a b) (subst (λ l. T (same a l)) e (same-refl a)))
 
 pub ne-same : (a b : List ℕ) → a ≢ b → false ≡ same a b
 ne-same a b ne = go (same a b) (λ t. ne (same→eq a b t))

@@ -15,23 +15,13 @@ use Rattle.field.specs.Field.{Field, size}
 use Rattle.field.proofs.Ring.{size-pos}
 use Rattle.field.proofs.Test.{both-left, both-right, both}
 use Rattle.field.proofs.Lists.{length-up, getD-map-below}
-use Rattle.linear.specs.Lists.{all, zeros, vanish, first, rest}
+use Rattle.linear.specs.Lists.{all, zeros, vanish, rest}
 use Rattle.systems.specs.System.{vec, Elements}
 use Rattle.systems.specs.Words.{bitAt}
 use Rattle.linear.specs.Marks.{bitsOf}
-use Rattle.linear.proofs.Choices.{Allowed, Agrees, areSymbols, agrees-length}
+use Rattle.linear.proofs.Choices.{Allowed, Agrees, areSymbols, getD-first, getD-rest, agrees-length}
 
 -- ---- lists
-
-first-is : (v : List ℕ) → first v ≡ vec v 0
-unfolding first
-first-is [] = refl
-first-is (x ∷ xs) = refl
-
-rest-is : (v : List ℕ) (c : ℕ) → vec (rest v) c ≡ vec v (suc c)
-unfolding rest
-rest-is [] c = refl
-rest-is (x ∷ xs) c = refl
 
 pub zeros-at : {A : Type 0} (l : List A) (c : ℕ) → vec (zeros l) c ≡ 0
 unfolding zeros
@@ -67,9 +57,9 @@ module _ (F : Field) where
   agrees-at : (ms : List Bool) (v w : List ℕ) → Agrees F ms v w → (c : ℕ) → c < length ms → Allowed F (getD ms c false) (vec v c) (vec w c)
   agrees-at [] v w a c l = absurd (omega arith)
   agrees-at (m ∷ ms) v [] a c l = absurd a
-  agrees-at (m ∷ ms) v (y ∷ ys) a zero l = subst (λ x. Allowed F m x y) (first-is v) (a .0)
+  agrees-at (m ∷ ms) v (y ∷ ys) a zero l = subst (λ x. Allowed F m x y) (sym (getD-first v)) (a .0)
   agrees-at (m ∷ ms) v (y ∷ ys) a (suc c) l =
-      subst (λ x. Allowed F (getD ms c false) x (vec ys c)) (rest-is v c) (agrees-at ms (rest v) ys (a .1) c (le-of-suc-le-suc l))
+      subst (λ x. Allowed F (getD ms c false) x (vec ys c)) (sym (getD-rest v c)) (agrees-at ms (rest v) ys (a .1) c (le-of-suc-le-suc l))
 
   agrees-of : (ms : List Bool) (v w : List ℕ) → length w ≡ length ms
       → ((c : ℕ) → c < length ms → Allowed F (getD ms c false) (vec v c) (vec w c)) → Agrees F ms v w
@@ -77,8 +67,8 @@ module _ (F : Field) where
   agrees-of [] v (y ∷ ys) e h = absurd (omega arith)
   agrees-of (m ∷ ms) v [] e h = absurd (omega arith)
   agrees-of (m ∷ ms) v (y ∷ ys) e h = (
-    subst (λ x. Allowed F m x y) (sym (first-is v)) (h 0 (omega arith)),
-    agrees-of ms (rest v) ys (suc-inj e) (λ c l. subst (λ x. Allowed F (getD ms c false) x (vec ys c)) (sym (rest-is v c)) (h (suc c) (omega arith))),
+    subst (λ x. Allowed F m x y) (getD-first v) (h 0 (omega arith)),
+    agrees-of ms (rest v) ys (suc-inj e) (λ c l. subst (λ x. Allowed F (getD ms c false) x (vec ys c)) (getD-rest v c) (h (suc c) (omega arith))),
   )
 
 -- ---- mark words

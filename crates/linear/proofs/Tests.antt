@@ -17,6 +17,10 @@ pub either : (b : Bool) → T b ⊎ T (not b)
 either true = inl tt
 either false = inr tt
 
+pub is-true : (b : Bool) → T b → b ≡ true
+is-true true t = refl
+is-true false t = absurd t
+
 pub or-cases : (a b : Bool) → T (a || b) → T a ⊎ T b
 or-cases true b t = inl tt
 or-cases false b t = inr t

@@ -4,7 +4,7 @@ use mathlib.Core.Bool.{Bool, true, false, not, _&&_}
 use mathlib.Core.List.{List, [], _∷_, _++_, map}
 use Rattle.field.specs.Lists.{upFrom}
 use Rattle.field.specs.Field.{Field, size, dot}
-use Rattle.linear.specs.Lists.{any, only, same, zeros, vanish, first, rest}
+use Rattle.linear.specs.Lists.{any, only, same, zeros, vanish, beside}
 
 -- a vector's sums under checks, which are rows of coefficients
 unfoldable pub sumsOf : Field → List (List ℕ) → List ℕ → List ℕ
@@ -20,10 +20,14 @@ unfoldable pub before : List ℕ → List (List ℕ) → List (List ℕ)
 before [] tails = []
 before (x ∷ xs) tails = map (λ t. x ∷ t) tails ++ before xs tails
 
+-- the vectors that have one of each list's numbers, in order
+unfoldable pub oneOfEach : List (List ℕ) → List (List ℕ)
+oneOfEach [] = [] ∷ []
+oneOfEach (xs ∷ xss) = before xs (oneOfEach xss)
+
 -- the vectors that agree with v where unmarked and hold any symbol where marked
 unfoldable pub choices : Field → List Bool → List ℕ → List (List ℕ)
-choices F [] v = [] ∷ []
-choices F (m ∷ ms) v = before (options F m (first v)) (choices F ms (rest v))
+choices F ms v = oneOfEach (beside (options F) ms v)
 
 -- the vector is not zero and its sums are
 unfoldable pub loose : Field → List (List ℕ) → List ℕ → Bool

@@ -43,6 +43,11 @@ unfoldable pub rest : List ℕ → List ℕ
 rest [] = []
 rest (x ∷ xs) = xs
 
+-- f of each mark and its symbol, side by side, as far as the marks go
+unfoldable pub beside : {A : Type 0} → (Bool → ℕ → A) → List Bool → List ℕ → List A
+beside f [] xs = []
+beside f (m ∷ ms) xs = f m (first xs) ∷ beside f ms (rest xs)
+
 -- the sum of two vectors, as far as the longer goes
 abbrev pub plus : List ℕ → List ℕ → List ℕ
 plus [] z = z

@@ -1,19 +1,24 @@
 -- The refusals' order and tests, as the code goes through them. Assumes nothing.
-use mathlib.Core.Path.{_≡_, refl, sym, ap, ap₂, _∙_}
-use mathlib.Core.Bool.{Bool, true, false, _&&_, _||_, or-true}
+use mathlib.Core.Path.{_≡_, refl, sym, ap, _∙_, subst}
+use mathlib.Core.Bool.{Bool, true, false, _&&_, _||_}
 use mathlib.Core.List.{List, [], _∷_}
 use Prim.Native.Nat.{ℕ, _+_, _*_, _-_, _^_, _≤_, _<_}
 use native.Mathlib.Nat.{suc-mul, mul-le-mul-right, le-trans, add-sub-cancel-left}
 use native.Mathlib.Numerals.{add-one}
 use native.Mathlib.Omega.{arith}
 use borrow.Author.Tests.{eqb-true}
-use lib.Dec.{ltb}
+use lib.Dec.{T, ltb, lt→ltb}
 use lib.ListN.{length, getD, take, drop, length-drop}
 use lib.Seq.{take-all, length-take-le, getD-drop}
 use Rattle.field.specs.Lists.{if_then_else_, upFrom}
-use Rattle.field.specs.Field.{size}
-use Rattle.linear.specs.Lists.{all}
+use Rattle.field.specs.Field.{Field, size}
+use Rattle.field.proofs.Test.{both}
+use Rattle.field.proofs.Ring.{size-pos}
+use Rattle.linear.specs.Lists.{all, first, rest, beside}
 use Rattle.linear.specs.Marks.{bitsOf}
+use Rattle.linear.proofs.Tests.{is-true, or-right, all-first, all-rest}
+use Rattle.linear.proofs.Choices.{Alike}
+use Rattle.linear.proofs.Beside.{beside-alike}
 use Rattle.plans.specs.Plan.{Plan, known, planOf, rowAt, marksAt, checksTo}
 use Rattle.plans.specs.Refusal.{room, firstFailed, stripeFits, wordsFit, marksFit, allBelow, unmarkedBelow, symbolsFit, sumsAt, sumsFit, inMemory, inFile, lentRefusal}
 use Rattle.plans.specs.Tables.{FactsOf}
@@ -88,12 +93,19 @@ below-part q l m h e k n fits =
     ap (λ x. ltb x q) (getD-drop k l i 0) ∙ up-each (λ j. ltb (getD l j 0) q) m (sym (all-take (λ x. ltb x q) 0 l m h) ∙ e) (k + i) (omega arith))
 
 -- where each symbol is below q, each unmarked one is
-below-unmarked : (q : ℕ) (ms : List Bool) (xs : List ℕ) → allBelow q xs ≡ true → unmarkedBelow q ms xs ≡ true
-unfolding all allBelow unmarkedBelow
-below-unmarked q [] xs e = refl
-below-unmarked q (m ∷ ms) [] e = refl
-below-unmarked q (m ∷ ms) (x ∷ xs) e =
-    let h = true-and _ _ e in ap₂ _&&_ (ap (λ b. m || b) (h .0) ∙ or-true m) (below-unmarked q ms xs (h .1))
+pub unmarked-below : (F : Field) (ms : List Bool) (xs : List ℕ) → T (allBelow (size F) xs) → T (unmarkedBelow (size F) ms xs)
+unfolding all beside allBelow unmarkedBelow
+unmarked-below F [] xs t = tt
+unmarked-below F (m ∷ ms) xs t =
+    let q = size F in
+    both (m || ltb (first xs) q) (unmarkedBelow q ms (rest xs))
+    (or-right m (ltb (first xs) q) (all-first (λ x. ltb x q) (lt→ltb 0 q (size-pos F)) xs t))
+    (unmarked-below F ms (rest xs) (all-rest (λ x. ltb x q) xs t))
+
+-- what stands under marks is not looked at
+pub unmarked-alike : (q : ℕ) (ms : List Bool) (v w : List ℕ) → Alike ms v w → unmarkedBelow q ms v ≡ unmarkedBelow q ms w
+unfolding unmarkedBelow
+unmarked-alike q ms v w a = ap (all (λ ok. ok)) (beside-alike _ (λ x y. refl) ms v w a)
 
 -- row r's test
 abbrev pub rowFits : Plan → List ℕ → List ℕ → ℕ → Bool
@@ -123,7 +135,8 @@ module _ (P : Plan) (marks symbols : List ℕ) (room : P .rows * P .columns ≤ 
   unfolding symbolsFit rowAt
   symbols-below e =
       up-true (rowFits P marks symbols) (P .rows) (λ r h.
-      below-unmarked _ (marksAt P marks r) _ (below-part _ symbols (P .rows * P .columns) room e (r * P .columns) (P .columns) (row-ends P r h)))
+      is-true _ (unmarked-below (P .field) (marksAt P marks r) _
+      (subst T (sym (below-part _ symbols (P .rows * P .columns) room e (r * P .columns) (P .columns) (row-ends P r h))) tt)))
 
   pub turn : {f : Facts} → FactsOf P f → (r at : ℕ) → r < f .rows → at ≡ r * f .columns → Turn P marks symbols f r at
   unfolding rowAt marksAt

@@ -2,21 +2,20 @@
 use mathlib.Core.Path.{_≡_, refl, sym, ap, ap₂, _∙_}
 use mathlib.Core.Bool.{Bool, true, false, _&&_, _||_, and-true, and-false, and-assoc, or-true}
 use mathlib.Core.List.{List, [], _∷_}
-use Prim.Native.Nat.{ℕ, zero, suc, pred, _+_, _/_, _%_, _^_, _≤_, _<_}
+use Prim.Native.Nat.{ℕ, zero, suc, _+_, _/_, _%_, _^_, _≤_, _<_}
 use native.Mathlib.Nat.{lt-trans, lt-of-le-of-lt, not-suc-le-zero, le-of-suc-le-suc}
 use native.Mathlib.Numerals.{add-one}
 use native.Mathlib.Omega.{arith}
 use borrow.Author.Count.{below-none, below-more}
 use borrow.Author.Tests.{ltb-true, lt-ltb, le-ltb, eq-eqb}
-use lib.Dec.{eqb, ltb, lit<}
+use lib.Dec.{ltb, lit<}
 use lib.ListN.{length, getD, take}
 use lib.Seq.{take-all}
 use Rattle.field.specs.Lists.{upFrom}
 use Rattle.field.proofs.Sum.{bit}
-use Rattle.field.proofs.Lists.{getD-map-below}
-use Rattle.linear.specs.Lists.{all}
+use Rattle.linear.specs.Lists.{all, first, rest, beside}
 use Rattle.linear.specs.Marks.{bitsOf}
-use Rattle.linear.proofs.Marked.{length-bits}
+use Rattle.linear.proofs.Marked.{length-bits, bits-at}
 use Rattle.plans.specs.Refusal.{allBelow, unmarkedBelow}
 
 pub true-and : (a b : Bool) → (a && b) ≡ true → (a ≡ true) × (b ≡ true)
@@ -81,14 +80,12 @@ all-take p d (x ∷ l) (suc n) h =
 abbrev pub fitsAt : ℕ → List Bool → List ℕ → ℕ → Bool
 fitsAt q ms xs k = getD ms k false || ltb (getD xs k 0) q
 
-pub unmarked-up : (q : ℕ) (ms : List Bool) (xs : List ℕ) → length ms ≡ length xs
-    → unmarkedBelow q ms xs ≡ all (fitsAt q ms xs) (upFrom 0 (length xs))
-unfolding upFrom all unmarkedBelow
-unmarked-up q [] [] e = refl
-unmarked-up q [] (x ∷ xs) e = absurd (omega arith)
-unmarked-up q (m ∷ ms) [] e = absurd (omega arith)
-unmarked-up q (m ∷ ms) (x ∷ xs) e =
-    ap (λ b. (m || ltb x q) && b) (unmarked-up q ms xs (ap pred e) ∙ sym (all-up-suc (fitsAt q (m ∷ ms) (x ∷ xs)) 0 (length xs)))
+unmarked-up : (q : ℕ) (ms : List Bool) (xs : List ℕ) → unmarkedBelow q ms xs ≡ all (fitsAt q ms xs) (upFrom 0 (length ms))
+unfolding upFrom all beside first rest unmarkedBelow
+unmarked-up q [] xs = refl
+unmarked-up q (m ∷ ms) [] = ap (λ b. (m || ltb 0 q) && b) (unmarked-up q ms [] ∙ sym (all-up-suc (fitsAt q (m ∷ ms) []) 0 (length ms)))
+unmarked-up q (m ∷ ms) (x ∷ xs) =
+    ap (λ b. (m || ltb x q) && b) (unmarked-up q ms xs ∙ sym (all-up-suc (fitsAt q (m ∷ ms) (x ∷ xs)) 0 (length ms)))
 
 pub fits-below : (q : ℕ) (ms : List Bool) (xs : List ℕ) (k : ℕ) → getD xs k 0 < q → fitsAt q ms xs k ≡ true
 fits-below q ms xs k h = ap (λ b. getD ms k false || b) (lt-ltb _ _ h) ∙ or-true (getD ms k false)
@@ -99,18 +96,14 @@ module _ (q w : ℕ) (row : List ℕ) where
   fitsIn k = fitsAt q (bitsOf (length row) w) row k
 
   pub row-up : unmarkedBelow q (bitsOf (length row) w) row ≡ all fitsIn (upFrom 0 (length row))
-  row-up = unmarked-up q (bitsOf (length row) w) row (length-bits (length row) w)
+  row-up = unmarked-up q (bitsOf (length row) w) row ∙ ap (λ n. all fitsIn (upFrom 0 n)) (length-bits (length row) w)
 
   module _ (k : ℕ) (within : k < length row) where
-    mark-at : getD (bitsOf (length row) w) k false ≡ eqb (w / 2 ^ k % 2) 1
-    unfolding bitsOf
-    mark-at = getD-map-below (λ k. eqb (w / 2 ^ k % 2) 1) (length row) k false within
-
     pub fits-marked : (w / 2 ^ k % 2 ≡ 0 → ⊥) → fitsIn k ≡ true
-    fits-marked ne = rw (mark-at, eq-eqb (w / 2 ^ k % 2) 1 (omega (arith, bit (w / 2 ^ k))))
+    fits-marked ne = rw (bits-at (length row) w k within, eq-eqb (w / 2 ^ k % 2) 1 (omega (arith, bit (w / 2 ^ k))))
 
     pub fits-not : w / 2 ^ k % 2 ≡ 0 → q ≤ getD row k 0 → fitsIn k ≡ false
-    fits-not e h = rw (mark-at, e, le-ltb (getD row k 0) q h)
+    fits-not e h = rw (bits-at (length row) w k within, e, le-ltb (getD row k 0) q h)
 
 -- ---- each number is below q where the highest is
 

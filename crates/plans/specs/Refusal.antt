@@ -6,7 +6,7 @@ use lib.Dec.{eqb, ltb, leb}
 use lib.ListN.{length, take, drop}
 use Rattle.field.specs.Lists.{if_then_else_, upFrom}
 use Rattle.field.specs.Field.{size}
-use Rattle.linear.specs.Lists.{all}
+use Rattle.linear.specs.Lists.{all, beside}
 use Rattle.plans.specs.Plan.{Plan, planOf, known, checksTo, rowAt, marksAt}
 use Rattle.plans.specs.declared.Bench.{Bench}
 
@@ -51,9 +51,7 @@ allBelow q xs = all (λ x. ltb x q) xs
 
 -- each unmarked symbol is below q
 unfoldable pub unmarkedBelow : ℕ → List Bool → List ℕ → Bool
-unmarkedBelow q [] xs = true
-unmarkedBelow q (m ∷ ms) [] = true
-unmarkedBelow q (m ∷ ms) (x ∷ xs) = (m || ltb x q) && unmarkedBelow q ms xs
+unmarkedBelow q ms xs = all (λ ok. ok) (beside (λ m x. m || ltb x q) ms xs)
 
 unfoldable pub symbolsFit : Plan → List ℕ → List ℕ → Bool
 symbolsFit P marks symbols =

@@ -9,7 +9,7 @@ use lib.ListN.{take, getD, replicate, set}
 use Rattle.field.specs.Lists.{if_then_else_, upFrom}
 use Rattle.field.specs.Field.{_⊕_, size, double, times, mul, dot, gf2, gf16, gf32}
 use Rattle.field.specs.Power.{power}
-use Rattle.linear.specs.Lists.{all, only, same, vanish}
+use Rattle.linear.specs.Lists.{all, only, same, vanish, first, rest, beside}
 use Rattle.linear.specs.Marks.{bitsOf}
 use Rattle.linear.specs.Fill.{sumsOf}
 use Rattle.plans.specs.Plan.{ones, bitChecks, wordOf, locations1, plan1, locations2, powers2, plan2, locations3, powers3, plan3, known, noPlan, planOf, noLevel, levelOf, checksTo, rowAt, marksAt, marksOf, across, checkPlacesOf, carried, marksOffset, symbolsOffset, fileLength}
@@ -89,7 +89,7 @@ pub file-order :
     × (readRefusal (withBytes 20 2 21 1) blank noMarks ≡ 13)
     -- 1 under a mark alone, and nothing
     × (readRefusal (withByte 21 1) blank noMarks ≡ 22) × (readRefusal exampleFile blank noMarks ≡ 0)
-unfolding if_then_else_ upFrom size gf2 flatMap all same bitsOf plan1 known noPlan planOf rowAt marksAt marksOf
+unfolding if_then_else_ upFrom size gf2 flatMap all same first rest beside bitsOf plan1 known noPlan planOf rowAt marksAt marksOf
     firstFailed unasked inFile stripeFits wordsFit marksFit unmarkedBelow symbolsFit
     bytes2 marksOffset symbolsOffset fileLength headerOf blanked planIn wordAt marksIn symbolsIn fileRefusal readRefusal
     blank exampleFile noMarks withByte withBytes
@@ -117,7 +117,7 @@ pub memory-order :
     -- extraction: lengths, a symbol 2; a symbol 2, no codeword; no codeword alone
     × (extractRefusal 1 (set blank 0 2) [] ≡ 11) × (extractRefusal 1 (set (set blank 0 2) 7 1) noData ≡ 13)
     × (extractRefusal 1 (set blank 0 1) noData ≡ 16)
-unfolding if_then_else_ upFrom _⊕_ size double times mul dot gf2 flatMap all only vanish bitsOf sumsOf
+unfolding if_then_else_ upFrom _⊕_ size double times mul dot gf2 flatMap all only vanish first rest beside bitsOf sumsOf
     ones bitChecks wordOf locations1 plan1 known noPlan planOf noLevel levelOf checksTo rowAt marksAt marksOf
     firstFailed unasked inMemory stripeFits wordsFit marksFit allBelow unmarkedBelow symbolsFit sumsAt sumsFit levelFits lentRefusal benchRefusal
     across rowsHold totalsHold isCodeword checkPlacesOf carried extractRefusal blank noMarks noData benchWith
@@ -134,7 +134,7 @@ pub other-orders :
     -- writing: an unknown plan, its lengths; no room for the file, a mark bit at column 7; the mark bit, a symbol 2; the symbol alone
     × (writeRefusal 4 blank noMarks noFile ≡ 10) × (writeRefusal 1 blank (set noMarks 0 128) [] ≡ 11)
     × (writeRefusal 1 (set blank 0 2) (set noMarks 0 128) noFile ≡ 12) × (writeRefusal 1 (set blank 0 2) noMarks noFile ≡ 13)
-unfolding if_then_else_ upFrom _⊕_ size double times mul dot gf2 flatMap all only vanish bitsOf sumsOf
+unfolding if_then_else_ upFrom _⊕_ size double times mul dot gf2 flatMap all only vanish first rest beside bitsOf sumsOf
     ones bitChecks wordOf locations1 plan1 known noPlan planOf noLevel levelOf rowAt marksAt marksOf
     firstFailed unasked inMemory stripeFits wordsFit marksFit allBelow unmarkedBelow symbolsFit marksOffset symbolsOffset fileLength
     across rowsHold totalsHold isCodeword testRefusal checkPlacesOf carried encodeRefusal extractRefusal writeRefusal blank noMarks noData noFile

@@ -4,9 +4,9 @@ use mathlib.Core.List.{flatMap}
 use Rattle.field.specs.Lists.{if_then_else_, upFrom}
 use Rattle.field.specs.Field.{_⊕_, size, double, times, mul, dot, gf2, gf16, gf32}
 use Rattle.field.specs.Power.{power}
-use Rattle.linear.specs.Lists.{any, all, only, same, zeros, vanish, first, rest}
+use Rattle.linear.specs.Lists.{any, all, only, same, zeros, vanish, first, rest, beside}
 use Rattle.linear.specs.Marks.{bitsOf}
-use Rattle.linear.specs.Fill.{sumsOf, options, before, choices, loose, dependent, fillings, fillBy, fill}
+use Rattle.linear.specs.Fill.{sumsOf, options, before, oneOfEach, choices, loose, dependent, fillings, fillBy, fill}
 use Rattle.plans.specs.Plan.{ones, bitChecks, wordOf, locations1, plan1, known, planOf, noLevel, levelOf, checksTo, rowAt, marksAt, marksOf, across, checkPlacesOf, carried, marksOffset, symbolsOffset, fileLength}
 use Rattle.plans.specs.Answers.{answerNumber}
 use Rattle.plans.specs.Refusal.{firstFailed, unasked, inMemory, inFile, stripeFits, wordsFit, marksFit, allBelow, unmarkedBelow, symbolsFit, sumsAt, sumsFit, levelFits, lentRefusal, benchRefusal}
@@ -21,7 +21,7 @@ use Rattle.repair.specs.Sheet.{restored, stuck, clashed, blank, unchange
 
 pub sheet : Sheet
 unfolding if_then_else_ upFrom _⊕_ size double times mul dot gf2 gf16 gf32 power flatMap
-    any all only same zeros vanish first rest bitsOf sumsOf options before choices loose dependent fillings fillBy fill
+    any all only same zeros vanish first rest beside bitsOf sumsOf options before oneOfEach choices loose dependent fillings fillBy fill
     ones bitChecks wordOf locations1 plan1 known planOf noLevel levelOf checksTo rowAt marksAt marksOf answerNumber
     firstFailed unasked inMemory inFile stripeFits wordsFit marksFit allBelow unmarkedBelow symbolsFit sumsAt sumsFit levelFits lentRefusal benchRefusal
     fresh stepped unlessRefused rowFill putRow rowStepBy rowStep lossy across join joined levelFill keepSums raise levelStepBy levelStep

@@ -1,11 +1,11 @@
 -- The stripe file, read and written.
 use Prim.Native.Nat.{ℕ, _+_, _*_, _/_, _%_, _^_}
-use mathlib.Core.Bool.{Bool, true, false, _&&_}
+use mathlib.Core.Bool.{Bool, _&&_}
 use mathlib.Core.List.{List, [], _∷_, _++_, map, flatMap}
 use lib.Dec.{eqb, leb}
 use lib.ListN.{length, take, drop, getD}
 use Rattle.field.specs.Lists.{if_then_else_, upFrom}
-use Rattle.linear.specs.Lists.{same}
+use Rattle.linear.specs.Lists.{same, beside}
 use Rattle.plans.specs.Plan.{planOf, known, marksOf, marksOffset, symbolsOffset, fileLength}
 use Rattle.plans.specs.Refusal.{inMemory, inFile, unasked, stripeFits, wordsFit, marksFit, symbolsFit}
 
@@ -23,10 +23,7 @@ headerOf p = let P = planOf p in p ∷ P .rows ∷ P .columns ∷ 0 ∷ bytes2 m
 
 -- the symbols, with 0 at each marked place
 unfoldable pub blanked : List Bool → List ℕ → List ℕ
-blanked [] xs = []
-blanked (m ∷ ms) [] = []
-blanked (true ∷ ms) (x ∷ xs) = 0 ∷ blanked ms xs
-blanked (false ∷ ms) (x ∷ xs) = x ∷ blanked ms xs
+blanked ms xs = beside (λ m x. if m then 0 else x) ms xs
 
 unfoldable pub fileOf : ℕ → List ℕ → List ℕ → List ℕ
 fileOf p stripe marks = headerOf p ++ flatMap bytes4 marks ++ blanked (marksOf (planOf p) marks) stripe

@@ -2,11 +2,12 @@
 use Prim.Native.Nat.{ℕ, zero, suc, _+_, _/_, _%_}
 use Prim.Native.Char.{code}
 use Prim.Native.String.{String, [] as ε, _∷_ as _∶_}
-use mathlib.Core.Bool.{Bool, true, false}
+use mathlib.Core.Bool.{Bool}
 use mathlib.Core.List.{List, [], _∷_, _++_, flatMap}
 use lib.Dec.{eqb, ltb}
 use lib.ListN.{length, take}
 use Rattle.field.specs.Lists.{if_then_else_, upFrom}
+use Rattle.linear.specs.Lists.{beside}
 use Rattle.plans.specs.Plan.{Plan, planOf, rowAt, marksAt}
 use Rattle.plans.specs.Answers.{answerNumber}
 use Rattle.plans.specs.Refusal.{unasked}
@@ -48,10 +49,7 @@ lineEnd = 10 ∷ []
 
 -- a row's symbols, `?` at a place still marked
 unfoldable pub shown : List Bool → List ℕ → List ℕ
-shown [] xs = []
-shown (m ∷ ms) [] = []
-shown (true ∷ ms) (x ∷ xs) = 63 ∷ shown ms xs
-shown (false ∷ ms) (x ∷ xs) = hex x ∷ shown ms xs
+shown ms xs = beside (λ m x. if m then 63 else hex x) ms xs
 
 unfoldable pub grid : Plan → List ℕ → List ℕ → List ℕ
 grid P stripe marks = flatMap (λ r. shown (marksAt P marks r) (rowAt P stripe r) ++ lineEnd) (upFrom 0 (P .rows))

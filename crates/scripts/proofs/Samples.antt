@@ -20,7 +20,7 @@ use Rattle.plans.specs.declared.Bench.{Bench}
 use Rattle.repair.specs.Sheet.{Case, restored, stuck, clashed, unchanged, blankRestored, exampleStripe, exampleMarks, exampleAfter, cases, done}
 use Rattle.repair.proofs.Sheet.{sheet}
 use Rattle.steps.proofs.Fit.{marks-fit, fit-lent}
-use Rattle.steps.proofs.Sound.{unmarked-below}
+use Rattle.plans.proofs.Refusals.{unmarked-below}
 use Rattle.steps.proofs.Settled.{put-whole}
 use Rattle.shelf.specs.Layout.{benchSize, benchIn}
 use Rattle.demands.specs.Words.{Codeword, Fit, Move, onRow, onLevel, after, walk, Quiet, rounds, counts}
@@ -110,7 +110,7 @@ zero-fits = fit-lent 3 zeroStripe twoMarked record {
   words = refl;
   mark-lt = marks-fit (planOf 3) twoMarked tt;
   row-fits = λ r h.
-      unmarked-below (size (planOf 3 .field)) (marksAt (planOf 3) twoMarked r) (rowAt (planOf 3) zeroStripe r) (word-below 3 zeroStripe zero-word r h);
+      unmarked-below (planOf 3 .field) (marksAt (planOf 3) twoMarked r) (rowAt (planOf 3) zeroStripe r) (word-below 3 zeroStripe zero-word r h);
 }
 
 pub zero-premise : Premise 3 zeroStripe twoMarked

@@ -16,10 +16,10 @@ use Rattle.field.specs.Field.{Field, size, dot}
 use Rattle.field.proofs.Test.{both-left, both-right, both}
 use Rattle.field.proofs.Ring.{size-pos}
 use Rattle.field.proofs.Laws.{IsField, dot-lt}
-use Rattle.linear.specs.Lists.{all, zeros, first, rest}
+use Rattle.linear.specs.Lists.{all, zeros, first, rest, beside}
 use Rattle.linear.specs.Fill.{Fill, tied, none, one, fill}
-use Rattle.linear.proofs.Tests.{either, or-right, all-append}
-use Rattle.linear.proofs.Choices.{Agrees, Allowed, agrees-length, agrees-symbols}
+use Rattle.linear.proofs.Tests.{either, all-append}
+use Rattle.linear.proofs.Choices.{Agrees, Allowed, agrees-length}
 use Rattle.linear.proofs.Filling.{Means, fill-means}
 use Rattle.plans.specs.Plan.{Plan, Level, planOf, levelOf, checksTo, rowAt, marksAt, across}
 use Rattle.plans.specs.Refusal.{unasked, allBelow, unmarkedBelow, sumsAt, lentRefusal, benchRefusal}
@@ -31,45 +31,23 @@ use Rattle.plans.proofs.Rows.{of-rows, row-end, row-same, row-other, marks-leng
 use Rattle.steps.proofs.Sums.{keep-length}
 use Rattle.steps.proofs.Levels.{checks-le, sums-learned}
 use Rattle.plans.proofs.Shape.{shape, plan-field}
+use Rattle.plans.proofs.Refusals.{unmarked-below}
 
 -- ---- rows and sums of symbols
 
--- symbols are symbols under any marks
-pub unmarked-below : (q : ℕ) (ms : List Bool) (xs : List ℕ) → T (allBelow q xs) → T (unmarkedBelow q ms xs)
-unfolding allBelow all unmarkedBelow
-unmarked-below q [] xs t = tt
-unmarked-below q (m ∷ ms) [] t = tt
-unmarked-below q (m ∷ ms) (x ∷ xs) t =
-    both (m || ltb x q) (unmarkedBelow q ms xs) (or-right m (ltb x q) (both-left (ltb x q) (allBelow q xs) t))
-    (unmarked-below q ms xs (both-right (ltb x q) (allBelow q xs) t))
-
-module _ (q : ℕ) where
-  none-below : (ms : List Bool) → T (unmarkedBelow q ms [])
-  unfolding unmarkedBelow
-  none-below [] = tt
-  none-below (m ∷ ms) = tt
-
-  unmarked-rest : (m : Bool) (ms : List Bool) (v : List ℕ) → T (unmarkedBelow q (m ∷ ms) v) → T (unmarkedBelow q ms (rest v))
-  unfolding unmarkedBelow rest
-  unmarked-rest m ms [] t = none-below ms
-  unmarked-rest m ms (x ∷ v) t = both-right (m || ltb x q) (unmarkedBelow q ms v) t
-
-  unmarked-first : 0 < q → (ms : List Bool) (v : List ℕ) → T (unmarkedBelow q (false ∷ ms) v) → T (ltb (first v) q)
-  unfolding unmarkedBelow first
-  unmarked-first z ms [] t = lt→ltb 0 q z
-  unmarked-first z ms (x ∷ v) t = both-left (ltb x q) (unmarkedBelow q ms v) t
-
 -- what agrees with symbols where unmarked, and holds symbols where marked, holds symbols
 pub agrees-below : (F : Field) (ms : List Bool) (v w : List ℕ) → T (unmarkedBelow (size F) ms v) → Agrees F ms v w → T (allBelow (size F) w)
-unfolding allBelow all
+unfolding all beside allBelow unmarkedBelow
 agrees-below F [] v w t a = subst (λ l. T (allBelow (size F) l)) (sym a) tt
 agrees-below F (m ∷ ms) v [] t a = absurd a
 agrees-below F (m ∷ ms) v (y ∷ ys) t a =
-    both (ltb y (size F)) (allBelow (size F) ys) (symbol m t (a .0)) (agrees-below F ms (rest v) ys (unmarked-rest (size F) m ms v t) (a .1))
+    let q = size F in
+    both (ltb y q) (allBelow q ys) (symbol m (both-left (m || ltb (first v) q) (unmarkedBelow q ms (rest v)) t) (a .0))
+    (agrees-below F ms (rest v) ys (both-right (m || ltb (first v) q) (unmarkedBelow q ms (rest v)) t) (a .1))
   where
-    symbol : (m : Bool) → T (unmarkedBelow (size F) (m ∷ ms) v) → Allowed F m (first v) y → T (ltb y (size F))
+    symbol : (m : Bool) → T (m || ltb (first v) (size F)) → Allowed F m (first v) y → T (ltb y (size F))
     symbol true u h = lt→ltb y (size F) h
-    symbol false u h = subst (λ x. T (ltb x (size F))) (sym h) (unmarked-first (size F) (size-pos F) ms v u)
+    symbol false u h = subst (λ x. T (ltb x (size F))) (sym h) u
 
 -- the rows' sums under a check are symbols
 pub across-below : (P : Plan) → IsField (P .field) → (symbols c : List ℕ) → T (allBelow (size (P .field)) (across P symbols c))
@@ -267,7 +245,7 @@ module _ (b : Bench) where
                 (λ k l ne. rw (put-mark-other k ne) (f .mark-lt k l));
             row-fits =
                 of-rows (λ k. RowFits P (putRow b r row .marks) (putRow b r row .symbols) k) r
-                (rw put-row (unmarked-below (size (P .field)) (marksAt P (putRow b r row .marks) r) row below))
+                (rw put-row (unmarked-below (P .field) (marksAt P (putRow b r row .marks) r) row below))
                 (λ k l ne. rw (put-mark-other k ne, put-row-other k ne) (f .row-fits k l));
             sums-fits = f .sums-fits;
           }
@@ -293,7 +271,7 @@ module _ (b : Bench) where
             let ms = lossy P (b .marks) in
             let u = across P (b .symbols) c in
             let m = subst (Means (P .field) ws (zeros ws) ms u) e (fill-means (P .field) ws (zeros ws) ms u) in
-            agrees-symbols (P .field) ms u v (across-below P (plan-field (b .plan) (f .plan-known)) (b .symbols) c) (m .1 .agrees)
+            agrees-below (P .field) ms u v (unmarked-below (P .field) ms u (across-below P (plan-field (b .plan) (f .plan-known)) (b .symbols) c)) (m .1 .agrees)
 
     module _ (s : Sized b) (low : b .level < length (P .levels)) (cs : List (List ℕ)) (count : length cs ≡ length (L .checks)) where
       -- row r's sums once the level is learned: the old ones, then the new

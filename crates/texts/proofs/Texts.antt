@@ -1,9 +1,9 @@
 -- The text's digits and rows, place by place. Assumes nothing.
-use mathlib.Core.Path.{_≡_, refl, sym, ap, _∙_, subst}
+use mathlib.Core.Path.{_≡_, ap, _∙_, subst}
 use mathlib.Core.Bool.{Bool, true, false, _||_}
 use mathlib.Core.List.{List, [], _∷_}
 use Prim.Native.Nat.{ℕ, zero, suc, _+_, _/_, _%_, _^_, _≤_, _<_}
-use native.Mathlib.Nat.{suc-inj, not-suc-le-zero, le-of-suc-le-suc, le-trans}
+use native.Mathlib.Nat.{not-suc-le-zero, le-of-suc-le-suc, le-trans}
 use native.Mathlib.Omega.{arith}
 use borrow.Author.Tests.{lt-ltb, le-ltb}
 use lib.Dec.{T, eqb, ltb, ltb→lt, lt→ltb, lit<, lit≤}
@@ -11,9 +11,10 @@ use lib.ListN.{length, getD}
 use Rattle.field.specs.Lists.{if_then_else_}
 use Rattle.field.specs.Field.{size, gf2, gf16}
 use Rattle.field.proofs.Test.{both-left, both-right, both}
-use Rattle.linear.specs.Lists.{all}
+use Rattle.linear.specs.Lists.{all, first, rest, beside}
 use Rattle.linear.specs.Marks.{bitsOf}
-use Rattle.linear.proofs.Marked.{length-bits, bits-at}
+use Rattle.linear.proofs.Marked.{bits-at}
+use Rattle.linear.proofs.Beside.{length-beside-bits, beside-bits-at}
 use Rattle.plans.specs.Plan.{plan1, plan2, plan3, planOf, known, rowAt, marksAt}
 use Rattle.plans.specs.Refusal.{allBelow, unmarkedBelow, symbolsFit}
 use Rattle.plans.specs.Answers.{placeValues}
@@ -62,34 +63,16 @@ beside-below q level left rows t =
 
 -- ---- rows
 
-pub length-shown : (ms : List Bool) (xs : List ℕ) → length ms ≡ length xs → length (shown ms xs) ≡ length xs
-unfolding shown
-length-shown [] [] e = refl
-length-shown [] (x ∷ xs) e = absurd (omega arith)
-length-shown (m ∷ ms) [] e = refl
-length-shown (true ∷ ms) (x ∷ xs) e = ap suc (length-shown ms xs (suc-inj e))
-length-shown (false ∷ ms) (x ∷ xs) e = ap suc (length-shown ms xs (suc-inj e))
-
-pub getD-shown : (ms : List Bool) (xs : List ℕ) (i : ℕ) → i < length ms → i < length xs
-    → getD (shown ms xs) i 0 ≡ (if getD ms i false then 63 else hex (getD xs i 0))
-unfolding shown if_then_else_
-getD-shown [] xs i h l = absurd (not-suc-le-zero h)
-getD-shown (m ∷ ms) [] i h l = absurd (not-suc-le-zero l)
-getD-shown (true ∷ ms) (x ∷ xs) zero h l = refl
-getD-shown (false ∷ ms) (x ∷ xs) zero h l = refl
-getD-shown (true ∷ ms) (x ∷ xs) (suc i) h l = getD-shown ms xs i (le-of-suc-le-suc h) (le-of-suc-le-suc l)
-getD-shown (false ∷ ms) (x ∷ xs) (suc i) h l = getD-shown ms xs i (le-of-suc-le-suc h) (le-of-suc-le-suc l)
-
 -- the marks are a word's bits
 module _ (word : ℕ) (row : List ℕ) where
   pub length-row-shown : length (shown (bitsOf (length row) word) row) ≡ length row
-  length-row-shown = length-shown (bitsOf (length row) word) row (length-bits (length row) word)
+  unfolding shown
+  length-row-shown = length-beside-bits _ word row
 
   module _ (c : ℕ) (h : c < length row) where
     pub getD-row-shown : (if eqb (word / 2 ^ c % 2) 1 then 63 else hex (getD row c 0)) ≡ getD (shown (bitsOf (length row) word) row) c 0
-    getD-row-shown =
-        ap (λ b. if b then 63 else hex (getD row c 0)) (sym (bits-at (length row) word c h))
-        ∙ sym (getD-shown (bitsOf (length row) word) row c (subst (λ n. c < n) (sym (length-bits (length row) word)) h) h)
+    unfolding shown
+    getD-row-shown = beside-bits-at _ word row c 0 h
 
     -- a symbol that is not marked is one
     pub unmarked-at : (q : ℕ) → T (unmarkedBelow q (bitsOf (length row) word) row) → eqb (word / 2 ^ c % 2) 1 ≡ false → getD row c 0 < q
@@ -99,13 +82,14 @@ module _ (word : ℕ) (row : List ℕ) where
         (all-rows (fitsIn q word row) (length row) (subst T (row-up q word row) t) c h))
 
 unmarked-le : (q r : ℕ) → q ≤ r → (ms : List Bool) (xs : List ℕ) → T (unmarkedBelow q ms xs) → T (unmarkedBelow r ms xs)
-unfolding unmarkedBelow
+unfolding all beside unmarkedBelow
 unmarked-le q r l [] xs t = tt
-unmarked-le q r l (m ∷ ms) [] t = tt
-unmarked-le q r l (true ∷ ms) (x ∷ xs) t = unmarked-le q r l ms xs t
-unmarked-le q r l (false ∷ ms) (x ∷ xs) t =
-    both (ltb x r) (unmarkedBelow r ms xs) (lt→ltb x r (le-trans (ltb→lt x q (both-left (ltb x q) (unmarkedBelow q ms xs) t)) l))
-    (unmarked-le q r l ms xs (both-right (ltb x q) (unmarkedBelow q ms xs) t))
+unmarked-le q r l (true ∷ ms) xs t = unmarked-le q r l ms (rest xs) t
+unmarked-le q r l (false ∷ ms) xs t =
+    let x = first xs in
+    let more = unmarkedBelow q ms (rest xs) in
+    both (ltb x r) (unmarkedBelow r ms (rest xs)) (lt→ltb x r (le-trans (ltb→lt x q (both-left (ltb x q) more t)) l))
+    (unmarked-le q r l ms (rest xs) (both-right (ltb x q) more t))
 
 -- every symbol has a hex digit
 pub fit-hex : (p : ℕ) → T (known p) → (marks stripe : List ℕ) → T (symbolsFit (planOf p) marks stripe) → (r : ℕ) → r < planOf p .rows

@@ -93,7 +93,7 @@ returns : tie.Need-returns Inv-loop μ-loop
 returns c =
     let start = c .before .before .before .before .before .before in
     rows-taken _ _ (omega (arith, c .before .loop .inv .0, c .loop-test .left, c .before .before .facts-of .ensures .rows))
-    (start .pre .1 .1) (start .pre .1 .0) (c .before .loop .inv .1)
+    (start .pre .1 .0) (c .before .loop .inv .1)
 
 pub take-spec : {M : Type 1} → statement M
 take-spec =

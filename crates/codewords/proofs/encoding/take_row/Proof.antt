@@ -45,11 +45,10 @@ loop-less c = search needs
 
 loop-again : tie.Need-loop-again Inv-loop μ-loop
 loop-again c =
-    let t = c .before .before .loop .inv .2 in
-    let h = c .before .loop-test .taken in (
+    let t = c .before .before .loop .inv .2 in (
       refl,
       omega arith,
-      ⊎-elim (λ w. rw (w .2, w .3) (take-symbol _ _ h t (w .0 .taken))) (λ w. rw (w .1, w .2) (take-none _ _ h t (w .0 .left))) (c .if1 .came),
+      ⊎-elim (λ w. rw (w .2, w .3) (take-symbol _ _ t (w .0 .taken))) (λ w. rw (w .1, w .2) (take-none _ _ t (w .0 .left))) (c .if1 .came),
     )
 
 same-length : tie.Need-same-length Inv-loop μ-loop

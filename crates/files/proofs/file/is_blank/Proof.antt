@@ -15,7 +15,7 @@ use Rattle.files.proofs.file.is_blank.Statement.{statement}
 use Rattle.files.proofs.file.is_blank.Tie as tie
 
 long : (c : tie.Start) → let a = c .args in length (blanked (marksOf (planOf (a .plan)) (now (a .marks))) (now (a .symbols))) ≡ length (now (a .symbols))
-long c = length-blanked _ _ (length-marks-of (planOf (c .args .plan)) _ ∙ sym (c .pre .1 .1))
+long c = length-blanked _ _ ∙ length-marks-of (planOf (c .args .plan)) _ ∙ sym (c .pre .1 .1)
 
 small : (c : tie.Start) → length (now (c .args .symbols)) ≤ 256
 small c = omega (arith, c .pre .1 .1, shape _ (c .pre .0))

@@ -85,7 +85,7 @@ returns c =
     let l = c .before .loop in
     let P = planOf (s .args .plan) in
     let all : l .r ≡ P .rows = omega (arith, l .inv .2 .within, length-up 0 (P .rows), s .pre .1 .0) in
-    put-is (blanked-rows P (s .args .marks .now) (s .args .stripe .now) (s .pre .1 .1 .0))
+    put-is (blanked-rows P (s .args .marks .now) (s .args .stripe .now))
     (counting-ends _ _ _ _ (l .inv .2) (omega arith)
     (omega (arith, l .inv .1, ap₂ _*_ all (c .before .before .columns .ensures), s .pre .1 .1 .0, s .pre .1 .1 .1)))
 
