@@ -159,7 +159,7 @@ unfolding if_then_else_ encodeStripe exampleData exampleWord
 is-encoded = rw encode-fits (sheet .4)
 
 pub extract-fits : extractRefusal 1 exampleWord (replicate 15 0) ≡ 0
-unfolding if_then_else_ upFrom _⊕_ size double times mul dot gf2 flatMap all only vanish first rest beside bitsOf sumsOf ones bitChecks wordOf locations1 plan1 known planOf
+unfolding if_then_else_ upFrom _⊕_ size double times mul dot gf2 flatMap all only vanish bitsOf sumsOf ones bitChecks wordOf locations1 plan1 known planOf
     noLevel levelOf rowAt marksAt marksOf firstFailed unasked inMemory stripeFits allBelow across rowsHold totalsHold isCodeword checkPlacesOf carried
     extractRefusal exampleWord
 extract-fits = refl
