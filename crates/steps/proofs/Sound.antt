@@ -271,7 +271,8 @@ module _ (b : Bench) where
             let ms = lossy P (b .marks) in
             let u = across P (b .symbols) c in
             let m = subst (Means (P .field) ws (zeros ws) ms u) e (fill-means (P .field) ws (zeros ws) ms u) in
-            agrees-below (P .field) ms u v (unmarked-below (P .field) ms u (across-below P (plan-field (b .plan) (f .plan-known)) (b .symbols) c)) (m .1 .agrees)
+            let below = across-below P (plan-field (b .plan) (f .plan-known)) (b .symbols) c in
+            agrees-below (P .field) ms u v (unmarked-below (P .field) ms u below) (m .1 .agrees)
 
     module _ (s : Sized b) (low : b .level < length (P .levels)) (cs : List (List ℕ)) (count : length cs ≡ length (L .checks)) where
       -- row r's sums once the level is learned: the old ones, then the new
