@@ -10,7 +10,7 @@ use Rattle.linear.specs.Lists.{any, all, only, same, zeros, vanish, first, rest
 use Rattle.linear.specs.Marks.{bitsOf}
 use Rattle.linear.specs.Fill.{sumsOf, options, before, choices, loose, dependent, fillings, fillBy, fill}
 use Rattle.plans.specs.Plan.{ones, bitChecks, wordOf, locations1, plan1, known, planOf, noLevel, levelOf, checksTo, rowAt, marksAt, marksOf, across, checkPlacesOf, marksOffset, symbolsOffset, fileLength}
-use Rattle.plans.specs.Answers.{answerNumber, stepNumber}
+use Rattle.plans.specs.Answers.{answerNumber, placeValues, endValues, answerValues, reportValues, stepNumber}
 use Rattle.plans.specs.Refusal.{firstFailed, unasked, inMemory, inFile, stripeFits, wordsFit, marksFit, allBelow, unmarkedBelow, symbolsFit, sumsAt, sumsFit, levelFits, lentRefusal, benchRefusal}
 use Rattle.steps.specs.Steps.{fresh, stepped, unlessRefused, rowFill, putRow, rowStepBy, rowStep, lossy, join, joined, levelFill, keepSums, raise, levelStepBy, levelStep}
 use Rattle.steps.specs.Rounds.{counted, afterRow, afterLevel, takeTurn, goOn, turns}
@@ -18,7 +18,7 @@ use Rattle.repair.specs.Mending.{mended, rowsLeft, endReport, bare, turn
 use Rattle.codewords.specs.Codeword.{placed}
 use Rattle.repair.specs.Encoding.{encoded}
 use Rattle.repair.specs.File.{bytes2, bytes4, headerOf, blanked, planIn, wordAt, marksIn, symbolsIn, fileRefusal}
-use Rattle.repair.specs.Text.{bytes, digitsIn, decimal, hex, item, lineEnd, shown, grid, placeText, summary, reportText, mendText, printed}
+use Rattle.repair.specs.Text.{bytes, digitsIn, decimal, hex, item, lineEnd, shown, grid, captioned, endText, placeText, answerText, mendText, printed}
 use Rattle.plans.specs.declared.Place.{Place}
 use Rattle.plans.specs.declared.Place.the-variants.{Row, Across}
 use Rattle.plans.specs.declared.Report.{Report}
@@ -111,11 +111,12 @@ pub sheet :
     × (mul gf16 8 2 ≡ 3) × (mul gf16 15 15 ≡ 10) × (mul gf32 16 2 ≡ 5) × (power gf32 4 3 ≡ 10)
 unfolding if_then_else_ upFrom _⊕_ size double times mul dot gf2 gf16 gf32 power flatMap
     any all only same zeros vanish first rest bitsOf sumsOf options before choices loose dependent fillings fillBy fill
-    ones bitChecks wordOf locations1 plan1 known planOf noLevel levelOf checksTo rowAt marksAt marksOf answerNumber stepNumber
+    ones bitChecks wordOf locations1 plan1 known planOf noLevel levelOf checksTo rowAt marksAt marksOf
+    answerNumber placeValues endValues answerValues reportValues stepNumber
     firstFailed unasked inMemory inFile stripeFits wordsFit marksFit allBelow unmarkedBelow symbolsFit sumsAt sumsFit levelFits lentRefusal benchRefusal
     fresh stepped unlessRefused rowFill putRow rowStepBy rowStep lossy across join joined levelFill keepSums raise levelStepBy levelStep
     counted afterRow afterLevel takeTurn goOn turns mended rowsLeft endReport bare turnReport turnStripe turnMarks mendReport mendStripe mendMarks
     checkPlacesOf placed encoded bytes2 bytes4 marksOffset symbolsOffset fileLength headerOf blanked planIn wordAt marksIn symbolsIn fileRefusal
-    bytes digitsIn decimal hex item lineEnd shown grid placeText summary reportText mendText printed
+    bytes digitsIn decimal hex item lineEnd shown grid captioned endText placeText answerText mendText printed
     restored stuck clashed blank unchanged blankRestored row1 exampleStripe exampleMarks exampleAfter exampleFile cases done
 sheet = (refl, refl, refl, refl, refl, refl, refl, refl, refl)
