@@ -120,3 +120,10 @@ unfolding if_then_else_ upFrom _⊕_ size double times mul dot gf2 gf16 gf32 pow
     bytes digitsIn decimal hex item lineEnd shown grid captioned endText placeText answerText mendText printed
     restored stuck clashed blank unchanged blankRestored row1 exampleStripe exampleMarks exampleAfter exampleFile cases done
 sheet = (refl, refl, refl, refl, refl, refl, refl, refl, refl)
+
+-- what follows the number of a Clash in row 2 at level 1, and of one across rows at level 2
+pub clash-lines :
+    (answerText (Clash (Row 2 1)) (placeValues (Row 2 1)) [] ≡ bytes " level 1 place row 2\n")
+    × (answerText (Clash (Across 2)) (placeValues (Across 2)) [] ≡ bytes " level 2 place across\n")
+unfolding if_then_else_ placeValues bytes digitsIn decimal item lineEnd captioned placeText answerText
+clash-lines = (refl, refl)

@@ -1,7 +1,7 @@
 -- The values of Restored and Stuck are the first of a report's five numbers. Assumes nothing.
 use mathlib.Core.Path.{_≡_, refl, sym, ap, ap₂, _∙_, subst}
 use mathlib.Core.List.{List, [], _∷_}
-use Prim.Native.Nat.{ℕ, suc, _+_, _<_, _≤_}
+use Prim.Native.Nat.{ℕ, suc, _+_, _<_}
 use native.Mathlib.Omega.{arith}
 use lib.Dec.{T}
 use lib.ListN.{length, take, getD}
@@ -22,13 +22,10 @@ three-are (x ∷ y ∷ []) e = absurd (omega arith)
 three-are (x ∷ y ∷ z ∷ []) e = refl
 three-are (x ∷ y ∷ z ∷ w ∷ l) e = absurd (omega arith)
 
--- the plan has n levels
+-- of a report of a plan that has n levels
 module _ (p : ℕ) (r : Report) (three : length (r .rows) ≡ 3) {n : ℕ} (e : n ≡ length (planOf p .levels)) where
   abbrev five : List ℕ
   five = r .level ∷ r .left ∷ getD (r .rows) 0 0 ∷ getD (r .rows) 1 0 ∷ getD (r .rows) 2 0 ∷ []
-
-  pub first-five : n + 2 ≤ 5
-  first-five = omega (arith, levels-most p)
 
   end-first : take (n + 2) five ≡ endValues (planOf p) r
   unfolding endValues
@@ -36,9 +33,10 @@ module _ (p : ℕ) (r : Report) (three : length (r .rows) ≡ 3) {n : ℕ} (e : 
       let two : n + 2 ≡ suc (suc n) = omega arith in
       ap (λ k. take k five) two ∙ ap₂ (λ k l. r .level ∷ r .left ∷ take k l) e (sym (three-are (r .rows) three))
 
+  -- a value that is written
   pub end-at : (q : ℕ) → T (allBelow q (endValues (planOf p) r)) → (k : ℕ) → k < n + 2 → getD five k 0 < q
   end-at q t k h =
-      let long = length-take-le (n + 2) five first-five in
+      let long = length-take-le (n + 2) five (omega (arith, levels-most p)) in
       let small = below-at q (take (n + 2) five) (subst (λ l. T (allBelow q l)) (sym end-first) t) k (omega (arith, long)) in
       omega (arith, small, getD-take (n + 2) five k 0 h)
 

@@ -3,7 +3,8 @@ use mathlib.Core.Path.{_≡_, sym, _∙_}
 use Prim.Native.Nat.{_+_, _-_, _≤_}
 use lib.ListN.{length, length-map}
 use Rattle.plans.proofs.Padded.{Padding, padding-starts, padding-turns}
-use Rattle.shelf.proofs.Bytes.{first-five, end-at, end-padded}
+use Rattle.plans.proofs.Plans.{levels-most}
+use Rattle.shelf.proofs.Bytes.{end-at, end-padded}
 use native.Mathlib.Omega.{arith}
 use borrow.Author.Needs.{needs}
 use Rattle.shelf.proofs.layout.end_bytes.Statement.{statement}
@@ -19,7 +20,7 @@ rows-long : (c : tie.Start Inv-loop μ-loop) → length (c .args .report .rows) 
 rows-long c = sym (length-map (c .args .report .rows) (λ v. v)) ∙ c .good .1 .0 .1 .1 .1 .1 .0 .1 .0 .1
 
 few : (c : tie.After-levels Inv-loop μ-loop) → c .levels .result + 2 ≤ 5
-few c = let s = c .before .before in first-five (s .args .plan) (s .args .report) (rows-long s) (c .levels .ensures)
+few c = omega (arith, levels-most (c .before .before .args .plan), c .levels .ensures)
 
 array-read-size : tie.Need-array-read-size Inv-loop μ-loop
 array-read-size c = search needs
