@@ -1,5 +1,5 @@
 -- Silence: what is answered and left behind does not depend on the bytes under marks. Assumes nothing.
-use mathlib.Core.Path.{_≡_, refl, sym, ap, _∙_, subst, subst₂}
+use mathlib.Core.Path.{_≡_, refl, sym, ap, ap₂, _∙_, subst, subst₂}
 use mathlib.Core.Logic.{inl, inr}
 use mathlib.Core.Bool.{Bool, true, false, _&&_}
 use mathlib.Core.List.{List, [], _∷_, _++_, map}
@@ -17,12 +17,12 @@ use Rattle.linear.specs.Fill.{Fill, tied, none, one}
 use Rattle.linear.proofs.Choices.{Alike}
 use Rattle.linear.proofs.Filling.{fill-alike}
 use Rattle.plans.specs.Plan.{Plan, Level, known, planOf, levelOf, checksTo, rowAt, marksAt, marksOf, across}
-use Rattle.plans.specs.Answers.{answerNumber}
+use Rattle.plans.specs.Answers.{answerNumber, reportValues}
 use Rattle.plans.specs.Refusal.{unasked, inMemory, marksFit, sumsAt, sumsFit, levelFits, lentRefusal, benchRefusal}
 use Rattle.steps.specs.Steps.{fresh, empty, startedBy, started, stepped, unlessRefused, rowFill, putRow, rowStepBy, rowStep, lossy, Learned, blocked, failing, learned, joined, levelFill, raise, levelStepBy, levelStep}
 use Rattle.steps.specs.Rounds.{Standing, Turn, on, end, clash, more, nextRow, afterRow, afterLevel, takeTurn, goOn, turns}
 use Rattle.repair.specs.Mending.{mended, rowsLeft, endReport, turnReport, turnStripe, turnMarks, bare, mendReport, mendStripe, mendMarks}
-use Rattle.repair.specs.Text.{item, grid, summary, reportText, mendText}
+use Rattle.repair.specs.Text.{item, grid, answerText, mendText}
 use Rattle.steps.specs.Learned.{benchOf}
 use Rattle.steps.specs.Walk.{standingOf}
 use Rattle.plans.specs.declared.Bench.{Bench}
@@ -31,8 +31,7 @@ use Rattle.plans.specs.declared.Step.{Step}
 use Rattle.plans.specs.declared.Step.the-variants.{Whole, Filled, Tied, Raised, Blocked, Top, Clash, Refused}
 use Rattle.plans.specs.declared.Place.{Place}
 use Rattle.plans.specs.declared.Report.{Report}
-use Rattle.plans.specs.declared.Answer.{Answer}
-use Rattle.plans.specs.declared.Answer.the-variants.{Restored, Stuck, Clash as Clashing, Refused as Unmended}
+use Rattle.plans.specs.declared.Answer.the-variants.{Refused as Unmended}
 use Rattle.plans.proofs.Rows.{of-rows, row-other, marks-length}
 use Rattle.steps.proofs.Fit.{BenchFit, lent-fit, bench-fit, fresh-mark, fresh-row}
 use Rattle.steps.proofs.Sound.{totalFill, filled-row}
@@ -395,24 +394,11 @@ silent-mending p marks s t h =
     ]
 
 pub silent-text : SilentText
-unfolding mendText reportText
+unfolding mendText
 silent-text p marks s t h =
     let m = silent-mending p marks s t h in
-    ap (λ (r : Report).
-    item "plan " p ++ item " answer " (answerNumber (r .answer)) ++ reportText p r (r .answer) (mendStripe p s marks) (mendMarks p s marks))
+    ap₂ (λ (r : Report) rows.
+    item "plan " p ++ item " answer " (answerNumber (r .answer)) ++ answerText (r .answer) (reportValues (planOf p) r) rows)
     (m .report)
-    ∙ ap (λ l. item "plan " p ++ item " answer " (answerNumber (mendReport p t marks .answer)) ++ l)
-    (go (mendReport p t marks) (mendReport p t marks .answer) m)
-  where
-    go : (r : Report) (a : Answer) → SameMending p marks s t
-        → reportText p r a (mendStripe p s marks) (mendMarks p s marks) ≡ reportText p r a (mendStripe p t marks) (mendMarks p t marks)
-    go r a m =
-        by a (grid-same p (mendMarks p s marks) (mendStripe p s marks) (mendStripe p t marks) (m .stripes)
-        ∙ ap (grid (planOf p) (mendStripe p t marks)) (m .marks-left))
-      where
-        by : (a : Answer) → grid (planOf p) (mendStripe p s marks) (mendMarks p s marks) ≡ grid (planOf p) (mendStripe p t marks) (mendMarks p t marks)
-            → reportText p r a (mendStripe p s marks) (mendMarks p s marks) ≡ reportText p r a (mendStripe p t marks) (mendMarks p t marks)
-        by Restored e = ap (λ g. summary p r ++ g) e
-        by Stuck e = ap (λ g. summary p r ++ g) e
-        by (Clashing place) e = refl
-        by (Unmended n) e = refl
+    (grid-same p (mendMarks p s marks) (mendStripe p s marks) (mendStripe p t marks) (m .stripes)
+    ∙ ap (grid (planOf p) (mendStripe p t marks)) (m .marks-left))

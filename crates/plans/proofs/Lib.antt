@@ -17,3 +17,5 @@ pub mod Parts
 pub mod Numbers
 pub mod Summing
 pub mod Lossy
+-- what stands beside an answer
+pub mod Values

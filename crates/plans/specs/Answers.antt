@@ -2,6 +2,8 @@
 -- from 3 on, and those of yes and no, are ours.
 use Prim.Native.Nat.{ℕ}
 use mathlib.Core.List.{List, [], _∷_}
+use lib.ListN.{length, take}
+use Rattle.plans.specs.Plan.{Plan}
 use Rattle.plans.specs.declared.Step.{Step}
 use Rattle.plans.specs.declared.Step.the-variants.{Whole, Filled, Tied, Raised, Blocked, Top, Clash, Refused}
 use Rattle.plans.specs.declared.Answer.{Answer}
@@ -25,15 +27,19 @@ unfoldable pub placeValues : Place → List ℕ
 placeValues (Row row level) = level ∷ row ∷ []
 placeValues (Across level) = level ∷ []
 
--- Restored and Stuck have all the values beside them, a Clash has its place, a refusal nothing
-unfoldable pub answerValues : Answer → (beside : List ℕ) → List ℕ
-answerValues Restored beside = beside
-answerValues Stuck beside = beside
-answerValues (Clashing place) beside = placeValues place
-answerValues (Unmended n) beside = []
+-- level, rows left, and rows restored at each level of the plan
+unfoldable pub endValues : Plan → Report → List ℕ
+endValues P r = r .level ∷ r .left ∷ take (length (P .levels)) (r .rows)
 
-unfoldable pub reportValues : Report → List ℕ
-reportValues r = answerValues (r .answer) (r .level ∷ r .left ∷ r .rows)
+-- Restored and Stuck have these values, a Clash has its place, a refusal nothing
+unfoldable pub answerValues : Answer → (end : List ℕ) → List ℕ
+answerValues Restored end = end
+answerValues Stuck end = end
+answerValues (Clashing place) end = placeValues place
+answerValues (Unmended n) end = []
+
+unfoldable pub reportValues : Plan → Report → List ℕ
+reportValues P r = answerValues (r .answer) (endValues P r)
 
 unfoldable pub stepNumber : Step → ℕ
 stepNumber Whole = 3

@@ -5,17 +5,15 @@ use Prim.Native.String.{String, [] as ε, _∷_ as _∶_}
 use mathlib.Core.Bool.{Bool}
 use mathlib.Core.List.{List, [], _∷_, _++_, flatMap}
 use lib.Dec.{eqb, ltb}
-use lib.ListN.{length, take}
 use Rattle.field.specs.Lists.{if_then_else_, upFrom}
 use Rattle.linear.specs.Lists.{beside}
 use Rattle.plans.specs.Plan.{Plan, planOf, rowAt, marksAt}
-use Rattle.plans.specs.Answers.{answerNumber}
+use Rattle.plans.specs.Answers.{answerNumber, reportValues}
 use Rattle.plans.specs.Refusal.{unasked}
 use Rattle.repair.specs.Mending.{mendReport, mendStripe, mendMarks}
 use Rattle.repair.specs.File.{planIn, marksIn, symbolsIn, fileRefusal}
 use Rattle.plans.specs.declared.Place.{Place}
 use Rattle.plans.specs.declared.Place.the-variants.{Row, Across}
-use Rattle.plans.specs.declared.Report.{Report}
 use Rattle.plans.specs.declared.Answer.{Answer}
 use Rattle.plans.specs.declared.Answer.the-variants.{Restored, Stuck, Clash, Refused}
 
@@ -54,27 +52,34 @@ shown ms xs = beside (λ m x. if m then 63 else hex x) ms xs
 unfoldable pub grid : Plan → List ℕ → List ℕ → List ℕ
 grid P stripe marks = flatMap (λ r. shown (marksAt P marks r) (rowAt P stripe r) ++ lineEnd) (upFrom 0 (P .rows))
 
-unfoldable pub placeText : Place → List ℕ
-placeText (Row row level) = item " level " level ++ item " place row " row
-placeText (Across level) = item " level " level ++ bytes " place across"
+-- each value behind its words, as far as there are values
+unfoldable pub captioned : List String → List ℕ → List ℕ
+captioned [] values = []
+captioned (words ∷ more) [] = []
+captioned (words ∷ more) (n ∷ values) = item words n ++ captioned more values
 
--- rows restored at each level of the plan
-unfoldable pub summary : ℕ → Report → List ℕ
-summary p r =
-    item " level " (r .level) ++ item " left " (r .left) ++ bytes " rows"
-    ++ flatMap (item " ") (take (length (planOf p .levels)) (r .rows)) ++ lineEnd
+-- level reached, rows left, and rows restored at each level of the plan
+unfoldable pub endText : (values : List ℕ) → List ℕ
+endText values = captioned (" level " ∷ " left " ∷ " rows " ∷ " " ∷ " " ∷ []) values
 
-unfoldable pub reportText : ℕ → Report → Answer → (stripe marks : List ℕ) → List ℕ
-reportText p r Restored stripe marks = summary p r ++ grid (planOf p) stripe marks
-reportText p r Stuck stripe marks = summary p r ++ grid (planOf p) stripe marks
-reportText p r (Clash place) stripe marks = placeText place ++ lineEnd
-reportText p r (Refused n) stripe marks = lineEnd
+-- the place of a Clash
+unfoldable pub placeText : Place → (values : List ℕ) → List ℕ
+placeText (Row row level) values = captioned (" level " ∷ " place row " ∷ []) values
+placeText (Across level) values = captioned (" level " ∷ []) values ++ bytes " place across"
+
+-- what follows an answer's number: its values, and the rows behind Restored and Stuck
+unfoldable pub answerText : Answer → (values rows : List ℕ) → List ℕ
+answerText Restored values rows = endText values ++ lineEnd ++ rows
+answerText Stuck values rows = endText values ++ lineEnd ++ rows
+answerText (Clash place) values rows = placeText place values ++ lineEnd
+answerText (Refused n) values rows = lineEnd
 
 unfoldable pub mendText : ℕ → (stripe marks : List ℕ) → List ℕ
 mendText p stripe marks =
+    let P = planOf p in
     let r = mendReport p stripe marks in
     item "plan " p ++ item " answer " (answerNumber (r .answer))
-    ++ reportText p r (r .answer) (mendStripe p stripe marks) (mendMarks p stripe marks)
+    ++ answerText (r .answer) (reportValues P r) (grid P (mendStripe p stripe marks) (mendMarks p stripe marks))
 
 -- what is printed for a file
 unfoldable pub printed : List ℕ → List ℕ

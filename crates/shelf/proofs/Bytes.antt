@@ -1,14 +1,19 @@
--- A report's bytes, one by one. Assumes nothing.
-use mathlib.Core.Path.{_≡_, refl, sym, ap, ap₂, _∙_}
-use mathlib.Core.List.{List, [], _∷_, _++_}
-use Prim.Native.Nat.{ℕ}
+-- The values of Restored and Stuck are the first of a report's five numbers. Assumes nothing.
+use mathlib.Core.Path.{_≡_, refl, sym, ap, ap₂, _∙_, subst}
+use mathlib.Core.List.{List, [], _∷_}
+use Prim.Native.Nat.{ℕ, suc, _+_, _<_}
 use native.Mathlib.Omega.{arith}
-use lib.ListN.{length, getD}
+use lib.Dec.{T}
+use lib.ListN.{length, take, getD}
+use lib.Seq.{length-take-le, getD-take}
+use Rattle.plans.specs.Plan.{planOf}
+use Rattle.plans.specs.Answers.{endValues}
+use Rattle.plans.specs.Refusal.{allBelow}
+use Rattle.plans.specs.Tables.{padded}
 use Rattle.plans.specs.declared.Report.{Report}
-use Rattle.plans.specs.declared.Answer.{Answer}
-use Rattle.plans.specs.declared.Answer.the-variants.{Restored, Stuck, Clash, Refused}
-use Rattle.plans.specs.declared.Place.the-variants.{Row, Across}
-use Rattle.shelf.specs.Layout.{placeBytes, clashBytes, reportBytes}
+use Rattle.plans.proofs.Padded.{Padding}
+use Rattle.plans.proofs.Plans.{levels-most}
+use Rattle.texts.proofs.Texts.{below-at}
 
 three-are : (l : List ℕ) → length l ≡ 3 → l ≡ getD l 0 0 ∷ getD l 1 0 ∷ getD l 2 0 ∷ []
 three-are [] e = absurd (omega arith)
@@ -17,23 +22,24 @@ three-are (x ∷ y ∷ []) e = absurd (omega arith)
 three-are (x ∷ y ∷ z ∷ []) e = refl
 three-are (x ∷ y ∷ z ∷ w ∷ l) e = absurd (omega arith)
 
--- a Clash's place is three bytes
-clash-three : (a : Answer) → clashBytes a ≡ getD (clashBytes a) 0 0 ∷ getD (clashBytes a) 1 0 ∷ getD (clashBytes a) 2 0 ∷ []
-unfolding clashBytes placeBytes
-clash-three Restored = refl
-clash-three Stuck = refl
-clash-three (Clash (Row row level)) = refl
-clash-three (Clash (Across level)) = refl
-clash-three (Refused n) = refl
+-- of a report of a plan that has n levels
+module _ (p : ℕ) (r : Report) (three : length (r .rows) ≡ 3) {n : ℕ} (e : n ≡ length (planOf p .levels)) where
+  abbrev five : List ℕ
+  five = r .level ∷ r .left ∷ getD (r .rows) 0 0 ∷ getD (r .rows) 1 0 ∷ getD (r .rows) 2 0 ∷ []
 
--- a report's bytes, one by one
-module _ (r : Report) (three : length (r .rows) ≡ 3) where
-  abbrev rows : List ℕ
-  rows = r .rows
+  end-first : take (n + 2) five ≡ endValues (planOf p) r
+  unfolding endValues
+  end-first =
+      let two : n + 2 ≡ suc (suc n) = omega arith in
+      ap (λ k. take k five) two ∙ ap₂ (λ k l. r .level ∷ r .left ∷ take k l) e (sym (three-are (r .rows) three))
 
-  pub report-is : {clash : List ℕ} → clash ≡ clashBytes (r .answer)
-      → r .level ∷ r .left ∷ getD rows 0 0 ∷ getD rows 1 0 ∷ getD rows 2 0 ∷ getD clash 0 0 ∷ getD clash 1 0 ∷ getD clash 2 0 ∷ [] ≡ reportBytes r
-  unfolding reportBytes
-  report-is e =
-      ap (λ c. r .level ∷ r .left ∷ getD rows 0 0 ∷ getD rows 1 0 ∷ getD rows 2 0 ∷ getD c 0 0 ∷ getD c 1 0 ∷ getD c 2 0 ∷ []) e
-      ∙ ap₂ (λ l c. r .level ∷ r .left ∷ l ++ c) (sym (three-are rows three)) (sym (clash-three (r .answer)))
+  -- a value that is written
+  pub end-at : (q : ℕ) → T (allBelow q (endValues (planOf p) r)) → (k : ℕ) → k < n + 2 → getD five k 0 < q
+  end-at q t k h =
+      let long = length-take-le (n + 2) five (omega (arith, levels-most p)) in
+      let small = below-at q (take (n + 2) five) (subst (λ l. T (allBelow q l)) (sym end-first) t) k (omega (arith, long)) in
+      omega (arith, small, getD-take (n + 2) five k 0 h)
+
+  -- after n + 2 turns of the loop that writes the five
+  pub end-padded : {k : ℕ} {bytes : List ℕ} → Padding 8 five k bytes → k ≡ n + 2 → bytes ≡ padded 8 (endValues (planOf p) r)
+  end-padded h all = h .copied ∙ ap (λ k. padded 8 (take k five)) all ∙ ap (padded 8) end-first

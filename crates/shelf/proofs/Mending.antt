@@ -5,6 +5,7 @@ use mathlib.Core.List.{List}
 use Prim.Native.Nat.{ℕ}
 use lib.ListN.{length}
 use Rattle.field.specs.Lists.{if_then_else_}
+use Rattle.plans.specs.Plan.{Plan, planOf}
 use Rattle.plans.specs.Answers.{answerNumber}
 use Rattle.repair.specs.Mending.{mendReport, mendStripe, mendMarks}
 use Rattle.plans.specs.declared.Report.{Report}
@@ -29,21 +30,21 @@ module _ (p : ℕ) (stripe marks report : List ℕ) where
 
   module _ (fits : length report ≡ 8) (mended : Report) (e : mended ≡ mendReport p stripe marks) where
     pub mends-fit : {n : ℕ} {s m r : List ℕ} → n ≡ answerNumber (mended .answer) → s ≡ mendStripe p stripe marks → m ≡ mendMarks p stripe marks
-        → r ≡ reportAfter mended report → Mended n s m r
+        → r ≡ reportAfter (planOf p) mended report → Mended n s m r
     unfolding mendNumber mendStripeBuffer mendMarksBuffer mendReportBuffer
     mends-fit en es em er = (
       en ∙ ap (λ (r : Report). answerNumber (r .answer)) e ∙ sym (sized-fit reportSize report _ _ fits),
       (
         es ∙ sym (sized-fit reportSize report _ _ fits),
-        (em ∙ sym (sized-fit reportSize report _ _ fits), er ∙ ap (λ r. reportAfter r report) e ∙ sym (sized-fit reportSize report _ _ fits)),
+        (em ∙ sym (sized-fit reportSize report _ _ fits), er ∙ ap (λ r. reportAfter (planOf p) r report) e ∙ sym (sized-fit reportSize report _ _ fits)),
       ),
     )
 
-module _ (r : Report) (report : List ℕ) where
-  pub after-refusal : refuses (r .answer) ≡ true → report ≡ reportAfter r report
+module _ (P : Plan) (r : Report) (report : List ℕ) where
+  pub after-refusal : refuses (r .answer) ≡ true → report ≡ reportAfter P r report
   unfolding reportAfter if_then_else_
-  after-refusal e = sym (ap (λ b. if b then report else reportBytes r) e)
+  after-refusal e = sym (ap (λ b. if b then report else reportBytes P r) e)
 
-  pub after-answer : refuses (r .answer) ≡ false → reportBytes r ≡ reportAfter r report
+  pub after-answer : refuses (r .answer) ≡ false → reportBytes P r ≡ reportAfter P r report
   unfolding reportAfter if_then_else_
-  after-answer e = sym (ap (λ b. if b then report else reportBytes r) e)
+  after-answer e = sym (ap (λ b. if b then report else reportBytes P r) e)

@@ -4,7 +4,7 @@ use mathlib.Core.List.{List}
 use lib.Dec.{eqb}
 use lib.ListN.{length}
 use Rattle.field.specs.Lists.{if_then_else_}
-use Rattle.plans.specs.Plan.{known}
+use Rattle.plans.specs.Plan.{Plan, planOf, known}
 use Rattle.plans.specs.Answers.{answerNumber, stepNumber, outcomeNumber}
 use Rattle.steps.specs.Steps.{started}
 use Rattle.repair.specs.File.{bytes2}
@@ -36,11 +36,11 @@ unfoldable pub mendMarksBuffer : ℕ → (stripe marks report : List ℕ) → Li
 mendMarksBuffer p stripe marks report = sized reportSize report (mendMarks p stripe marks) marks
 
 -- a refusal leaves the report as it was
-unfoldable pub reportAfter : Report → List ℕ → List ℕ
-reportAfter r report = if refuses (r .answer) then report else reportBytes r
+unfoldable pub reportAfter : Plan → Report → List ℕ → List ℕ
+reportAfter P r report = if refuses (r .answer) then report else reportBytes P r
 
 unfoldable pub mendReportBuffer : ℕ → (stripe marks report : List ℕ) → List ℕ
-mendReportBuffer p stripe marks report = sized reportSize report (reportAfter (mendReport p stripe marks) report) report
+mendReportBuffer p stripe marks report = sized reportSize report (reportAfter (planOf p) (mendReport p stripe marks) report) report
 
 -- ---- start and the steps
 

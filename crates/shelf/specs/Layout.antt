@@ -2,8 +2,11 @@
 use Prim.Native.Nat.{ℕ, _+_, _*_}
 use mathlib.Core.Bool.{Bool, true, false}
 use mathlib.Core.List.{List, [], _∷_, _++_, map, flatMap}
-use lib.ListN.{take, drop, getD}
+use lib.ListN.{take, drop, getD, replicate}
 use Rattle.field.specs.Lists.{upFrom}
+use Rattle.plans.specs.Plan.{Plan}
+use Rattle.plans.specs.Answers.{reportValues}
+use Rattle.plans.specs.Tables.{padded}
 use Rattle.repair.specs.File.{bytes4, wordAt}
 use Rattle.plans.specs.declared.Bench.{Bench}
 use Rattle.plans.specs.declared.Report.{Report}
@@ -18,20 +21,19 @@ abbrev pub reportSize : ℕ
 reportSize = 8
 
 -- a Clash's place: 1, row and level; or 2, 0 and level
-unfoldable pub placeBytes : Place → List ℕ
-placeBytes (Row row level) = 1 ∷ row ∷ level ∷ []
-placeBytes (Across level) = 2 ∷ 0 ∷ level ∷ []
+unfoldable pub placeBytes : Place → (values : List ℕ) → List ℕ
+placeBytes (Row row level) values = 1 ∷ getD values 1 0 ∷ getD values 0 0 ∷ []
+placeBytes (Across level) values = 2 ∷ 0 ∷ values
 
--- zeros where there is no Clash
-unfoldable pub clashBytes : Answer → List ℕ
-clashBytes Restored = 0 ∷ 0 ∷ 0 ∷ []
-clashBytes Stuck = 0 ∷ 0 ∷ 0 ∷ []
-clashBytes (Clash place) = placeBytes place
-clashBytes (Refused n) = 0 ∷ 0 ∷ 0 ∷ []
+-- level, rows left, and rows restored at levels 1, 2 and 3 stand in front, the place of a Clash behind; what the answer does not have is 0
+unfoldable pub answerBytes : Answer → (values : List ℕ) → List ℕ
+answerBytes Restored values = padded reportSize values
+answerBytes Stuck values = padded reportSize values
+answerBytes (Clash place) values = replicate 5 0 ++ placeBytes place values
+answerBytes (Refused n) values = replicate reportSize 0
 
--- level, rows left, rows restored at levels 1, 2 and 3, and the place of a Clash
-unfoldable pub reportBytes : Report → List ℕ
-reportBytes r = r .level ∷ r .left ∷ r .rows ++ clashBytes (r .answer)
+unfoldable pub reportBytes : Plan → Report → List ℕ
+reportBytes P r = answerBytes (r .answer) (reportValues P r)
 
 unfoldable pub refuses : Answer → Bool
 refuses Restored = false

@@ -5,55 +5,56 @@ use repair::Answer;
 use repair::Bench;
 use repair::Place;
 use repair::Report;
+use repair::plan;
 ghost use mathlib.Core.Path.{_≡_};
+ghost use mathlib.Core.List.{_++_};
 ghost use Prim.Native.Nat.{_<_};
 ghost use lib.Dec.{T};
-ghost use lib.ListN.{length};
+ghost use lib.ListN.{length, replicate};
+ghost use Rattle.plans.specs.Plan.{planOf};
+ghost use Rattle.plans.specs.Answers.{placeValues, endValues, reportValues};
 ghost use Rattle.plans.specs.Refusal.{allBelow};
-ghost use Rattle.shelf.specs.Layout.{placeBytes, clashBytes, reportBytes, benchBytes, benchIn};
+ghost use Rattle.plans.specs.Tables.{padded};
+ghost use Rattle.shelf.specs.Layout.{placeBytes, reportBytes, benchBytes, benchIn};
 
-// A Clash's place.
-fn place_bytes(place: Place) -> [u8; 3]
-    requires { ⌜ T (allBelow 256 (placeBytes place)) ⌝ }
-    ensures { λ r. ⌜ r ≡ placeBytes place ⌝ }
+// The values of Restored and of Stuck, zeros behind them.
+fn end_bytes(plan: usize, report: Report) -> [u8; 8]
+    requires { ⌜ T (allBelow 256 (endValues (planOf plan) report)) ⌝ }
+    ensures { λ r. ⌜ r ≡ padded 8 (endValues (planOf plan) report) ⌝ }
 {
-    match place {
-        Place::Row { row, level } => [1, row as u8, level as u8],
-        Place::Across { level } => [2, 0, level as u8],
+    let rows = report.rows;
+    let values = [report.level, report.left, rows[0], rows[1], rows[2]];
+    let size = plan::levels(plan) + 2;
+    let mut bytes = [0u8; 8];
+    for k in 0..size {
+        bytes[k] = values[k] as u8;
     }
+    bytes
 }
 
-// A Clash's place; zeros where there is no Clash.
-fn clash_bytes(answer: Answer) -> [u8; 3]
-    requires { ⌜ T (allBelow 256 (clashBytes answer)) ⌝ }
-    ensures { λ r. ⌜ r ≡ clashBytes answer ⌝ }
+// A Clash's place, behind zeros.
+fn clash_bytes(place: Place) -> [u8; 8]
+    requires { ⌜ T (allBelow 256 (placeValues place)) ⌝ }
+    ensures { λ r. ⌜ r ≡ replicate 5 0 ++ placeBytes place (placeValues place) ⌝ }
 {
-    match answer {
-        Answer::Restored => [0, 0, 0],
-        Answer::Stuck => [0, 0, 0],
-        Answer::Clash(place) => place_bytes(place),
-        Answer::Refused(_) => [0, 0, 0],
+    match place {
+        Place::Row { row, level } => [0, 0, 0, 0, 0, 1, row as u8, level as u8],
+        Place::Across { level } => [0, 0, 0, 0, 0, 2, 0, level as u8],
     }
 }
 
 // A report's bytes.
-pub fn report_bytes(report: Report) -> [u8; 8]
-    requires { ⌜ T (allBelow 256 (reportBytes report)) ⌝ }
-    ensures { λ r. ⌜ r ≡ reportBytes report ⌝ }
+pub fn report_bytes(plan: usize, report: Report) -> [u8; 8]
+    requires { ⌜ T (allBelow 256 (reportValues (planOf plan) report)) ⌝ }
+    ensures { λ r. ⌜ r ≡ reportBytes (planOf plan) report ⌝ }
 {
     let answer = report.answer;
-    let rows = report.rows;
-    let clash = clash_bytes(answer);
-    [
-        report.level as u8,
-        report.left as u8,
-        rows[0] as u8,
-        rows[1] as u8,
-        rows[2] as u8,
-        clash[0],
-        clash[1],
-        clash[2],
-    ]
+    match answer {
+        Answer::Restored => end_bytes(plan, report),
+        Answer::Stuck => end_bytes(plan, report),
+        Answer::Clash(place) => clash_bytes(place),
+        Answer::Refused(_) => [0; 8],
+    }
 }
 
 // Writes the room of a text over the whole of `out`.

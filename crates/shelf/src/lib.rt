@@ -90,7 +90,7 @@ pub extern "C" fn shelf_mend(
     if numbers::is_refusal(answer) {
         return number;
     }
-    let bytes = layout::report_bytes(mended);
+    let bytes = layout::report_bytes(plan, mended);
     files::buffer::put(&bytes, report, 0);
     number
 }

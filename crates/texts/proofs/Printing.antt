@@ -17,13 +17,13 @@ use Rattle.linear.specs.Lists.{all, only}
 use Rattle.linear.specs.Marks.{bitsOf}
 use Rattle.linear.specs.Fill.{none, one}
 use Rattle.plans.specs.Plan.{Plan, planOf, known, rowAt, marksAt}
-use Rattle.plans.specs.Answers.{answerNumber, placeValues, answerValues, reportValues}
+use Rattle.plans.specs.Answers.{answerNumber, placeValues, endValues, answerValues, reportValues}
 use Rattle.plans.specs.Refusal.{unasked, allBelow, unmarkedBelow, symbolsFit, lentRefusal}
 use Rattle.steps.specs.Steps.{fresh, rowStep, lossy, levelStep}
 use Rattle.steps.specs.Rounds.{Standing, Turn, on, end, clash, more as moreRows, nextRow, afterRow, afterLevel, takeTurn, goOn, turns}
 use Rattle.repair.specs.Mending.{mended, rowsLeft, endReport, bare, turnReport, turnStripe, turnMarks, mendReport, mendStripe, mendMarks}
 use Rattle.repair.specs.File.{planIn, symbolsIn, marksIn, fileRefusal}
-use Rattle.repair.specs.Text.{item, lineEnd, reportText, mendText, printed}
+use Rattle.repair.specs.Text.{item, lineEnd, grid, answerText, mendText, printed}
 use Rattle.plans.specs.declared.Step.{Step}
 use Rattle.plans.specs.declared.Step.the-variants.{Whole, Filled, Tied, Raised, Blocked, Top, Clash, Refused}
 use Rattle.plans.specs.declared.Answer.the-variants.{Restored, Stuck}
@@ -84,6 +84,12 @@ below-none = tt
 below-each : (l : List ℕ) → ((i : ℕ) → getD l i 0 < 100) → T (allBelow 100 l)
 below-each [] h = below-none
 below-each (x ∷ l) h = below-more x l (h 0) (below-each l (λ i. h (suc i)))
+
+take-le : (k : ℕ) (l : List ℕ) (n : ℕ) → ((i : ℕ) → getD l i 0 ≤ n) → (i : ℕ) → getD (take k l) i 0 ≤ n
+take-le zero l n h i = omega arith
+take-le (suc k) [] n h i = h i
+take-le (suc k) (x ∷ l) n h zero = h zero
+take-le (suc k) (x ∷ l) n h (suc i) = take-le k l n (λ i. h (suc i)) i
 
 more : (p n k : ℕ) (m : Standing) → n ≤ k → After p n m → After p k m
 more p n k m h a = record { sound = a .sound; plan = a .plan; three = a .three; few = λ i. let w = a .few i in omega arith }
@@ -248,36 +254,28 @@ module _ (p : ℕ) (stripe marks : List ℕ) (e : lentRefusal p stripe marks ≡
       let marked : ℕ → Bool = λ r. not (eqb (getD (m .bench .marks) r 0) 0) in
       omega (arith, only-length (λ m. m) (map marked (upFrom 0 R)), length-map (upFrom 0 R) marked, length-up 0 R)
 
-  beside : (m : Standing) → After p 27 m → T (allBelow 100 (m .bench .level ∷ rowsLeft (m .bench) ∷ m .restored))
-  beside m a =
-      below-more (m .bench .level) (rowsLeft (m .bench) ∷ m .restored) (omega (arith, level-low p 27 m a))
-      (below-more (rowsLeft (m .bench)) (m .restored) (left-low m a) (below-each (m .restored) (λ i. let w = a .few i in omega arith)))
+  end-values : (m : Standing) → After p 27 m → T (allBelow 100 (endValues P (endReport m)))
+  unfolding endValues endReport
+  end-values m a =
+      let counts = take (length (P .levels)) (m .restored) in
+      below-more (m .bench .level) (rowsLeft (m .bench) ∷ counts) (omega (arith, level-low p 27 m a))
+      (below-more (rowsLeft (m .bench)) counts (left-low m a)
+      (below-each counts (λ i. let w = take-le (length (P .levels)) (m .restored) 27 (a .few) i in omega arith)))
 
   end-below : (m : Standing) → After p 27 m → (b : Bool)
-      → (answerNumber (if b then Restored else Stuck) < 100)
-      × T (allBelow 100 (answerValues (if b then Restored else Stuck) (m .bench .level ∷ rowsLeft (m .bench) ∷ m .restored)))
+      → (answerNumber (if b then Restored else Stuck) < 100) × T (allBelow 100 (answerValues (if b then Restored else Stuck) (endValues P (endReport m))))
   unfolding if_then_else_ answerNumber answerValues
-  end-below m a true = (omega arith, beside m a)
-  end-below m a false = (omega arith, beside m a)
+  end-below m a true = (omega arith, end-values m a)
+  end-below m a false = (omega arith, end-values m a)
 
-  pub report-below : (answerNumber (mendReport p stripe marks .answer) < 100) × T (allBelow 100 (reportValues (mendReport p stripe marks)))
+  pub report-below : (answerNumber (mendReport p stripe marks .answer) < 100) × T (allBelow 100 (reportValues P (mendReport p stripe marks)))
   unfolding if_then_else_ reportValues answerNumber answerValues endReport bare turnReport mendReport
   report-below = rw e (go (mended p stripe marks) reached)
     where
-      go : (t : Turn) → Reached p 27 t → (answerNumber (turnReport t .answer) < 100) × T (allBelow 100 (reportValues (turnReport t)))
+      go : (t : Turn) → Reached p 27 t → (answerNumber (turnReport t .answer) < 100) × T (allBelow 100 (reportValues P (turnReport t)))
       go (on m) a = end-below m a (eqb (rowsLeft (m .bench)) 0)
       go (end m) a = end-below m a (eqb (rowsLeft (m .bench)) 0)
       go (clash place) a = (omega arith, a)
-
-  -- the numbers beside any answer; a Clash leaves them 0
-  pub beside-report : let r = mendReport p stripe marks in T (allBelow 100 (r .level ∷ r .left ∷ r .rows))
-  unfolding if_then_else_ all allBelow endReport bare turnReport mendReport
-  beside-report = rw e (go (mended p stripe marks) reached)
-    where
-      go : (t : Turn) → Reached p 27 t → T (allBelow 100 (turnReport t .level ∷ turnReport t .left ∷ turnReport t .rows))
-      go (on m) a = beside m a
-      go (end m) a = beside m a
-      go (clash place) a = tt
 
 -- a report, a stripe and marks that can be printed
 pub record Printable (p : ℕ) (r : Report) (s m : List ℕ) : Type 0 where
@@ -286,13 +284,13 @@ pub record Printable (p : ℕ) (r : Report) (s m : List ℕ) : Type 0 where
   pub words : length m ≡ planOf p .rows
   pub symbols : T (symbolsFit (planOf p) m s)
   pub answer : answerNumber (r .answer) < 100
-  pub values : T (allBelow 100 (reportValues r))
+  pub values : T (allBelow 100 (reportValues (planOf p) r))
 
 pub mend-printable : (p : ℕ) (stripe marks : List ℕ) → lentRefusal p stripe marks ≡ 0 → {r : Report} {s m : List ℕ} → r ≡ mendReport p stripe marks
     → s ≡ mendStripe p stripe marks → m ≡ mendMarks p stripe marks → Printable p r s m
 mend-printable p stripe marks e er es em =
     let f = lent-fit p stripe marks e in
-    let below = subst (λ r. (answerNumber (r .answer) < 100) × T (allBelow 100 (reportValues r))) (sym er) (report-below p stripe marks e) in
+    let below = subst (λ r. (answerNumber (r .answer) < 100) × T (allBelow 100 (reportValues (planOf p) r))) (sym er) (report-below p stripe marks e) in
     record {
       plan-known = f .plan-known;
       long = ap length es ∙ mend-stripe-length p stripe marks e ∙ f .long;
@@ -305,7 +303,8 @@ mend-printable p stripe marks e er es em =
 -- the text of a report, a stripe and marks that are those of mending
 pub text-mended : (p : ℕ) (stripe marks : List ℕ) {r : Report} {s m : List ℕ} → r ≡ mendReport p stripe marks
     → s ≡ mendStripe p stripe marks → m ≡ mendMarks p stripe marks
-    → mendText p stripe marks ≡ item "plan " p ++ item " answer " (answerNumber (r .answer)) ++ reportText p r (r .answer) s m
+    → mendText p stripe marks
+    ≡ item "plan " p ++ item " answer " (answerNumber (r .answer)) ++ answerText (r .answer) (reportValues (planOf p) r) (grid (planOf p) s m)
 unfolding mendText
 text-mended p stripe marks er es em = rw (er, es, em)
 

@@ -1,13 +1,14 @@
--- The text's digits and rows, place by place. Assumes nothing.
-use mathlib.Core.Path.{_≡_, ap, _∙_, subst}
+-- The text's digits, values and rows, place by place. Assumes nothing.
+use mathlib.Core.Path.{_≡_, refl, sym, ap, _∙_, subst}
 use mathlib.Core.Bool.{Bool, true, false, _||_}
-use mathlib.Core.List.{List, [], _∷_}
+use mathlib.Core.List.{List, [], _∷_, _++_, flatMap, append-assoc, append-nil}
 use Prim.Native.Nat.{ℕ, zero, suc, _+_, _/_, _%_, _^_, _≤_, _<_}
 use native.Mathlib.Nat.{not-suc-le-zero, le-of-suc-le-suc, le-trans}
 use native.Mathlib.Omega.{arith}
 use borrow.Author.Tests.{lt-ltb, le-ltb}
 use lib.Dec.{T, eqb, ltb, ltb→lt, lt→ltb, lit<, lit≤}
-use lib.ListN.{length, getD}
+use lib.ListN.{length, take, getD}
+use lib.Seq.{length-take-le}
 use Rattle.field.specs.Lists.{if_then_else_}
 use Rattle.field.specs.Field.{size, gf2, gf16}
 use Rattle.field.proofs.Test.{both-left, both-right, both}
@@ -15,13 +16,14 @@ use Rattle.linear.specs.Lists.{all, first, rest, beside}
 use Rattle.linear.specs.Marks.{bitsOf}
 use Rattle.linear.proofs.Marked.{bits-at}
 use Rattle.linear.proofs.Beside.{length-beside-bits, beside-bits-at}
-use Rattle.plans.specs.Plan.{plan1, plan2, plan3, planOf, known, rowAt, marksAt}
+use Rattle.plans.specs.Plan.{Plan, plan1, plan2, plan3, planOf, known, rowAt, marksAt}
 use Rattle.plans.specs.Refusal.{allBelow, unmarkedBelow, symbolsFit}
-use Rattle.plans.specs.Answers.{placeValues}
+use Rattle.plans.specs.Answers.{placeValues, endValues}
+use Rattle.plans.specs.declared.Report.{Report}
 use Rattle.plans.specs.declared.Place.{Place}
 use Rattle.plans.specs.declared.Place.the-variants.{Row, Across}
-use Rattle.repair.specs.Text.{digitsIn, decimal, hex, shown}
-use Rattle.plans.proofs.Shape.{of-known}
+use Rattle.repair.specs.Text.{bytes, digitsIn, decimal, hex, item, shown, captioned, endText, placeText}
+use Rattle.plans.proofs.Shape.{of-known, shape}
 use Rattle.steps.proofs.Fit.{all-rows, symbols-fit}
 use Rattle.plans.proofs.Scan.{fitsIn, row-up}
 
@@ -43,6 +45,8 @@ below-at q [] t i h = absurd (not-suc-le-zero h)
 below-at q (x ∷ xs) t zero h = ltb→lt x q (both-left (ltb x q) (allBelow q xs) t)
 below-at q (x ∷ xs) t (suc i) h = below-at q xs (both-right (ltb x q) (allBelow q xs) t) i (le-of-suc-le-suc h)
 
+-- ---- the values of a Clash
+
 pub row-below : {place : Place} {row level q : ℕ} → place ≡ Row row level → T (allBelow q (placeValues place)) → (level < q) × (row < q)
 unfolding placeValues
 row-below {place} {row} {level} {q} e t =
@@ -52,14 +56,56 @@ pub across-below : {place : Place} {level q : ℕ} → place ≡ Across level �
 unfolding placeValues
 across-below {place} {level} {q} e t = below-at q (level ∷ []) (subst (λ p. T (allBelow q (placeValues p))) e t) 0 (lit< tt)
 
-pub beside-below : (q level left : ℕ) (rows : List ℕ) → T (allBelow q (level ∷ left ∷ rows)) → (level < q) × (left < q) × T (allBelow q rows)
-unfolding all allBelow
-beside-below q level left rows t =
-    let u = both-right (ltb level q) (allBelow q (left ∷ rows)) t in (
-      ltb→lt level q (both-left (ltb level q) (allBelow q (left ∷ rows)) t),
-      ltb→lt left q (both-left (ltb left q) (allBelow q rows) u),
-      both-right (ltb left q) (allBelow q rows) u,
+pub row-text : {place : Place} {row level : ℕ} → place ≡ Row row level
+    → placeText place (placeValues place) ≡ item " level " level ++ item " place row " row
+unfolding placeValues captioned placeText
+row-text {row} {level} e =
+    ap (λ p. placeText p (placeValues p)) e ∙ ap (λ l. item " level " level ++ l) (append-nil (item " place row " row))
+
+pub across-text : {place : Place} {level : ℕ} → place ≡ Across level
+    → placeText place (placeValues place) ≡ item " level " level ++ bytes " place across"
+unfolding placeValues captioned placeText
+across-text {level} e =
+    ap (λ p. placeText p (placeValues p)) e ∙ ap (λ l. l ++ bytes " place across") (append-nil (item " level " level))
+
+-- ---- the values of Restored and Stuck
+
+pub end-below : (q : ℕ) (P : Plan) (r : Report) → T (allBelow q (endValues P r))
+    → (r .level < q) × (r .left < q) × T (allBelow q (take (length (P .levels)) (r .rows)))
+unfolding all allBelow endValues
+end-below q P r t =
+    let counts = take (length (P .levels)) (r .rows) in
+    let u = both-right (ltb (r .level) q) (allBelow q (r .left ∷ counts)) t in (
+      ltb→lt (r .level) q (both-left (ltb (r .level) q) (allBelow q (r .left ∷ counts)) t),
+      ltb→lt (r .left) q (both-left (ltb (r .left) q) (allBelow q counts) u),
+      both-right (ltb (r .left) q) (allBelow q counts) u,
     )
+
+-- each count behind a space
+spaced : (counts : List ℕ) → length counts ≤ 2 → captioned (" " ∷ " " ∷ []) counts ≡ flatMap (item " ") counts
+unfolding flatMap captioned
+spaced [] h = refl
+spaced (x ∷ []) h = refl
+spaced (x ∷ y ∷ []) h = refl
+spaced (x ∷ y ∷ z ∷ counts) h = absurd (omega arith)
+
+counts-text : (level left : ℕ) (counts : List ℕ) → 0 < length counts → length counts ≤ 3
+    → endText (level ∷ left ∷ counts) ≡ item " level " level ++ item " left " left ++ bytes " rows" ++ flatMap (item " ") counts
+unfolding bytes item flatMap captioned endText
+counts-text level left [] l h = absurd (omega arith)
+counts-text level left (x ∷ counts) l h =
+    ap (λ c. item " level " level ++ (item " left " left ++ (item " rows " x ++ c))) (spaced counts (omega arith))
+    ∙ sym (append-assoc (item " level " level ++ item " left " left) (bytes " rows") (flatMap (item " ") (x ∷ counts))
+    ∙ append-assoc (item " level " level) (item " left " left) (bytes " rows" ++ flatMap (item " ") (x ∷ counts)))
+
+pub end-text : (p : ℕ) → T (known p) → (r : Report) → length (r .rows) ≡ 3
+    → endText (endValues (planOf p) r)
+    ≡ item " level " (r .level) ++ item " left " (r .left) ++ bytes " rows" ++ flatMap (item " ") (take (length (planOf p .levels)) (r .rows))
+unfolding endValues
+end-text p k r three =
+    let fits = shape p k in
+    let long = length-take-le (length (planOf p .levels)) (r .rows) (omega (arith, fits .levels-le)) in
+    counts-text (r .level) (r .left) (take (length (planOf p .levels)) (r .rows)) (omega (arith, long, fits .levels-pos)) (omega (arith, long, fits .levels-le))
 
 -- ---- rows
 

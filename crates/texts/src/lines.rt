@@ -9,19 +9,19 @@ use repair::Report;
 use repair::plan;
 ghost use mathlib.Core.Path.{_≡_};
 ghost use mathlib.Core.Bool.{false};
-ghost use mathlib.Core.List.{_∷_, _++_, flatMap};
+ghost use mathlib.Core.List.{_++_, flatMap};
 ghost use Prim.Native.Nat.{_+_, _*_, _/_, _%_, _^_, _≤_, _<_};
 ghost use lib.Dec.{T, eqb};
 ghost use lib.ListN.{length, take};
 ghost use Rattle.field.specs.Lists.{if_then_else_};
 ghost use Rattle.linear.specs.Marks.{bitsOf};
 ghost use Rattle.plans.specs.Plan.{planOf, known};
-ghost use Rattle.plans.specs.Answers.{answerNumber, placeValues, reportValues};
+ghost use Rattle.plans.specs.Answers.{answerNumber, placeValues, endValues, reportValues};
 ghost use Rattle.plans.specs.Refusal.{allBelow, unmarkedBelow, symbolsFit, unasked, lentRefusal};
 ghost use Rattle.repair.specs.File.{planIn, symbolsIn, marksIn, fileRefusal};
 ghost use Rattle.files.specs.Written.{Put};
-ghost use Rattle.repair.specs.Text.{decimal, hex, «item» as itemOf, lineEnd, shown, «grid» as gridOf, placeText, summary, reportText};
-ghost use Rattle.repair.specs.Text.{mendText, printed};
+ghost use Rattle.repair.specs.Text.{decimal, hex, «item» as itemOf, lineEnd, shown, «grid» as gridOf};
+ghost use Rattle.repair.specs.Text.{endText, placeText, answerText, mendText, printed};
 
 // ---- bytes. Each function writes from `at` on and gives the place behind what it wrote; the rest of `out` is unchanged.
 
@@ -115,7 +115,7 @@ fn put_count(n: usize, out: &mut [u8], at: usize) -> usize
 
 // The first of these counts, up to 3.
 fn put_counts(levels: usize, counts: &[usize], out: &mut [u8], at: usize) -> usize
-    requires { ⌜ (levels ≤ 3) × (levels ≤ length (now counts)) × T (allBelow 100 (now counts)) ⌝ }
+    requires { ⌜ (levels ≤ 3) × (levels ≤ length (now counts)) × T (allBelow 100 (take levels (now counts))) ⌝ }
     requires { ⌜ at + 9 ≤ length (now out) ⌝ }
     ensures { λ r. ⌜ Put (now (out .entry)) at (flatMap (itemOf " ") (take levels (now (counts .entry)))) r (now (out .exit)) ⌝ }
     ensures { λ r. ⌜ r ≤ at + 9 ⌝ }
@@ -139,9 +139,9 @@ fn put_reached(level: usize, left: usize, out: &mut [u8], at: usize) -> usize
 
 // Level, rows left, and rows restored at each level of the plan.
 fn put_summary(plan: usize, report: Report, out: &mut [u8], at: usize) -> usize
-    requires { ⌜ T (allBelow 100 (report .level ∷ report .left ∷ report .rows)) ⌝ }
+    requires { ⌜ T (known plan) × T (allBelow 100 (endValues (planOf plan) report)) ⌝ }
     requires { ⌜ at + 32 ≤ length (now out) ⌝ }
-    ensures { λ r. ⌜ Put (now (out .entry)) at (summary plan report) r (now (out .exit)) ⌝ }
+    ensures { λ r. ⌜ Put (now (out .entry)) at (endText (endValues (planOf plan) report) ++ lineEnd) r (now (out .exit)) ⌝ }
     ensures { λ r. ⌜ r ≤ at + 32 ⌝ }
 {
     let counts = report.rows;
@@ -155,7 +155,7 @@ fn put_summary(plan: usize, report: Report, out: &mut [u8], at: usize) -> usize
 fn put_place(place: Place, out: &mut [u8], at: usize) -> usize
     requires { ⌜ T (allBelow 100 (placeValues place)) ⌝ }
     requires { ⌜ at + 22 ≤ length (now out) ⌝ }
-    ensures { λ r. ⌜ Put (now (out .entry)) at (placeText place) r (now (out .exit)) ⌝ }
+    ensures { λ r. ⌜ Put (now (out .entry)) at (placeText place (placeValues place)) r (now (out .exit)) ⌝ }
     ensures { λ r. ⌜ r ≤ at + 22 ⌝ }
 {
     match place {
@@ -183,8 +183,8 @@ fn put_end(
     requires { ⌜ length (now marks) ≡ planOf plan .rows ⌝ }
     requires { ⌜ length (now stripe) ≡ planOf plan .rows * planOf plan .columns ⌝ }
     requires { ⌜ T (symbolsFit (planOf plan) (now marks) (now stripe)) ⌝ }
-    requires { ⌜ T (allBelow 100 (report .level ∷ report .left ∷ report .rows)) × (at + 296 ≤ length (now out)) ⌝ }
-    ensures { λ r. ⌜ Put (now (out .entry)) at (summary plan report ++ gridOf (planOf plan) (now (stripe .entry)) (now (marks .entry))) r (now (out .exit)) ⌝ }
+    requires { ⌜ T (allBelow 100 (endValues (planOf plan) report)) × (at + 296 ≤ length (now out)) ⌝ }
+    ensures { λ r. ⌜ Put (now (out .entry)) at (endText (endValues (planOf plan) report) ++ lineEnd ++ gridOf (planOf plan) (now (stripe .entry)) (now (marks .entry))) r (now (out .exit)) ⌝ }
 {
     let next = put_summary(plan, report, out, at);
     put_grid(plan, stripe, marks, out, next)
@@ -194,7 +194,7 @@ fn put_end(
 fn put_clash(place: Place, out: &mut [u8], at: usize) -> usize
     requires { ⌜ T (allBelow 100 (placeValues place)) ⌝ }
     requires { ⌜ at + 23 ≤ length (now out) ⌝ }
-    ensures { λ r. ⌜ Put (now (out .entry)) at (placeText place ++ lineEnd) r (now (out .exit)) ⌝ }
+    ensures { λ r. ⌜ Put (now (out .entry)) at (placeText place (placeValues place) ++ lineEnd) r (now (out .exit)) ⌝ }
 {
     let next = put_place(place, out, at);
     buffer::put(b"\n", out, next)
@@ -213,8 +213,8 @@ fn put_report(
     requires { ⌜ length (now marks) ≡ planOf plan .rows ⌝ }
     requires { ⌜ length (now stripe) ≡ planOf plan .rows * planOf plan .columns ⌝ }
     requires { ⌜ T (symbolsFit (planOf plan) (now marks) (now stripe)) ⌝ }
-    requires { ⌜ T (allBelow 100 (reportValues report)) × (at + 296 ≤ length (now out)) ⌝ }
-    ensures { λ r. ⌜ Put (now (out .entry)) at (reportText plan report (report .answer) (now (stripe .entry)) (now (marks .entry))) r (now (out .exit)) ⌝ }
+    requires { ⌜ T (allBelow 100 (reportValues (planOf plan) report)) × (at + 296 ≤ length (now out)) ⌝ }
+    ensures { λ r. ⌜ Put (now (out .entry)) at (answerText (report .answer) (reportValues (planOf plan) report) (gridOf (planOf plan) (now (stripe .entry)) (now (marks .entry)))) r (now (out .exit)) ⌝ }
 {
     let answer = report.answer;
     match answer {

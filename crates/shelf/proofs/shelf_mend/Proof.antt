@@ -37,7 +37,7 @@ returns-2 c =
     let mend = mend2 in
     let refuses = sym (c .before .is-refusal .ensures) ∙ c .if2 .taken in
     mends-fit _ _ _ _ (if1 .left) _ (mend .ensures .0) (of-answer .ensures) (mend .ensures .1 .0) (mend .ensures .1 .1)
-    (after-refusal _ _ refuses)
+    (after-refusal _ _ _ refuses)
 
 report-bytes-requires : tie.Need-report-bytes-requires
 report-bytes-requires c κs = report-fits _ _ _ (c .before .before .before .before .before .before .before .mend .ensures .0)
@@ -71,7 +71,7 @@ returns-3 c =
     let bytes = report-bytes .ensures in
     let refuses = sym (is-refusal .ensures) ∙ if2 .left in
     mends-fit _ _ _ _ fits _ (mend .ensures .0) (of-answer .ensures) (mend .ensures .1 .0) (mend .ensures .1 .1)
-    (put-whole (put .ensures) (omega (arith, fits)) ∙ bytes ∙ after-answer _ _ refuses)
+    (put-whole (put .ensures) (omega (arith, fits)) ∙ bytes ∙ after-answer _ _ _ refuses)
 
 pub shelf-mend-spec : {M : Type 1} → statement M
 shelf-mend-spec =

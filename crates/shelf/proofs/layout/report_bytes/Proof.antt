@@ -1,76 +1,82 @@
--- `shelf::layout::report_bytes` meets its contract. Assumes nothing.
-use mathlib.Core.Path.{_≡_, sym, _∙_}
-use Prim.Native.Nat.{ℕ, _<_}
-use lib.Dec.{lit<}
-use lib.ListN.{length, getD, length-map}
-use Rattle.texts.proofs.Texts.{below-at}
-use Rattle.shelf.proofs.Bytes.{report-is}
-use Rattle.shelf.proofs.Fitting.{fitting-parts}
-use native.Mathlib.Omega.{arith}
+-- `shelf::layout::report_bytes` meets its contract: by the answer. Assumes nothing.
+use mathlib.Core.List.{List}
+use mathlib.Core.Path.{_≡_, sym, ap, subst, _∙_}
+use Prim.Native.Nat.{ℕ}
+use lib.Dec.{T}
+use Rattle.plans.specs.Plan.{planOf}
+use Rattle.plans.specs.Answers.{endValues, answerValues, reportValues}
+use Rattle.plans.specs.Refusal.{allBelow}
+use Rattle.plans.specs.declared.Answer.{Answer}
+use Rattle.shelf.specs.Layout.{answerBytes, reportBytes}
 use borrow.Author.Needs.{needs}
 use Rattle.shelf.proofs.layout.report_bytes.Statement.{statement}
 use Rattle.shelf.proofs.layout.report_bytes.Tie as tie
 
-rows-long : (c : tie.Start) → length (c .args .report .rows) ≡ 3
-rows-long c = sym (length-map (c .args .report .rows) (λ v. v)) ∙ c .good .0 .1 .1 .1 .1 .0 .1 .0 .1
+-- what is known of the answer's values and of its bytes, once the answer is known
 
--- each count of rows is a byte
-row-count : (c : tie.Start) (i : ℕ) → i < 3 → getD (c .args .report .rows) i 0 < 256
-row-count c i h = below-at 256 (c .args .report .rows) (fitting-parts _ (c .pre) .2) i (omega (arith, rows-long c))
+values : (c : tie.Start) → Answer → List ℕ
+values c a = answerValues a (endValues (planOf (c .args .plan)) (c .args .report))
+
+small : (c : tie.Start) {a : Answer} → c .args .report .answer ≡ a → T (allBelow 256 (values c a))
+unfolding values reportValues
+small c e = subst (λ a. T (allBelow 256 (values c a))) e (c .pre)
+
+is : (c : tie.Start) {a : Answer} → c .args .report .answer ≡ a → answerBytes a (values c a) ≡ reportBytes (planOf (c .args .plan)) (c .args .report)
+unfolding values reportValues reportBytes
+is c e = sym (ap (λ a. answerBytes a (values c a)) e)
+
+enum-told : tie.Need-enum-told
+enum-told c = search needs
+
+end-bytes-requires : tie.Need-end-bytes-requires
+unfolding values answerValues
+end-bytes-requires c κs = small (c .before .before) (c .enum-told .given .1)
+
+enum-told-2 : tie.Need-enum-told-2
+enum-told-2 c = search needs
+
+end-bytes-requires-2 : tie.Need-end-bytes-requires-2
+unfolding values answerValues
+end-bytes-requires-2 c κs = small (c .before .before) (c .enum-told2 .given .1)
+
+enum-known-answer : tie.Need-enum-known-answer
+enum-known-answer c = search needs
 
 clash-bytes-requires : tie.Need-clash-bytes-requires
-clash-bytes-requires c κs = fitting-parts _ (c .before .pre) .3
+unfolding values answerValues
+clash-bytes-requires c κs = small (c .before .before .before) (c .before .answer .given .1)
 
-cast-t6 : tie.Need-cast-t6
-cast-t6 c = omega (arith, fitting-parts _ (c .before .before .before .pre) .0)
-
-cast-t7 : tie.Need-cast-t7
-cast-t7 c = omega (arith, fitting-parts _ (c .before .before .before .before .pre) .1)
-
-array-read-t10 : tie.Need-array-read-t10
-array-read-t10 c = search needs
-
-cast-t11 : tie.Need-cast-t11
-cast-t11 c = omega (arith, row-count (c .before .before .before .before) 0 (lit< tt))
-
-array-read-t14 : tie.Need-array-read-t14
-array-read-t14 c = search needs
-
-cast-t15 : tie.Need-cast-t15
-cast-t15 c = omega (arith, row-count (c .before .before .before .before) 1 (lit< tt))
-
-array-read-t18 : tie.Need-array-read-t18
-array-read-t18 c = search needs
-
-cast-t19 : tie.Need-cast-t19
-cast-t19 c = omega (arith, row-count (c .before .before .before .before) 2 (lit< tt))
-
-array-read-t22 : tie.Need-array-read-t22
-array-read-t22 c = search needs
-
-array-read-t25 : tie.Need-array-read-t25
-array-read-t25 c = search needs
-
-array-read-t28 : tie.Need-array-read-t28
-array-read-t28 c = search needs
+enum-told-3 : tie.Need-enum-told-3
+enum-told-3 c = search needs
 
 returns : tie.Need-returns
-returns c = report-is _ (rows-long (c .before .before .before .before)) (c .before .before .clash-bytes .ensures)
+unfolding values answerValues answerBytes
+returns c = c .end-bytes .ensures ∙ is (c .before .before .before) (c .before .enum-told .given .1)
+
+returns-2 : tie.Need-returns-2
+unfolding values answerValues answerBytes
+returns-2 c = c .end-bytes2 .ensures ∙ is (c .before .before .before) (c .before .enum-told2 .given .1)
+
+returns-3 : tie.Need-returns-3
+unfolding values answerValues answerBytes
+returns-3 c = c .clash-bytes .ensures ∙ is (c .before .before .before .before) (c .before .before .answer .given .1)
+
+returns-4 : tie.Need-returns-4
+unfolding values answerBytes
+returns-4 c = is (c .before .before) (c .enum-told3 .given .1)
 
 pub report-bytes-spec : {M : Type 1} → statement M
 report-bytes-spec =
     tie.close
     (tie.spec
+    enum-told
+    end-bytes-requires
+    enum-told-2
+    end-bytes-requires-2
+    enum-known-answer
     clash-bytes-requires
-    cast-t6
-    cast-t7
-    array-read-t10
-    cast-t11
-    array-read-t14
-    cast-t15
-    array-read-t18
-    cast-t19
-    array-read-t22
-    array-read-t25
-    array-read-t28
-    returns)
+    enum-told-3
+    returns
+    returns-2
+    returns-3
+    returns-4)

@@ -30,7 +30,10 @@ put-count-requires : tie.Need-put-count-requires Inv-loop μ-loop
 put-count-requires c κs =
     let s = c .before .before .before .before .before .before in
     let l = c .before .before .before .loop in
-    (below-at 100 (s .args .counts .now) (s .pre .0 .2) (l .k) (omega arith), omega (arith, l .inv .0, joining-length _ _ _ _ (l .inv .1)))
+    let levels = s .args .levels in
+    let counts = s .args .counts .now in
+    let small = below-at 100 (take levels counts) (s .pre .0 .2) (l .k) (omega (arith, length-take-le levels counts (s .pre .0 .1))) in
+    (omega (arith, small, getD-take levels counts (l .k) 0 (omega arith)), omega (arith, l .inv .0, joining-length _ _ _ _ (l .inv .1)))
 
 add-k : tie.Need-add-k Inv-loop μ-loop
 add-k c = search needs

@@ -1,10 +1,9 @@
 -- `lines::put_place` meets its contract: by the kind of place. Assumes nothing.
-use mathlib.Core.Path.{ap}
 use native.Mathlib.Omega.{arith}
 use borrow.Author.Needs.{needs}
-use Rattle.repair.specs.Text.{bytes, item, placeText}
+use Rattle.repair.specs.Text.{bytes, item}
 use Rattle.files.proofs.Writing.{put-then, put-is}
-use Rattle.texts.proofs.Texts.{row-below, across-below}
+use Rattle.texts.proofs.Texts.{row-below, across-below, row-text, across-text}
 use Rattle.texts.proofs.lines.put_place.Statement.{statement}
 use Rattle.texts.proofs.lines.put_place.Tie as tie
 
@@ -53,27 +52,27 @@ same-length : tie.Need-same-length
 same-length c = search needs
 
 returns : tie.Need-returns
-unfolding bytes item placeText
+unfolding bytes item
 returns c =
     let put-item2 = c .before .before .put-item2 in
     let put-item = c .before .before .before .before .before .before .before .put-item in
     let place = c .before .before .before .before .before .before .before .before .before .before .before .place in
     let level = put-item .ensures in
     let row = put-item2 .ensures in
-    (put-is (ap placeText (place .given .1)) (put-then (level .0) (row .0)), omega (arith, level .1, row .1))
+    (put-is (row-text (place .given .1)) (put-then (level .0) (row .0)), omega (arith, level .1, row .1))
 
 same-length-2 : tie.Need-same-length-2
 same-length-2 c = search needs
 
 returns-2 : tie.Need-returns-2
-unfolding bytes item placeText
+unfolding bytes item
 returns-2 c =
     let put = c .before .before .put in
     let put-item3 = c .before .before .before .before .before .before .before .put-item3 in
     let place2 = c .before .before .before .before .before .before .before .before .before .before .before .place2 in
     let level = put-item3 .ensures in
     let across = put .ensures in
-    (put-is (ap placeText (place2 .given .1)) (put-then (level .0) across), omega (arith, level .1, across .reached))
+    (put-is (across-text (place2 .given .1)) (put-then (level .0) across), omega (arith, level .1, across .reached))
 
 pub put-place-spec : {M : Type 1} → statement M
 put-place-spec =
