@@ -15,18 +15,18 @@ use Rattle.field.specs.Power.{power, powerSum}
 use Rattle.field.proofs.Sum.{of-bits, bit, ⊕-shr, ⊕-mod}
 use Rattle.field.proofs.Laws.{IsField, zero-mul, mul-zero, mul-one, dot-lt}
 use Rattle.field.proofs.Fields.{gf2-field}
-use Rattle.field.proofs.Words.{Fit}
+use Rattle.field.proofs.Words.{EachBelow}
 use Rattle.field.proofs.Powers.{power-lt, square-sum}
 use Rattle.linear.specs.Lists.{vanish}
 use Rattle.linear.specs.Fill.{sumsOf}
 use Rattle.linear.proofs.Tests.{In, all-in}
-use Rattle.plans.specs.Plan.{ones, bitChecks}
+use Rattle.plans.specs.Plan.{allOnes, bitChecks}
 use Rattle.demands.proofs.Lists.{in-below, in-flat}
 use Rattle.demands.proofs.Marked.{half-lt}
 
 -- parity, and the bits of the power sums 1, 3, … 2 j - 1
 abbrev pub binaryChecks : Field → List ℕ → ℕ → List (List ℕ)
-binaryChecks L xs j = ones (length xs) ∷ flatMap (λ i. bitChecks (L .width) (map (λ x. power L x (suc (i + i))) xs)) (upFrom 0 j)
+binaryChecks L xs j = allOnes (length xs) ∷ flatMap (λ i. bitChecks (L .width) (map (λ x. power L x (suc (i + i))) xs)) (upFrom 0 j)
 
 -- ---- sums that vanish
 
@@ -51,15 +51,15 @@ no-bit k = ap (λ x. x % 2) (zero-div (2 ^ k))
 
 module _ (L : Field) (K : IsField L) where
   -- parity is power sum 0
-  parity : (xs w : List ℕ) → Fit 2 w → dot gf2 (ones (length xs)) w ≡ powerSum L xs w 0
-  unfolding ones dot power powerSum size gf2
+  parity : (xs w : List ℕ) → EachBelow 2 w → dot gf2 (allOnes (length xs)) w ≡ powerSum L xs w 0
+  unfolding allOnes dot power powerSum size gf2
   parity [] w h = refl
   parity (x ∷ xs) [] h = refl
   parity (x ∷ xs) (c ∷ w) h =
       ap₂ _⊕_ (gf2-field .unit c (h .0) ∙ sym (K .unit c (le-trans (h .0) (K .one-lt)))) (parity xs w (h .1))
 
   -- the sum of the numbers' k-th bits is the k-th bit of their sum
-  bit-sum : (k : ℕ) (ys w : List ℕ) → Fit (size L) ys → Fit 2 w → dot gf2 (map (λ y. y / 2 ^ k % 2) ys) w ≡ dot L ys w / 2 ^ k % 2
+  bit-sum : (k : ℕ) (ys w : List ℕ) → EachBelow (size L) ys → EachBelow 2 w → dot gf2 (map (λ y. y / 2 ^ k % 2) ys) w ≡ dot L ys w / 2 ^ k % 2
   unfolding dot size gf2
   bit-sum k [] w hy h = sym (no-bit k)
   bit-sum k (y ∷ ys) [] hy h = sym (no-bit k)
@@ -75,18 +75,18 @@ module _ (L : Field) (K : IsField L) where
           c (h .0)
 
   -- so a sum whose bits all vanish is 0
-  bits-zero : (ys w : List ℕ) → Fit (size L) ys → Fit 2 w → ((k : ℕ) → k < L .width → dot gf2 (map (λ y. y / 2 ^ k % 2) ys) w ≡ 0)
+  bits-zero : (ys w : List ℕ) → EachBelow (size L) ys → EachBelow 2 w → ((k : ℕ) → k < L .width → dot gf2 (map (λ y. y / 2 ^ k % 2) ys) w ≡ 0)
       → dot L ys w ≡ 0
   unfolding size
   bits-zero ys w hy h z = all-bits (L .width) (dot L ys w) (dot-lt L K ys w) (λ k l. sym (bit-sum k ys w hy h) ∙ z k l)
 
   -- ---- power sums
 
-  powers-fit : (xs : List ℕ) (p : ℕ) → Fit (size L) (map (λ x. power L x p) xs)
+  powers-fit : (xs : List ℕ) (p : ℕ) → EachBelow (size L) (map (λ x. power L x p) xs)
   powers-fit [] p = tt
   powers-fit (x ∷ xs) p = (power-lt L K x p, powers-fit xs p)
 
-  module _ (xs w : List ℕ) (h : Fit 2 w) (j : ℕ) (t : T (vanish (sumsOf gf2 (binaryChecks L xs j) w))) where
+  module _ (xs w : List ℕ) (h : EachBelow 2 w) (j : ℕ) (t : T (vanish (sumsOf gf2 (binaryChecks L xs j) w))) where
     odd-zero : (i : ℕ) → i < j → powerSum L xs w (suc (i + i)) ≡ 0
     unfolding powerSum bitChecks
     odd-zero i l =
@@ -97,7 +97,7 @@ module _ (L : Field) (K : IsField L) where
     pub power-sums-zero : (p : ℕ) → p < suc (j + j) → powerSum L xs w p ≡ 0
     power-sums-zero =
         bin-ind (λ p. p < suc (j + j) → powerSum L xs w p ≡ 0)
-        (λ l. sym (parity xs w h) ∙ sum-zero gf2 (binaryChecks L xs j) w (ones (length xs)) t (List·Memᴰ·head refl))
+        (λ l. sym (parity xs w h) ∙ sum-zero gf2 (binaryChecks L xs j) w (allOnes (length xs)) t (List·Memᴰ·head refl))
         (λ p ih l. go p (p % 2) refl (bit p) ih l)
       where
         go : (p b : ℕ) → p % 2 ≡ b → b < 2 → (p / 2 < suc (j + j) → powerSum L xs w (p / 2) ≡ 0) → p < suc (j + j)

@@ -13,10 +13,10 @@ use Rattle.field.specs.Power.{power, powerSum}
 use Rattle.field.proofs.Test.{both-left, both-right}
 use Rattle.field.proofs.Laws.{IsField, mul-one}
 use Rattle.field.proofs.Fields.{gf8-field, gf16-field, gf32-field}
-use Rattle.field.proofs.Words.{Fit, fit-le, fit, distinct, are-fit, are-distinct}
+use Rattle.field.proofs.Words.{EachBelow, fit-le, fit, distinct, are-fit, are-distinct}
 use Rattle.field.proofs.Powers.{independent}
 use Rattle.linear.proofs.Filling.{Independent}
-use Rattle.plans.specs.Plan.{ones, bitChecks, locations1, plan1, locations2, powers2, plan2, locations3, powers3, plan3}
+use Rattle.plans.specs.Plan.{allOnes, bitChecks, locations1, plan1, locations2, powers2, plan2, locations3, powers3, plan3}
 use Rattle.plans.specs.Plan.{noPlan, planOf, noLevel, levelOf, checksTo}
 use Rattle.demands.specs.Words.{counts}
 use Rattle.demands.proofs.Lists.{in-below}
@@ -44,7 +44,7 @@ first-powers L K (x ∷ xs) t =
 
 module _ (L : Field) (K : IsField L) (xs : List ℕ) (t : T (areLocations L xs)) (ms : List Bool) (long : length ms ≡ length xs) where
   -- as many power sums as weigh a word show that it is zero
-  zero-word : (w : List ℕ) (m : ℕ) → Fit (size L) w → length w ≡ length xs → weight w ≤ m → ((p : ℕ) → p < m → powerSum L xs w p ≡ 0)
+  zero-word : (w : List ℕ) (m : ℕ) → EachBelow (size L) w → length w ≡ length xs → weight w ≤ m → ((p : ℕ) → p < m → powerSum L xs w p ≡ 0)
       → weight w ≡ 0
   zero-word w m =
       independent L K xs w m (are-distinct xs (both-left (distinct xs) (fit (size L) xs) t))
@@ -98,11 +98,11 @@ count p i = getD (counts p) i (0, 0)
 -- fewer marks than the counts name at a level
 pub few-independent : (p i : ℕ) (ms : List Bool) → length ms ≡ planOf p .columns → marked ms < count p i .0
     → Independent (planOf p .field) (checksTo (planOf p) (suc i)) ms
-unfolding flatMap upFrom size gf8 gf32 ones bitChecks locations1 plan1 locations2 powers2 plan2 locations3 powers3 plan3 planOf checksTo counts
+unfolding flatMap upFrom size gf8 gf32 allOnes bitChecks locations1 plan1 locations2 powers2 plan2 locations3 powers3 plan3 planOf checksTo counts
 few-independent zero i ms l h = absurd (not-suc-le-zero h)
 few-independent (suc zero) zero ms l h = binary-few gf8 gf8-field locations1 locations-1 ms l 0 (le-of-suc-le-suc h)
 few-independent (suc zero) (suc zero) ms l h =
-    subst (λ ys. Independent gf2 (ones 7 ∷ bitChecks 3 ys ++ []) ms) (first-powers gf8 gf8-field locations1 tt)
+    subst (λ ys. Independent gf2 (allOnes 7 ∷ bitChecks 3 ys ++ []) ms) (first-powers gf8 gf8-field locations1 tt)
     (binary-few gf8 gf8-field locations1 locations-1 ms l 1 (le-of-suc-le-suc h))
 few-independent (suc zero) (suc (suc i)) ms l h = absurd (not-suc-le-zero h)
 few-independent (suc (suc zero)) zero ms l h = binary-few gf32 gf32-field locations2 locations-2 ms l 1 (le-of-suc-le-suc h)
@@ -118,7 +118,7 @@ few-independent (suc (suc (suc (suc p)))) i ms l h = absurd (not-suc-le-zero h)
 -- at the next level, no more marked rows than the counts allow
 pub weights-independent : (p i : ℕ) (ms : List Bool) → length ms ≡ planOf p .rows → marked ms ≤ count p i .1
     → Independent (planOf p .field) (levelOf (planOf p) (suc (suc i)) .weights) ms
-unfolding flatMap upFrom size power gf8 ones plan1 plan2 plan3 planOf levelOf noLevel noPlan counts rowLocations
+unfolding flatMap upFrom size power gf8 allOnes plan1 plan2 plan3 planOf levelOf noLevel noPlan counts rowLocations
 weights-independent zero i ms l h = unmarked-independent gf2 _ ms (le-zero h)
 weights-independent (suc zero) zero ms l h = binary-few gf8 gf8-field (upFrom 0 3) tt ms l 0 h
 weights-independent (suc zero) (suc zero) ms l h = unmarked-independent gf2 _ ms (le-zero h)
@@ -128,7 +128,7 @@ weights-independent (suc (suc zero)) (suc zero) ms l h = binary-few gf8 gf8-fiel
 weights-independent (suc (suc zero)) (suc (suc zero)) ms l h = unmarked-independent gf2 _ ms (le-zero h)
 weights-independent (suc (suc zero)) (suc (suc (suc i))) ms l h = unmarked-independent gf2 _ ms (le-zero h)
 weights-independent (suc (suc (suc zero))) zero ms l h =
-    subst (λ ys. Independent gf16 (ones 8 ∷ ys ∷ []) ms)
+    subst (λ ys. Independent gf16 (allOnes 8 ∷ ys ∷ []) ms)
     (first-powers gf16 gf16-field rowLocations (both-right (distinct rowLocations) (fit (size gf16) rowLocations) row-locations))
     (powers-few gf16 gf16-field rowLocations row-locations ms l 2 h)
 weights-independent (suc (suc (suc zero))) (suc zero) ms l h = powers-few gf16 gf16-field rowLocations row-locations ms l 1 h

@@ -20,7 +20,7 @@ use Rattle.linear.proofs.Choices.{Alike}
 use Rattle.linear.proofs.Vectors.{sums-append}
 use Rattle.linear.proofs.Filling.{fill-true}
 use Rattle.plans.specs.Plan.{Plan, Level, known, planOf, levelOf, checksTo, rowAt, marksAt, across}
-use Rattle.plans.specs.Refusal.{allBelow, room, sumsAt}
+use Rattle.plans.specs.Refusal.{allBelow, sumPlaces, sumsAt}
 use Rattle.steps.specs.Steps.{fresh, stepped, rowFill, putRow, rowStepBy, rowStep, lossy, blocked, learned, join, joined, levelFill, raise, levelStepBy, levelStep}
 use Rattle.plans.specs.declared.Bench.{Bench}
 use Rattle.plans.specs.declared.Stepped.{Stepped}
@@ -91,7 +91,7 @@ module _ (p : ℕ) (X stripe marks : List ℕ) (fit : Fit p stripe marks) (word 
             let C = checksTo (planOf p) 1 in
             vanish-same (sumsAt (planOf p) 1 (fresh p stripe marks .sums) r) (sumsOf (planOf p .field) C (rowAt (planOf p) X r))
             (sums-length (planOf p) 1 (fresh p stripe marks .sums) r (omega (arith, checks-le (planOf p) (sh .levels-pos), sh .sums-le))
-            (omega (arith, row-end room l, sh .rows-le)) ∙ sym (sums-count (planOf p .field) C (rowAt (planOf p) X r)))
+            (omega (arith, row-end sumPlaces l, sh .rows-le)) ∙ sym (sums-count (planOf p .field) C (rowAt (planOf p) X r)))
             (fresh-sums p stripe marks r)
             (subst (λ cs. T (vanish (sumsOf (planOf p .field) cs (rowAt (planOf p) X r)))) (sym (checks-first (planOf p) (sh .levels-pos)))
             (word-sums p X word r l));

@@ -15,7 +15,7 @@ use Rattle.field.specs.Lists.{if_then_else_, upFrom, weight}
 use Rattle.field.specs.Field.{Field, size}
 use Rattle.field.proofs.Sum.{of-bits, bit}
 use Rattle.field.proofs.Ring.{size-pos}
-use Rattle.field.proofs.Words.{Fit}
+use Rattle.field.proofs.Words.{EachBelow}
 use Rattle.linear.specs.Lists.{all, only, zeros, vanish, first, rest}
 use Rattle.linear.specs.Marks.{bitsOf}
 use Rattle.linear.specs.Fill.{sumsOf}
@@ -80,7 +80,7 @@ word-bits (false ∷ ms) = bits-step (length ms) (wordWith ms * 2 + 0) ∙ digit
 -- ---- vectors that are zero where unmarked
 
 module _ (F : Field) where
-  pub agrees-fit : (ms : List Bool) (w : List ℕ) → Agrees F ms (zeros ms) w → Fit (size F) w
+  pub agrees-fit : (ms : List Bool) (w : List ℕ) → Agrees F ms (zeros ms) w → EachBelow (size F) w
   unfolding zeros first rest
   agrees-fit [] w a = rw a tt
   agrees-fit (m ∷ ms) [] a = tt
@@ -117,7 +117,7 @@ support-marked [] = refl
 support-marked (zero ∷ w) = support-marked w
 support-marked (suc c ∷ w) = rw (eqb·suc-zero c) (ap suc (support-marked w))
 
-pub support-agrees : (F : Field) (w : List ℕ) → Fit (size F) w → Agrees F (support w) (zeros (support w)) w
+pub support-agrees : (F : Field) (w : List ℕ) → EachBelow (size F) w → Agrees F (support w) (zeros (support w)) w
 unfolding zeros first rest support
 support-agrees F [] h = refl
 support-agrees F (zero ∷ w) h = (refl, support-agrees F w (h .1))
@@ -127,7 +127,7 @@ support-agrees F (suc c ∷ w) h = rw (eqb·suc-zero c) (h .0, support-agrees F 
 
 -- where only zero vectors among those of weight m or less have zero sums, any m columns are independent
 pub light-independent : (F : Field) (checks : List (List ℕ)) (n m : ℕ)
-    → ((w : List ℕ) → Fit (size F) w → T (vanish (sumsOf F checks w)) → length w ≡ n → weight w ≤ m → weight w ≡ 0)
+    → ((w : List ℕ) → EachBelow (size F) w → T (vanish (sumsOf F checks w)) → length w ≡ n → weight w ≤ m → weight w ≡ 0)
     → (ms : List Bool) → length ms ≡ n → marked ms ≤ m → Independent F checks ms
 light-independent F checks n m only-zero ms l h =
     independent-of F checks ms λ w d.

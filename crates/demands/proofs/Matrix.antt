@@ -12,7 +12,7 @@ use Rattle.field.specs.Field.{_⊕_, Field, size, mul, dot}
 use Rattle.field.proofs.Sum.{⊕-assoc, ⊕-self, ⊕-zero, zero-⊕, ⊕-left-comm}
 use Rattle.field.proofs.Laws.{IsField, zero-mul, mul-zero, size-pos, dot-lt}
 use Rattle.field.proofs.Test.{both-left, both-right, both}
-use Rattle.field.proofs.Words.{Fit}
+use Rattle.field.proofs.Words.{EachBelow}
 use Rattle.linear.specs.Lists.{all, only, zeros, vanish, first, rest, plus}
 use Rattle.linear.specs.Fill.{sumsOf}
 use Rattle.linear.proofs.Choices.{Agrees}
@@ -103,7 +103,7 @@ module _ (F : Field) (K : IsField F) where
   sums-product [] C u = refl
   sums-product (a ∷ A) C u = ap₂ _∷_ (dot-combine a C u) (sums-product A C u)
 
-  sums-identity : (u : List ℕ) → Fit (size F) u → sumsOf F (identity (length u)) u ≡ u
+  sums-identity : (u : List ℕ) → EachBelow (size F) u → sumsOf F (identity (length u)) u ≡ u
   unfolding sumsOf identity dot
   sums-identity [] h = refl
   sums-identity (x ∷ u) h =
@@ -114,12 +114,12 @@ module _ (F : Field) (K : IsField F) where
       below (r ∷ rows) = ap₂ _∷_ (ap (λ z. z ⊕ dot F r u) (zero-mul F K x) ∙ zero-⊕ (dot F r u)) (below rows)
 
   -- an inverse undoes
-  pub undone : (A C : List (List ℕ)) (u : List ℕ) → Fit (size F) u → product F A C ≡ identity (length u) → sumsOf F A (sumsOf F C u) ≡ u
+  pub undone : (A C : List (List ℕ)) (u : List ℕ) → EachBelow (size F) u → product F A C ≡ identity (length u) → sumsOf F A (sumsOf F C u) ≡ u
   undone A C u h e = sums-product A C u ∙ ap (λ M. sumsOf F M u) e ∙ sums-identity u h
 
   -- ---- entries at the marks
 
-  pub put-agrees : (ms : List Bool) (u v : List ℕ) → Fit (size F) u → Agrees F ms v (put ms u v)
+  pub put-agrees : (ms : List Bool) (u v : List ℕ) → EachBelow (size F) u → Agrees F ms v (put ms u v)
   unfolding first rest put
   put-agrees [] u v h = refl
   put-agrees (true ∷ ms) [] v h = (size-pos F K, put-agrees ms [] (rest v) h)
@@ -133,7 +133,7 @@ module _ (F : Field) (K : IsField F) where
   agrees-put (true ∷ ms) (y ∷ w) a = ap (λ t. y ∷ t) (agrees-put ms w (a .1))
   agrees-put (false ∷ ms) (y ∷ w) a = ap₂ _∷_ (a .0) (agrees-put ms w (a .1))
 
-  pub picked-fit : (ms : List Bool) (w : List ℕ) → Fit (size F) w → Fit (size F) (picked ms w)
+  pub picked-fit : (ms : List Bool) (w : List ℕ) → EachBelow (size F) w → EachBelow (size F) (picked ms w)
   unfolding first rest picked
   picked-fit [] w h = tt
   picked-fit (true ∷ ms) [] h = (size-pos F K, picked-fit ms [] h)
@@ -177,12 +177,12 @@ module _ (F : Field) (K : IsField F) where
   sums-vanish [] u t = tt
   sums-vanish (a ∷ A) u t = both (eqb (dot F a u) 0) (vanish (sumsOf F A u)) (rw (dot-vanish a u t) tt) (sums-vanish A u t)
 
-  pub sums-fit : (A : List (List ℕ)) (u : List ℕ) → Fit (size F) (sumsOf F A u)
+  pub sums-fit : (A : List (List ℕ)) (u : List ℕ) → EachBelow (size F) (sumsOf F A u)
   unfolding sumsOf
   sums-fit [] u = tt
   sums-fit (a ∷ A) u = (dot-lt F K a u, sums-fit A u)
 
-  pub plus-fit : (a b : List ℕ) → Fit (size F) a → Fit (size F) b → Fit (size F) (plus a b)
+  pub plus-fit : (a b : List ℕ) → EachBelow (size F) a → EachBelow (size F) b → EachBelow (size F) (plus a b)
   plus-fit [] b h k = k
   plus-fit (x ∷ a) [] h k = h
   plus-fit (x ∷ a) (y ∷ b) h k = (K .sum-lt x y (h .0) (k .0), plus-fit a b (h .1) (k .1))

@@ -13,7 +13,7 @@ use Rattle.linear.specs.Lists.{all, vanish}
 use Rattle.linear.specs.Fill.{sumsOf}
 use Rattle.linear.proofs.Tests.{either}
 use Rattle.linear.proofs.Filling.{no-dependency}
-use Rattle.plans.specs.Plan.{ones, bitChecks, locations1, plan1, locations2, powers2, plan2, locations3, powers3, plan3, known, planOf, levelOf, checksTo, rowAt, across, carried}
+use Rattle.plans.specs.Plan.{allOnes, bitChecks, locations1, plan1, locations2, powers2, plan2, locations3, powers3, plan3, known, planOf, levelOf, checksTo, rowAt, across, carried}
 use Rattle.plans.specs.Refusal.{allBelow}
 use Rattle.codewords.specs.Codeword.{rowsHold, totalsHold, isCodeword}
 use Rattle.repair.proofs.Samples.{rowOf, sizes}
@@ -44,7 +44,7 @@ lightRow3 = rowOf 16 15 0x981
 
 pub row-distance-met : RowDistanceMet
 unfolding if_then_else_ upFrom _⊕_ size double times mul dot gf2 gf16 gf32 power weight all vanish sumsOf
-    ones bitChecks locations1 plan1 locations2 powers2 plan2 locations3 powers3 plan3 planOf levelOf allBelow rowOf
+    allOnes bitChecks locations1 plan1 locations2 powers2 plan2 locations3 powers3 plan3 planOf levelOf allBelow rowOf
     rowDistance lightRow1 lightRow2 lightRow3
 row-distance-met =
     of-known (λ p. (w : List ℕ) × RowWord p w × (weight w ≡ rowDistance p))
@@ -58,7 +58,7 @@ twice q n R w = flatMap (rowOf q n) (w ∷ w ∷ replicate R 0)
 
 pub distance-met : DistanceMet
 unfolding if_then_else_ upFrom _⊕_ size double times mul dot gf2 gf16 gf32 power flatMap weight all vanish sumsOf
-    ones bitChecks locations1 plan1 locations2 powers2 plan2 locations3 powers3 plan3 planOf levelOf rowAt allBelow
+    allOnes bitChecks locations1 plan1 locations2 powers2 plan2 locations3 powers3 plan3 planOf levelOf rowAt allBelow
     across rowsHold totalsHold isCodeword rowOf distance twice
 distance-met =
     of-known (λ p. (X : List ℕ) × Codeword p X × (weight X ≡ distance p))

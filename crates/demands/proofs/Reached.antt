@@ -21,7 +21,7 @@ use Rattle.linear.proofs.Choices.{Alike, Inside, agrees-length, agrees-alike}
 use Rattle.linear.proofs.Vectors.{sums-append}
 use Rattle.linear.proofs.Filling.{Means, fill-means}
 use Rattle.plans.specs.Plan.{Plan, Level, noLevel, planOf, levelOf, checksTo, rowAt, marksAt, across}
-use Rattle.plans.specs.Refusal.{room, sumsAt}
+use Rattle.plans.specs.Refusal.{sumPlaces, sumsAt}
 use Rattle.steps.specs.Steps.{fresh, rowFill, putRow, lossy, blocked, learned, levelFill, newSums, raise}
 use Rattle.codewords.specs.Codeword.{rowsHold, totalsHold}
 use Rattle.plans.specs.declared.Bench.{Bench}
@@ -205,7 +205,7 @@ module _ (stripe marks : List ℕ) (b : Bench) (s : Reached (b .plan) stripe mar
         (sym (raise-sums b f (s .sound .sized) low cs (learned-length b f cs e) r l) ∙ has r l
         ∙ ap (λ cs. sumsOf (Q .field) cs (rowAt Q Y r)) (checks-suc Q (b .level) low) ∙ sums-append (Q .field) C (L .checks) (rowAt Q Y r))
         (sums-length Q (b .level) (b .sums) r (omega (arith, checks-le Q (f .level-le), sh .sums-le))
-        (omega (arith, row-end room l, sh .rows-le, s .sound .sized .sums))
+        (omega (arith, row-end sumPlaces l, sh .rows-le, s .sound .sized .sums))
         ∙ sym (sums-count (Q .field) C (rowAt Q Y r)))
 
     meets-raise : (Y : List ℕ) → Has (b .plan) (raise b cs) Y → Meets (b .plan) (suc (b .level)) Y

@@ -17,7 +17,7 @@ use Rattle.linear.specs.Marks.{bitsOf}
 use Rattle.linear.specs.Fill.{Fill, tied, none, one, fill}
 use Rattle.linear.proofs.Tests.{either}
 use Rattle.plans.specs.Plan.{Plan, Level, known, planOf, levelOf, checksTo, rowAt, marksAt, across}
-use Rattle.plans.specs.Refusal.{room, unasked, inMemory, marksFit, allBelow, unmarkedBelow, symbolsFit, sumsAt, sumsFit, levelFits, benchRefusal}
+use Rattle.plans.specs.Refusal.{sumPlaces, unasked, inMemory, marksFit, allBelow, unmarkedBelow, symbolsFit, sumsAt, sumsFit, levelFits, benchRefusal}
 use Rattle.steps.specs.Steps.{stepped, unlessRefused, rowFill, putRow, rowStepBy, rowStep, lossy, Learned, blocked, failing, learned, joined, levelFill, newSums, raise, levelStepBy, levelStep}
 use Rattle.steps.specs.Learned.{benchOf}
 use Rattle.plans.specs.declared.Bench.{Bench}
@@ -70,7 +70,7 @@ module _ (b : Bench) where
         ap length (checks-suc P (b .level) low) ∙ length-append (checksTo P (b .level)) (levelOf P (suc (b .level)) .checks)
         ∙ ap (λ n. at + n) (sym count)
 
-    narrow : at + length cs ≤ room
+    narrow : at + length cs ≤ sumPlaces
     narrow = omega (arith, more, checks-le P low, shape (b .plan) plan-known .sums-le)
 
     pub room-raise : RoomKept b (raise b cs)
@@ -83,9 +83,9 @@ module _ (b : Bench) where
       sums = keep-room at cs (P .rows) (b .sums);
       before = λ r l.
           keep-part at cs (P .rows) (b .sums) at r (omega (arith, narrow)) l
-          ∙ sets-out (newSums cs r) (take at (drop (r * room) (b .sums))) at (simp length-take (omega arith));
+          ∙ sets-out (newSums cs r) (take at (drop (r * sumPlaces) (b .sums))) at (simp length-take (omega arith));
       above = λ r l.
-          ap (drop next) (keep-part at cs (P .rows) (b .sums) room r (le-refl room) l)
+          ap (drop next) (keep-part at cs (P .rows) (b .sums) sumPlaces r (le-refl sumPlaces) l)
           ∙ drop-sets-before next (newSums cs r) (placesAt (b .sums) r) at (omega (arith, more, length-map cs (λ c. getD c r 0)));
     }
 
@@ -126,7 +126,7 @@ unfolding sumsAt
 sums-lower P {t} {u} x y r h e =
     let n = length (checksTo P t) in
     let m = length (checksTo P u) in
-    sym (take-take n m (drop (r * room) x) (checks-le P h)) ∙ ap (take n) e ∙ take-take n m (drop (r * room) y) (checks-le P h)
+    sym (take-take n m (drop (r * sumPlaces) x) (checks-le P h)) ∙ ap (take n) e ∙ take-take n m (drop (r * sumPlaces) y) (checks-le P h)
 
 room-trans : (b c d : Bench) → RoomKept b c → RoomKept c d → RoomKept b d
 room-trans b c d k j =
@@ -274,11 +274,11 @@ module _ (b : Bench) (s m u : List ℕ) (h : SameRead b (with b s m u)) where
         marks = h .marks;
         sums = λ r l.
             let x = newSums cs r in
-            let here = drop (r * room) (b .sums) in
-            let there = drop (r * room) u in
+            let here = drop (r * sumPlaces) (b .sums) in
+            let there = drop (r * sumPlaces) u in
             keep-part n cs (Q .rows) (b .sums) n′ r (omega (arith, up, slim)) l
             ∙ sets-agree x (take n′ here) (take n′ there) n
-            (simp (length-take, length-drop) (ap (λ k. min n′ (k - r * room)) (h .places)))
+            (simp (length-take, length-drop) (ap (λ k. min n′ (k - r * sumPlaces)) (h .places)))
             (simp length-take (omega (arith, up, length-map cs (λ c. getD c r 0))))
             (take-take n n′ here (omega (arith, up)) ∙ h .sums r l ∙ sym (take-take n n′ there (omega (arith, up))))
             ∙ sym (keep-part n cs (Q .rows) u n′ r (omega (arith, up, slim)) l);

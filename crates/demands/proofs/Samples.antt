@@ -4,7 +4,7 @@ use mathlib.Core.Bool.{true}
 use mathlib.Core.List.{List, [], _∷_, _++_, map, flatMap}
 use Prim.Native.Nat.{ℕ, zero, suc, _*_, _<_}
 use native.Mathlib.Omega.{arith}
-use lib.Count.{ones as bitsSet, onesIn}
+use lib.Count.{ones, onesIn}
 use lib.Dec.{T, ltb}
 use lib.ListN.{length, getD, replicate, set}
 use Rattle.field.specs.Lists.{if_then_else_, upFrom, weight}
@@ -13,7 +13,7 @@ use Rattle.linear.specs.Lists.{any, all, only, same, zeros, vanish, first, rest
 use Rattle.linear.specs.Marks.{bitsOf}
 use Rattle.linear.specs.Fill.{sumsOf, options, before, oneOfEach, choices, loose, dependent, fillings, fillBy, fill}
 use Rattle.linear.proofs.Choices.{alike-at}
-use Rattle.plans.specs.Plan.{ones, bitChecks, wordOf, locations1, plan1, known, noPlan, planOf, noLevel, levelOf, checksTo, rowAt, marksAt, marksOf, across, checkPlacesOf, carried, marksOffset, symbolsOffset, fileLength}
+use Rattle.plans.specs.Plan.{allOnes, bitChecks, wordOf, locations1, plan1, known, noPlan, planOf, noLevel, levelOf, checksTo, rowAt, marksAt, marksOf, across, checkPlacesOf, carried, marksOffset, symbolsOffset, fileLength}
 use Rattle.plans.specs.Refusal.{firstFailed, unasked, inMemory, inFile, stripeFits, wordsFit, marksFit, allBelow, unmarkedBelow, symbolsFit, sumsAt, sumsFit, levelFits, lentRefusal, benchRefusal}
 use Rattle.steps.specs.Steps.{fresh, empty, stepped, unlessRefused, rowFill, putRow, rowStepBy, rowStep, lossy, join, joined, levelFill, keepSums, raise, levelStepBy, levelStep}
 use Rattle.steps.specs.Rounds.{Standing, on, more, afterRow, afterLevel, takeTurn, goOn, turns}
@@ -49,7 +49,7 @@ plans-known = (tt, tt, tt)
 -- ---- the third demand's premise: the example's stripe, 1?00000 ?0?0?10 00?0000
 
 pub example-word : Codeword 1 exampleAfter
-unfolding if_then_else_ upFrom _⊕_ size double times mul dot gf2 all vanish sumsOf ones bitChecks locations1 plan1 planOf noLevel levelOf rowAt
+unfolding if_then_else_ upFrom _⊕_ size double times mul dot gf2 all vanish sumsOf allOnes bitChecks locations1 plan1 planOf noLevel levelOf rowAt
     allBelow across rowsHold totalsHold isCodeword exampleAfter
 example-word = record { long = refl; symbols = tt; holds = tt }
 
@@ -81,7 +81,7 @@ exampleEnd =
 other-ends : walk otherOrder (fresh 1 exampleStripe exampleMarks) ≡ exampleEnd
 unfolding if_then_else_ upFrom _⊕_ size double times mul dot gf2 flatMap
     any all only same zeros vanish first rest beside bitsOf sumsOf options before oneOfEach choices loose dependent fillings fillBy fill
-    ones bitChecks locations1 plan1 known planOf noLevel levelOf checksTo rowAt marksAt
+    allOnes bitChecks locations1 plan1 known planOf noLevel levelOf checksTo rowAt marksAt
     firstFailed unasked inMemory marksFit allBelow unmarkedBelow symbolsFit sumsAt sumsFit levelFits benchRefusal
     fresh stepped unlessRefused rowFill putRow rowStepBy rowStep lossy across join joined levelFill keepSums raise levelStepBy levelStep
     exampleStripe exampleMarks exampleAfter exampleEnd
@@ -90,7 +90,7 @@ other-ends = refl
 end-quiet : Quiet exampleEnd
 unfolding if_then_else_ upFrom _⊕_ size double times mul dot gf2 flatMap
     any all only same zeros vanish first rest beside bitsOf sumsOf options before oneOfEach choices loose dependent fillings fillBy fill
-    ones bitChecks locations1 plan1 known planOf noLevel levelOf checksTo rowAt marksAt
+    allOnes bitChecks locations1 plan1 known planOf noLevel levelOf checksTo rowAt marksAt
     firstFailed unasked inMemory marksFit allBelow unmarkedBelow symbolsFit sumsAt sumsFit levelFits benchRefusal
     stepped unlessRefused rowFill putRow rowStepBy rowStep levelStep exampleAfter exampleEnd
 end-quiet (onRow zero) = refl
@@ -119,7 +119,7 @@ is-stuck = ap (answers 3) (sheet .mending)
 
 -- and a codeword that agrees with what is Stuck: the stripe itself
 pub blank-word : Codeword 1 blank
-unfolding if_then_else_ upFrom _⊕_ size double times mul dot gf2 all vanish sumsOf ones bitChecks locations1 plan1 planOf noLevel levelOf rowAt
+unfolding if_then_else_ upFrom _⊕_ size double times mul dot gf2 all vanish sumsOf allOnes bitChecks locations1 plan1 planOf noLevel levelOf rowAt
     allBelow across rowsHold totalsHold isCodeword blank
 blank-word = record { long = refl; symbols = tt; holds = tt }
 
@@ -143,7 +143,7 @@ exampleRound = standingOf
 pub goes-on : turns 4 (begun 1 exampleStripe exampleMarks) ≡ on exampleRound
 unfolding if_then_else_ upFrom _⊕_ size double times mul dot gf2 flatMap
     any all only same zeros vanish first rest bitsOf sumsOf options before choices loose dependent fillings fillBy fill
-    ones bitChecks locations1 plan1 known planOf noLevel levelOf checksTo rowAt marksAt
+    allOnes bitChecks locations1 plan1 known planOf noLevel levelOf checksTo rowAt marksAt
     firstFailed unasked inMemory marksFit allBelow unmarkedBelow symbolsFit sumsAt sumsFit levelFits benchRefusal
     fresh stepped unlessRefused rowFill putRow rowStepBy rowStep lossy across join joined levelFill keepSums raise levelStepBy levelStep
     more afterRow afterLevel takeTurn goOn turns exampleStripe exampleMarks exampleAfter exampleEnd exampleRound beside oneOfEach
@@ -152,7 +152,7 @@ goes-on = refl
 -- ---- the counts' premises: the example again, which has 1, 3 and 1 marks in a row
 
 pub counts-met : MeetsCounts 1 exampleMarks
-unfolding if_then_else_ only plan1 planOf bitsSet onesIn rowsWith counts exampleMarks
+unfolding if_then_else_ only plan1 planOf ones onesIn rowsWith counts exampleMarks
 counts-met = (omega arith, (omega arith, tt))
 
 -- ---- the distance's: three of those five marks, among them the places where the example's stripe is not the codeword
@@ -170,7 +170,7 @@ unfolding if_then_else_ upFrom flatMap first rest beside bitsOf plan1 planOf mar
 few-agree = let ms = marksOf (planOf 1) fewMarks in alike-at ms exampleAfter exampleStripe (taken-alike ms exampleAfter exampleStripe refl)
 
 pub few-enough : total fewMarks < distance 1
-unfolding bitsSet onesIn total distance fewMarks
+unfolding ones onesIn total distance fewMarks
 few-enough = omega arith
 
 -- ---- encoding's and extraction's: the bench sheet's data, the example's codeword, and buffers of the plan's lengths
@@ -245,7 +245,7 @@ still-marked =
 pub marked-after : getD (marksOf (planOf 1) (walk (onRow 0 ∷ []) (fresh 1 exampleStripe exampleMarks) .marks)) 7 true ≡ true
 unfolding if_then_else_ upFrom _⊕_ size double times mul dot gf2 flatMap
     any all only same zeros vanish first rest beside bitsOf sumsOf options before oneOfEach choices loose dependent fillings fillBy fill
-    ones bitChecks locations1 plan1 known planOf noLevel levelOf checksTo rowAt marksAt marksOf
+    allOnes bitChecks locations1 plan1 known planOf noLevel levelOf checksTo rowAt marksAt marksOf
     firstFailed unasked inMemory marksFit allBelow unmarkedBelow symbolsFit sumsAt sumsFit levelFits benchRefusal
     fresh stepped unlessRefused rowFill putRow rowStepBy rowStep exampleStripe exampleMarks
 marked-after = refl
@@ -264,7 +264,7 @@ otherRoom =
     }
 
 pub same-read : SameRead (fresh 1 exampleStripe exampleMarks) otherRoom
-unfolding flatMap ones plan1 planOf checksTo sumsAt fresh exampleStripe exampleMarks otherRoom
+unfolding flatMap allOnes plan1 planOf checksTo sumsAt fresh exampleStripe exampleMarks otherRoom
 same-read = record { plan = refl; level = refl; symbols = refl; marks = refl; sums = sums-same; places = refl }
   where
     sums-same : (r : ℕ) → r < 3 → sumsAt plan1 1 (replicate 128 0) r ≡ sumsAt plan1 1 (otherRoom .sums) r
@@ -282,7 +282,7 @@ pub refusals :
     -- a row step; a level step
     × (benchRefusal otherRoom (ltb 3 (planOf (otherRoom .plan) .rows)) ≡ 14) × (benchRefusal empty unasked ≡ 10)
 unfolding if_then_else_ upFrom _⊕_ size double times mul dot gf2 flatMap all only vanish first rest beside bitsOf sumsOf
-    ones bitChecks wordOf locations1 plan1 known planOf noLevel levelOf checksTo rowAt marksAt marksOf
+    allOnes bitChecks wordOf locations1 plan1 known planOf noLevel levelOf checksTo rowAt marksAt marksOf
     firstFailed unasked inMemory inFile stripeFits wordsFit marksFit allBelow unmarkedBelow symbolsFit sumsAt sumsFit levelFits lentRefusal benchRefusal
     empty across rowsHold totalsHold isCodeword checkPlacesOf carried encodeRefusal extractRefusal
     marksOffset symbolsOffset fileLength writeRefusal planIn fileRefusal readRefusal blank exampleStripe exampleMarks otherRoom
@@ -291,7 +291,7 @@ refusals = (refl, refl, refl, refl, refl, refl, refl)
 -- ---- the parameters': the zero row and stripe, which are light
 
 pub light-row : RowWord 1 (replicate 7 0) × (weight (replicate 7 0) < rowDistance 1)
-unfolding if_then_else_ _⊕_ size double times mul dot gf2 all vanish sumsOf ones plan1 planOf levelOf allBelow weight rowDistance
+unfolding if_then_else_ _⊕_ size double times mul dot gf2 all vanish sumsOf allOnes plan1 planOf levelOf allBelow weight rowDistance
 light-row = (record { long = refl; symbols = tt; holds = tt }, omega arith)
 
 pub light-word : Codeword 1 blank × (weight blank < distance 1)

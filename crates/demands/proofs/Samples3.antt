@@ -11,7 +11,7 @@ use Rattle.field.specs.Power.{power}
 use Rattle.linear.specs.Lists.{any, all, only, same, zeros, vanish, first, rest, beside}
 use Rattle.linear.specs.Marks.{bitsOf}
 use Rattle.linear.specs.Fill.{sumsOf, options, before, choices, loose, dependent, fillings, fillBy, fill, oneOfEach}
-use Rattle.plans.specs.Plan.{ones, wordOf, locations3, powers3, plan3, known, noPlan, planOf, noLevel, levelOf, checksTo, rowAt, marksAt, marksOf, checkPlacesOf, carried, marksOffset, symbolsOffset, fileLength}
+use Rattle.plans.specs.Plan.{allOnes, wordOf, locations3, powers3, plan3, known, noPlan, planOf, noLevel, levelOf, checksTo, rowAt, marksAt, marksOf, checkPlacesOf, carried, marksOffset, symbolsOffset, fileLength}
 use Rattle.plans.specs.Refusal.{firstFailed, unasked, inMemory, inFile, stripeFits, wordsFit, marksFit, allBelow, unmarkedBelow, symbolsFit, sumsAt, sumsFit, levelFits, lentRefusal, benchRefusal}
 use Rattle.steps.specs.Steps.{fresh, stepped, unlessRefused, rowFill, putRow, rowStepBy, rowStep}
 use Rattle.steps.specs.Rounds.{on, more, afterRow, takeTurn, goOn, turns}
@@ -67,7 +67,7 @@ lost-fit = refl
 pub goes-on : turns 1 (begun 3 lostFirst firstMark) ≡ on (standingOf (fresh 3 blank3 (replicate 8 0)) 1 (1 ∷ 0 ∷ 0 ∷ []))
 unfolding if_then_else_ upFrom _⊕_ size double times mul dot gf16 power flatMap
     any all only same zeros vanish first rest bitsOf sumsOf options before choices loose dependent fillings fillBy fill
-    ones locations3 powers3 plan3 known planOf noLevel levelOf checksTo rowAt marksAt
+    allOnes locations3 powers3 plan3 known planOf noLevel levelOf checksTo rowAt marksAt
     firstFailed unasked inMemory marksFit allBelow unmarkedBelow symbolsFit sumsAt sumsFit levelFits benchRefusal
     fresh stepped unlessRefused rowFill putRow rowStepBy rowStep more afterRow takeTurn goOn turns blank3 lostFirst firstMark beside oneOfEach
 goes-on = refl
@@ -76,7 +76,7 @@ goes-on = refl
 pub is-clash : mendReport 3 (set blank3 0 1) (replicate 8 0) .answer ≡ Clash (Row 0 1)
 unfolding if_then_else_ upFrom _⊕_ size double times mul dot gf16 power flatMap
     any all only same zeros vanish first rest bitsOf sumsOf options before choices loose dependent fillings fillBy fill
-    ones locations3 powers3 plan3 known planOf noLevel levelOf checksTo rowAt marksAt
+    allOnes locations3 powers3 plan3 known planOf noLevel levelOf checksTo rowAt marksAt
     firstFailed unasked inMemory stripeFits wordsFit marksFit allBelow unmarkedBelow symbolsFit sumsAt sumsFit levelFits lentRefusal benchRefusal
     fresh stepped unlessRefused rowFill rowStepBy rowStep more afterRow takeTurn goOn turns mended bare turnReport mendReport blank3 beside oneOfEach
 is-clash = refl

@@ -8,7 +8,7 @@ use lib.ListN.{length}
 use Rattle.field.specs.Field.{Field, size}
 use Rattle.field.proofs.Laws.{IsField, size-pos}
 use Rattle.field.proofs.Test.{both-left, both-right, both}
-use Rattle.field.proofs.Words.{Fit}
+use Rattle.field.proofs.Words.{EachBelow}
 use Rattle.linear.specs.Lists.{all, zeros, vanish, plus}
 use Rattle.linear.specs.Fill.{sumsOf}
 use Rattle.linear.proofs.Choices.{areSymbols}
@@ -20,7 +20,7 @@ use Rattle.demands.proofs.Matrix.{sums-put, sums-picked, sums-vanish, s
 
 -- ---- symbols
 
-pub symbols-fit : (F : Field) (v : List ℕ) → T (areSymbols F v) → Fit (size F) v
+pub symbols-fit : (F : Field) (v : List ℕ) → T (areSymbols F v) → EachBelow (size F) v
 unfolding all
 symbols-fit F [] t = tt
 symbols-fit F (x ∷ v) t =
@@ -73,7 +73,7 @@ square F K checks ms inverse tested = record { independent = independent-of F ch
         let others = sumsOf F checks (put ms [] v) in
         let due = plus target others in
         let same-length : length target ≡ length others = l ∙ sym (sums-count F checks (put ms [] v)) in
-        let fit-due : Fit (size F) due = plus-fit F K target others (symbols-fit F target t) (sums-fit F K checks (put ms [] v)) in (
+        let fit-due : EachBelow (size F) due = plus-fit F K target others (symbols-fit F target t) (sums-fit F K checks (put ms [] v)) in (
           put ms (sumsOf F inverse due) v,
           record {
             agrees = put-agrees F K ms (sumsOf F inverse due) v (sums-fit F K inverse due);

@@ -17,7 +17,7 @@ use Rattle.field.proofs.Fields.{gf2-field, gf16-field}
 use Rattle.field.proofs.Words.{Each}
 use Rattle.linear.specs.Lists.{only, first, rest}
 use Rattle.linear.specs.Marks.{bitsOf}
-use Rattle.plans.specs.Plan.{Plan, ones, bitChecks, wordOf, locations1, plan1, locations2, powers2, plan2, locations3, powers3, plan3}
+use Rattle.plans.specs.Plan.{Plan, allOnes, bitChecks, wordOf, locations1, plan1, locations2, powers2, plan2, locations3, powers3, plan3}
 use Rattle.plans.specs.Plan.{noPlan, planOf, levelOf, checksTo, marksAt}
 use Rattle.repair.proofs.Samples.{rowOf}
 use Rattle.demands.proofs.Lists.{in-below, each-in}
@@ -63,17 +63,17 @@ RowInverts P t r = Inverts (P .field) (checksTo P t) (marksAt P (P .checkPlaces)
 
 rows-1 : RowInverts plan1 1 0 inverse-1-1 × RowInverts plan1 2 2 inverse-1-2
 unfolding if_then_else_ upFrom _⊕_ size double times mul gf2 flatMap only first rest bitsOf
-    ones bitChecks wordOf locations1 plan1 checksTo marksAt rowOf picked combine product identity inverse-1-1 inverse-1-2
+    allOnes bitChecks wordOf locations1 plan1 checksTo marksAt rowOf picked combine product identity inverse-1-1 inverse-1-2
 rows-1 = ((refl, refl), (refl, refl))
 
 rows-2 : RowInverts plan2 1 0 inverse-2-1 × RowInverts plan2 3 7 inverse-2-3
 unfolding if_then_else_ upFrom _⊕_ size double times mul gf2 gf32 power flatMap only first rest bitsOf
-    ones bitChecks wordOf locations2 powers2 plan2 checksTo marksAt rowOf picked combine product identity inverse-2-1 inverse-2-3
+    allOnes bitChecks wordOf locations2 powers2 plan2 checksTo marksAt rowOf picked combine product identity inverse-2-1 inverse-2-3
 rows-2 = ((refl, refl), (refl, refl))
 
 rows-3 : RowInverts plan3 1 0 inverse-3-1 × RowInverts plan3 2 6 inverse-3-2 × RowInverts plan3 3 7 inverse-3-3
 unfolding if_then_else_ upFrom _⊕_ size double times mul gf16 power flatMap only first rest bitsOf
-    ones wordOf locations3 powers3 plan3 checksTo marksAt rowOf picked combine product identity inverse-3-1 inverse-3-2 inverse-3-3
+    allOnes wordOf locations3 powers3 plan3 checksTo marksAt rowOf picked combine product identity inverse-3-1 inverse-3-2 inverse-3-3
 rows-3 = ((refl, refl), (refl, refl), (refl, refl))
 
 square-row : (P : Plan) → IsField (P .field) → (t r : ℕ) (inverse : List (List ℕ)) → RowInverts P t r inverse
@@ -149,16 +149,16 @@ row-square p r h = each-in (RowSquare p) (upFrom 0 (planOf p .rows)) (rows-squar
 
 pub level-square : (p i : ℕ) → suc i < length (planOf p .levels) → LevelSquare p (suc i)
 unfolding if_then_else_ upFrom _⊕_ size double times mul gf2 gf16 power only first rest
-    ones plan1 plan2 plan3 noPlan planOf levelOf rowOf picked combine product identity inverse-across mendLevels
+    allOnes plan1 plan2 plan3 noPlan planOf levelOf rowOf picked combine product identity inverse-across mendLevels
 level-square zero i h = absurd (not-suc-le-zero h)
-level-square (suc zero) zero h = square gf2 gf2-field (ones 3 ∷ []) (pending 1 1) (identity 1) (refl, refl)
+level-square (suc zero) zero h = square gf2 gf2-field (allOnes 3 ∷ []) (pending 1 1) (identity 1) (refl, refl)
 level-square (suc zero) (suc i) h = absurd (omega arith)
-level-square (suc (suc zero)) zero h = square gf2 gf2-field (ones 8 ∷ []) (pending 2 1) (identity 1) (refl, refl)
-level-square (suc (suc zero)) (suc zero) h = square gf2 gf2-field (ones 8 ∷ []) (pending 2 2) (identity 1) (refl, refl)
+level-square (suc (suc zero)) zero h = square gf2 gf2-field (allOnes 8 ∷ []) (pending 2 1) (identity 1) (refl, refl)
+level-square (suc (suc zero)) (suc zero) h = square gf2 gf2-field (allOnes 8 ∷ []) (pending 2 2) (identity 1) (refl, refl)
 level-square (suc (suc zero)) (suc (suc i)) h = absurd (omega arith)
 level-square (suc (suc (suc zero))) zero h =
-    square gf16 gf16-field (ones 8 ∷ map (power gf16 2) (upFrom 0 8) ∷ []) (pending 3 1) inverse-across (refl, refl)
-level-square (suc (suc (suc zero))) (suc zero) h = square gf16 gf16-field (ones 8 ∷ []) (pending 3 2) (identity 1) (refl, refl)
+    square gf16 gf16-field (allOnes 8 ∷ map (power gf16 2) (upFrom 0 8) ∷ []) (pending 3 1) inverse-across (refl, refl)
+level-square (suc (suc (suc zero))) (suc zero) h = square gf16 gf16-field (allOnes 8 ∷ []) (pending 3 2) (identity 1) (refl, refl)
 level-square (suc (suc (suc zero))) (suc (suc i)) h = absurd (omega arith)
 level-square (suc (suc (suc (suc p)))) i h = absurd (not-suc-le-zero h)
 

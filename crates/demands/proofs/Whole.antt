@@ -10,7 +10,7 @@ use lib.ListN.{length, drop, getD, take-append-drop}
 use lib.Seq.{take-take, getD-set-same, getD-set-other}
 use Rattle.linear.specs.Fill.{sumsOf}
 use Rattle.plans.specs.Plan.{Plan, planOf, checksTo, rowAt}
-use Rattle.plans.specs.Refusal.{room, sumsAt}
+use Rattle.plans.specs.Refusal.{sumPlaces, sumsAt}
 use Rattle.steps.specs.Steps.{putRow, raise}
 use Rattle.plans.specs.declared.Bench.{Bench}
 use Rattle.plans.proofs.Rows.{of-rows, row-other, rows-ext}
@@ -83,7 +83,7 @@ module _ (X : List ℕ) (a b e : Bench) (h : Held (a .plan) X b) (k : Held (a .p
   parts c g r l =
       let n = length (checksTo Q (c .level)) in
       sym (take-append-drop n (placesAt (c .sums) r))
-      ∙ ap (λ l. l ++ drop n (placesAt (c .sums) r)) (take-take n room (drop (r * room) (c .sums))
+      ∙ ap (λ l. l ++ drop n (placesAt (c .sums) r)) (take-take n sumPlaces (drop (r * sumPlaces) (c .sums))
       (omega (arith, checks-le Q (held-level (a .plan) X c g), shape (a .plan) (held-known (a .plan) X c g) .sums-le)) ∙ g .has r l)
 
   same-places : (r : ℕ) → r < Q .rows → placesAt (b .sums) r ≡ placesAt (e .sums) r
@@ -99,5 +99,5 @@ module _ (X : List ℕ) (a b e : Bench) (h : Held (a .plan) X b) (k : Held (a .p
     level = level i;
     symbols = rows-ext (Q .columns) (Q .rows) (b .symbols) (e .symbols) same-row (kb .symbols ∙ sym (ke .symbols)) i;
     marks = words-ext (Q .rows) (b .marks) (e .marks) marks (held-words (a .plan) X b h) (held-words (a .plan) X e k) (kb .marks ∙ sym (ke .marks)) i;
-    sums = rows-ext room (Q .rows) (b .sums) (e .sums) same-places (kb .sums ∙ sym (ke .sums)) i;
+    sums = rows-ext sumPlaces (Q .rows) (b .sums) (e .sums) same-places (kb .sums ∙ sym (ke .sums)) i;
   }

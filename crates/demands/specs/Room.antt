@@ -4,7 +4,7 @@ use mathlib.Core.Path.{_≡_}
 use mathlib.Core.List.{List}
 use lib.ListN.{length, take, drop}
 use Rattle.plans.specs.Plan.{planOf, checksTo}
-use Rattle.plans.specs.Refusal.{room, sumsAt}
+use Rattle.plans.specs.Refusal.{sumPlaces, sumsAt}
 use Rattle.steps.specs.Steps.{rowStep, levelStep}
 use Rattle.plans.specs.declared.Bench.{Bench}
 use Rattle.plans.specs.declared.Stepped.{Stepped}
@@ -40,7 +40,7 @@ WalkReads = (ms : List Move) (b c : Bench) → SameRead b c → SameRead (walk m
 
 -- row r's places for sums
 abbrev pub placesAt : List ℕ → ℕ → List ℕ
-placesAt sums r = take room (drop (r * room) sums)
+placesAt sums r = take sumPlaces (drop (r * sumPlaces) sums)
 
 -- c came from b: the room beyond the plan's size, the sums learned before, and those of levels above c's are as they were
 pub record RoomKept (b c : Bench) : Type 0 where
@@ -48,7 +48,7 @@ pub record RoomKept (b c : Bench) : Type 0 where
   pub level : b .level ≤ c .level
   pub symbols : let P = planOf (b .plan) in drop (P .rows * P .columns) (c .symbols) ≡ drop (P .rows * P .columns) (b .symbols)
   pub marks : let P = planOf (b .plan) in drop (P .rows) (c .marks) ≡ drop (P .rows) (b .marks)
-  pub sums : let P = planOf (b .plan) in drop (P .rows * room) (c .sums) ≡ drop (P .rows * room) (b .sums)
+  pub sums : let P = planOf (b .plan) in drop (P .rows * sumPlaces) (c .sums) ≡ drop (P .rows * sumPlaces) (b .sums)
   pub before : let P = planOf (b .plan) in (r : ℕ) → r < P .rows → sumsAt P (b .level) (c .sums) r ≡ sumsAt P (b .level) (b .sums) r
   pub above : let P = planOf (b .plan) in let n = length (checksTo P (c .level)) in
       (r : ℕ) → r < P .rows → drop n (placesAt (c .sums) r) ≡ drop n (placesAt (b .sums) r)

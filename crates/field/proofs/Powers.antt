@@ -11,7 +11,7 @@ use Rattle.field.specs.Field.{_⊕_, Field, size, mul, dot}
 use Rattle.field.specs.Power.{power, powerSum}
 use Rattle.field.proofs.Sum.{of-bits, ⊕-comm, ⊕-self, ⊕-zero, zero-⊕, ⊕-four, ⊕-cancel}
 use Rattle.field.proofs.Laws.{IsField, zero-mul, mul-zero, mul-one, mul-⊕, mul-left-comm, domain}
-use Rattle.field.proofs.Words.{Fit, Apart, Distinct}
+use Rattle.field.proofs.Words.{EachBelow, Apart, Distinct}
 
 -- each symbol times f of its location
 unfoldable scale : Field → (ℕ → ℕ) → List ℕ → List ℕ → List ℕ
@@ -55,7 +55,7 @@ module _ (F : Field) (K : IsField F) where
       c h)
 
   -- the square of a power sum of bits is the power sum of twice the exponent
-  pub square-sum : (xs w : List ℕ) (p : ℕ) → Fit 2 w → mul F (powerSum F xs w p) (powerSum F xs w p) ≡ powerSum F xs w (p + p)
+  pub square-sum : (xs w : List ℕ) (p : ℕ) → EachBelow 2 w → mul F (powerSum F xs w p) (powerSum F xs w p) ≡ powerSum F xs w (p + p)
   unfolding powerSum dot
   square-sum [] w p h = zero-mul F K 0
   square-sum (x ∷ xs) [] p h = zero-mul F K 0
@@ -64,7 +64,7 @@ module _ (F : Field) (K : IsField F) where
 
   -- ---- a word scaled
 
-  scale-fit : (f : ℕ → ℕ) (xs w : List ℕ) → Fit (size F) (scale F f xs w)
+  scale-fit : (f : ℕ → ℕ) (xs w : List ℕ) → EachBelow (size F) (scale F f xs w)
   unfolding scale
   scale-fit f [] w = tt
   scale-fit f (x ∷ xs) [] = tt
@@ -78,7 +78,7 @@ module _ (F : Field) (K : IsField F) where
 
   -- where f is a nonzero element at every element but a, and a is no location, the weight stays
   module _ (f : ℕ → ℕ) (a : ℕ) (f-lt : (x : ℕ) → x < size F → f x < size F) (f-≢ : (x : ℕ) → x < size F → x ≢ a → f x ≢ 0) where
-    scale-weight : (xs w : List ℕ) → Fit (size F) xs → Apart a xs → Fit (size F) w → length w ≡ length xs → weight (scale F f xs w) ≡ weight w
+    scale-weight : (xs w : List ℕ) → EachBelow (size F) xs → Apart a xs → EachBelow (size F) w → length w ≡ length xs → weight (scale F f xs w) ≡ weight w
     unfolding scale weight
     scale-weight [] [] hx ne hw e = refl
     scale-weight [] (c ∷ w) hx ne hw e = omega arith
@@ -121,7 +121,7 @@ module _ (F : Field) (K : IsField F) where
   -- ---- distinct locations have independent powers
 
   -- as many power sums as there are symbols that are not 0 show that there are none
-  pub independent : (xs w : List ℕ) (m : ℕ) → Distinct xs → Fit (size F) xs → Fit (size F) w → length w ≡ length xs → weight w ≤ m
+  pub independent : (xs w : List ℕ) (m : ℕ) → Distinct xs → EachBelow (size F) xs → EachBelow (size F) w → length w ≡ length xs → weight w ≤ m
       → ((p : ℕ) → p < m → powerSum F xs w p ≡ 0) → weight w ≡ 0
   unfolding weight powerSum dot power
   independent [] [] m d hx hw e h s = refl
@@ -154,7 +154,7 @@ module _ (F : Field) (K : IsField F) where
       (raise-sum n xs w p)
 
   -- where no location is 0, any m powers in a row will do: the bound of Bose, Chaudhuri and Hocquenghem
-  pub independent-from : (n : ℕ) (xs w : List ℕ) (m : ℕ) → Distinct xs → Apart 0 xs → Fit (size F) xs → Fit (size F) w → length w ≡ length xs
+  pub independent-from : (n : ℕ) (xs w : List ℕ) (m : ℕ) → Distinct xs → Apart 0 xs → EachBelow (size F) xs → EachBelow (size F) w → length w ≡ length xs
       → weight w ≤ m → ((p : ℕ) → p < m → powerSum F xs w (n + p) ≡ 0) → weight w ≡ 0
   independent-from n xs w m d ne hx hw e h s =
       let f : ℕ → ℕ = λ x. power F x n in

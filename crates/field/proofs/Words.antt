@@ -17,8 +17,8 @@ Each P [] = Unit {0}
 Each P (x ∷ xs) = P x × Each P xs
 
 -- every number is below q
-abbrev pub Fit : ℕ → List ℕ → Type 0
-Fit q = Each (λ x. x < q)
+abbrev pub EachBelow : ℕ → List ℕ → Type 0
+EachBelow q = Each (λ x. x < q)
 
 -- none is a
 abbrev pub Apart : ℕ → List ℕ → Type 0
@@ -46,7 +46,7 @@ module _ (P : ℕ → Type 0) where
   at-each [] h = tt
   at-each (x ∷ xs) h = (h 0 (omega arith), at-each xs (λ i l. h (suc i) (omega arith)))
 
-pub fit-le : (q r : ℕ) → q ≤ r → (xs : List ℕ) → Fit q xs → Fit r xs
+pub fit-le : (q r : ℕ) → q ≤ r → (xs : List ℕ) → EachBelow q xs → EachBelow r xs
 fit-le q r l = each-imp (λ x. x < q) (λ x. x < r) (λ x h. le-trans h l)
 
 -- ---- tests
@@ -69,7 +69,7 @@ pub are-each : (P : ℕ → Type 0) (f : ℕ → Bool) → ((x : ℕ) → T (f x
 are-each P f shows [] t = tt
 are-each P f shows (x ∷ xs) t = (shows x (both-left (f x) (each f xs) t), are-each P f shows xs (both-right (f x) (each f xs) t))
 
-pub are-fit : (q : ℕ) (xs : List ℕ) → T (fit q xs) → Fit q xs
+pub are-fit : (q : ℕ) (xs : List ℕ) → T (fit q xs) → EachBelow q xs
 are-fit q = are-each (λ x. x < q) (λ x. ltb x q) (λ x. ltb→lt x q)
 
 pub are-apart : (a : ℕ) (xs : List ℕ) → T (apart a xs) → Apart a xs

@@ -13,7 +13,7 @@ use lib.Seq.{sets, getD-append-add, drop-cons, drop-at, take-all, take-add, drop
 use Rattle.field.specs.Lists.{if_then_else_, upFrom}
 use Rattle.field.proofs.Lists.{length-up, getD-map-below}
 use Rattle.field.proofs.Test.{both-left, both-right, both}
-use Rattle.field.proofs.Words.{Fit, each-at}
+use Rattle.field.proofs.Words.{EachBelow, each-at}
 use Rattle.linear.specs.Lists.{all, same}
 use Rattle.linear.proofs.Tests.{is-true, same→eq, same-refl}
 use Rattle.plans.specs.Plan.{Plan, planOf, known, marksOf, marksOffset, symbolsOffset, fileLength}
@@ -341,7 +341,7 @@ read-fit {file} f =
       row-fits = symbols-fit R (marksIn file) (symbolsIn file) (f .symbols);
     }
 
-module _ (file : List ℕ) (bytes : Fit 256 file) where
+module _ (file : List ℕ) (bytes : EachBelow 256 file) where
   byte : (i : ℕ) → i < length file → getD file i 0 < 256
   byte = each-at (λ x. x < 256) file bytes
 
@@ -445,7 +445,7 @@ module _ (p : ℕ) (stripe marks old s m : List ℕ) (e : writeRefusal p stripe 
   marks-read = rw read-written (rw (written p stripe marks old e) (marks-written p stripe marks f))
 
 -- bytes that are not refused when read are written, into a buffer as long, as they were
-module _ (file s m old : List ℕ) (bytes : Fit 256 file) (e : readRefusal file s m ≡ 0) (long : length old ≡ length file) where
+module _ (file s m old : List ℕ) (bytes : EachBelow 256 file) (e : readRefusal file s m ≡ 0) (long : length old ≡ length file) where
   abbrev fit : FileFit file
   fit = read-fits file s m e .0
 

@@ -3,13 +3,13 @@ use Prim.Native.Nat.{ℕ}
 use mathlib.Core.List.{List, [], _∷_}
 use lib.Dec.{T, ltb, ltb→lt}
 use Rattle.field.proofs.Test.{both-left, both-right}
-use Rattle.field.proofs.Words.{Fit}
+use Rattle.field.proofs.Words.{EachBelow}
 use Rattle.linear.specs.Lists.{all}
 use Rattle.plans.specs.Refusal.{allBelow}
 use Rattle.files.specs.Laws.{ReadsWhatWasWritten, WritesWhatWasRead}
 use Rattle.files.proofs.Files.{read-written, stripe-read, marks-read, write-read, file-written}
 
-pub bytes-fit : (l : List ℕ) → T (allBelow 256 l) → Fit 256 l
+pub bytes-fit : (l : List ℕ) → T (allBelow 256 l) → EachBelow 256 l
 unfolding all allBelow
 bytes-fit [] t = tt
 bytes-fit (x ∷ l) t = (ltb→lt x 256 (both-left (ltb x 256) (allBelow 256 l) t), bytes-fit l (both-right (ltb x 256) (allBelow 256 l) t))

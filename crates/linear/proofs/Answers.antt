@@ -21,9 +21,9 @@ use Rattle.linear.specs.Lists.{same, zeros, vanish}
 use Rattle.linear.specs.Fill.{sumsOf, tied, none, one, fill}
 use Rattle.systems.specs.System.{vec, Matrix, ent, inner, Elements, Ker, Solves, Consistency, Dependence}
 use Rattle.systems.specs.Words.{bitAt}
-use Rattle.linear.specs.Marks.{Fit, rowsOf, bitsOf, fillOf, answerOf, vectorOf, Places, hidden, Gathered, scattered}
-use Rattle.linear.specs.declared.Outcome.{Outcome}
-use Rattle.linear.specs.declared.Outcome.the-variants.{Tied, None, One}
+use Rattle.linear.specs.Marks.{Fillable, rowsOf, bitsOf, fillOf, answerOf, vectorOf, Places, hidden, Gathered, scattered}
+use Rattle.linear.specs.declared.FillAnswer.{FillAnswer}
+use Rattle.linear.specs.declared.FillAnswer.the-variants.{Tied, None, One}
 use Rattle.linear.proofs.Tests.{same→eq, same-refl}
 use Rattle.linear.proofs.Filling.{Dependency, Independent, independent-of, Filling, fill-tied, fill-none, fill-one}
 use Rattle.linear.proofs.Choices.{Agrees}
@@ -177,7 +177,7 @@ module _ (F : Field) (K : IsField F) (m n : ℕ) (checks target v : List ℕ) (m
 -- ---- as the code has it
 
 -- the outcome r and the vector w after it are what the definition says
-abbrev pub Answer : ℕ → List ℕ → List ℕ → List ℕ → ℕ → Outcome → List ℕ → Type 0
+abbrev pub Answer : ℕ → List ℕ → List ℕ → List ℕ → ℕ → FillAnswer → List ℕ → Type 0
 Answer q checks target v marks r w = (r ≡ answerOf (fillOf q checks target v marks)) × (w ≡ vectorOf (fillOf q checks target v marks) v)
 
 -- what the two answers of the system say of `fill`, where `filled` has its solution at the marked places
@@ -212,7 +212,7 @@ outcomes q checks target v marks k places M dependent consistent x z P fit G D C
     seen c l = hidden-unmarked marks v c
 
 -- more marks than target sums: the marked columns are dependent, whatever their coefficients
-module _ (q : ℕ) (checks target v : List ℕ) (marks : ℕ) (fit : Fit q checks target v marks) (wide : length target < ones marks) where
+module _ (q : ℕ) (checks target v : List ℕ) (marks : ℕ) (fit : Fillable q checks target v marks) (wide : length target < ones marks) where
   n : ℕ
   n = length v
 

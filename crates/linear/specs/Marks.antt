@@ -13,8 +13,8 @@ use Rattle.field.specs.Ours.{fieldOf}
 use Rattle.linear.specs.Fill.{Fill, tied, none, one, fill}
 use Rattle.systems.specs.Words.{bitAt}
 use Rattle.systems.specs.System.{vec, Matrix, ent, inner, Elements}
-use Rattle.linear.specs.declared.Outcome.{Outcome}
-use Rattle.linear.specs.declared.Outcome.the-variants.{Tied, None, One}
+use Rattle.linear.specs.declared.FillAnswer.{FillAnswer}
+use Rattle.linear.specs.declared.FillAnswer.the-variants.{Tied, None, One}
 
 -- ---- the answer
 
@@ -36,7 +36,7 @@ bitsOf n w = map (λ c. eqb (bitAt w c) 1) (upFrom 0 n)
 
 -- what the code takes: a row of coefficients for each target sum, as many as there are columns; marks of columns alone;
 -- coefficients and target sums that are elements of the field. The vector's symbols may be any numbers
-pub record Fit (q : ℕ) (checks target v : List ℕ) (marks : ℕ) : Type 0 where
+pub record Fillable (q : ℕ) (checks target v : List ℕ) (marks : ℕ) : Type 0 where
   pub few : length target ≤ mostChecks
   pub narrow : length v ≤ mostColumns
   pub shape : length checks ≡ length target * length v
@@ -48,7 +48,7 @@ pub record Fit (q : ℕ) (checks target v : List ℕ) (marks : ℕ) : Type 0 whe
 unfoldable pub fillOf : ℕ → List ℕ → List ℕ → List ℕ → ℕ → Fill
 fillOf q checks target v marks = fill (fieldOf q) (rowsOf (length target) (length v) checks) target (bitsOf (length v) marks) v
 
-unfoldable pub answerOf : Fill → Outcome
+unfoldable pub answerOf : Fill → FillAnswer
 answerOf tied = Tied
 answerOf none = None
 answerOf (one w) = One
@@ -62,8 +62,8 @@ vectorOf (one w) v = w
 -- ---- the steps
 
 -- the room for a system of the most checks in the most columns
-abbrev pub room : ℕ
-room = mostChecks * (mostColumns + 1)
+abbrev pub systemRoom : ℕ
+systemRoom = mostChecks * (mostColumns + 1)
 
 -- `at` lists the k marked columns, each once
 pub record Places (marks k : ℕ) (at : ℕ → ℕ) : Type 0 where

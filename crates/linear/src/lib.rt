@@ -9,9 +9,9 @@ ghost use Rattle.field.specs.Ours.{fieldOf, products};
 ghost use Rattle.linear.specs.Lists.{same};
 ghost use Rattle.linear.specs.Fill.{sumsOf};
 ghost use Rattle.systems.specs.System.{vec, ent, inner, Elements};
-ghost use Rattle.linear.specs.Marks.{Fit, rowsOf, fillOf, answerOf, vectorOf};
+ghost use Rattle.linear.specs.Marks.{Fillable, rowsOf, fillOf, answerOf, vectorOf};
 ghost use Rattle.systems.specs.Words.{bitAt, wordRows};
-ghost use Rattle.linear.specs.Marks.{mostChecks, mostColumns, room, Places, hidden, Copied, Gathered, scattered};
+ghost use Rattle.linear.specs.Marks.{mostChecks, mostColumns, systemRoom, Places, hidden, Copied, Gathered, scattered};
 
 // How many checks and columns `fill` takes at most, and the room that its system takes.
 pub const CHECKS: usize = 16;
@@ -21,7 +21,7 @@ pub const COLUMNS: usize = 32;
 const ROOM: usize = CHECKS * (COLUMNS + 1);
 
 // The marked columns are dependent; they are not, and nothing fills; or the one vector that does is in place.
-pub enum Outcome {
+pub enum FillAnswer {
     Tied,
     None,
     One,
@@ -175,8 +175,8 @@ fn gather_marked(
     a: &mut [u8],
 ) -> usize
     requires { ⌜ now table ≡ products ⌝ }
-    requires { ⌜ Fit q (now checks) (now target) (now v) marks ⌝ }
-    requires { ⌜ (length (now places) ≡ mostColumns) × (length (now a) ≡ room) × Elements (fieldOf q) (vec (now a)) ⌝ }
+    requires { ⌜ Fillable q (now checks) (now target) (now v) marks ⌝ }
+    requires { ⌜ (length (now places) ≡ mostColumns) × (length (now a) ≡ systemRoom) × Elements (fieldOf q) (vec (now a)) ⌝ }
     ensures { λ k. ⌜ (k ≤ length (now (v .entry))) × Places marks k (vec (now (places .exit))) ⌝ }
     ensures { λ k. ⌜ Gathered (fieldOf q) (now (checks .entry)) (now (target .entry)) (hidden marks (now (v .entry))) (length (now (v .entry))) k
         (vec (now (places .exit))) (ent (now (a .exit)) (k + 1)) (length (now (target .entry))) ⌝ }
@@ -197,9 +197,9 @@ fn fill_marked(
     target: &[u8],
     v: &mut [u8],
     marks: u32,
-) -> Outcome
+) -> FillAnswer
     requires { ⌜ now table ≡ products ⌝ }
-    requires { ⌜ Fit q (now checks) (now target) (now v) marks ⌝ }
+    requires { ⌜ Fillable q (now checks) (now target) (now v) marks ⌝ }
     ensures { λ r. ⌜ r ≡ answerOf (fillOf q (now (checks .entry)) (now (target .entry)) (now (v .entry)) marks) ⌝ }
     ensures { λ _. ⌜ now (v .exit) ≡ vectorOf (fillOf q (now (checks .entry)) (now (target .entry)) (now (v .entry)) marks) (now (v .entry)) ⌝ }
 {
@@ -229,13 +229,13 @@ fn fill_marked(
         &mut dependency[..],
     );
     if s.dependent {
-        return Outcome::Tied;
+        return FillAnswer::Tied;
     }
     if !s.consistent {
-        return Outcome::None;
+        return FillAnswer::None;
     }
     scatter(v, &places[..], k, &solution[..]);
-    Outcome::One
+    FillAnswer::One
 }
 
 // The coefficients of check i at the k places as the low bits of a word, and `last` above them.
@@ -297,9 +297,15 @@ fn scatter_bits(v: &mut [u8], places: &[usize], k: usize, rows: &[u32])
 }
 
 // Fills the marked places over GF(2), by the system of the marked columns with a row to a word.
-fn fill_binary(table: &[u8; 256], checks: &[u8], target: &[u8], v: &mut [u8], marks: u32) -> Outcome
+fn fill_binary(
+    table: &[u8; 256],
+    checks: &[u8],
+    target: &[u8],
+    v: &mut [u8],
+    marks: u32,
+) -> FillAnswer
     requires { ⌜ now table ≡ products ⌝ }
-    requires { ⌜ Fit 2 (now checks) (now target) (now v) marks × (ones marks ≤ length (now target)) ⌝ }
+    requires { ⌜ Fillable 2 (now checks) (now target) (now v) marks × (ones marks ≤ length (now target)) ⌝ }
     ensures { λ r. ⌜ r ≡ answerOf (fillOf 2 (now (checks .entry)) (now (target .entry)) (now (v .entry)) marks) ⌝ }
     ensures { λ _. ⌜ now (v .exit) ≡ vectorOf (fillOf 2 (now (checks .entry)) (now (target .entry)) (now (v .entry)) marks) (now (v .entry)) ⌝ }
 {
@@ -319,13 +325,13 @@ fn fill_binary(table: &[u8; 256], checks: &[u8], target: &[u8], v: &mut [u8], ma
         &mut rows[..],
     );
     if binary::reduce(&mut rows[..], m, k) < k {
-        return Outcome::Tied;
+        return FillAnswer::Tied;
     }
     if binary::find_row(&rows[..], m, k) < m {
-        return Outcome::None;
+        return FillAnswer::None;
     }
     scatter_bits(v, &places[..], k, &rows[..]);
-    Outcome::One
+    FillAnswer::One
 }
 
 // Fills the marked places of v, in field `q`, so that its sums are the target: for each sum `checks` has a row of coefficients, as
@@ -339,14 +345,14 @@ pub fn fill(
     target: &[u8],
     v: &mut [u8],
     marks: u32,
-) -> Outcome
+) -> FillAnswer
     requires { ⌜ now table ≡ products ⌝ }
-    requires { ⌜ Fit q (now checks) (now target) (now v) marks ⌝ }
+    requires { ⌜ Fillable q (now checks) (now target) (now v) marks ⌝ }
     ensures { λ r. ⌜ r ≡ answerOf (fillOf q (now (checks .entry)) (now (target .entry)) (now (v .entry)) marks) ⌝ }
     ensures { λ _. ⌜ now (v .exit) ≡ vectorOf (fillOf q (now (checks .entry)) (now (target .entry)) (now (v .entry)) marks) (now (v .entry)) ⌝ }
 {
     if target.len() < u32::count_ones(marks) as usize {
-        return Outcome::Tied;
+        return FillAnswer::Tied;
     }
     if marks != 0 {
         if q == 2 {
@@ -355,7 +361,7 @@ pub fn fill(
         return fill_marked(q, table, checks, target, v, marks);
     }
     if has_sums(q, table, checks, target, &v[..]) {
-        return Outcome::One;
+        return FillAnswer::One;
     }
-    Outcome::None
+    FillAnswer::None
 }

@@ -61,11 +61,11 @@ fn write_symbols(x: [u8; 5], end: u8) {
     io::write_all(1, &line);
 }
 
-fn outcome(o: linear::Outcome) -> u8 {
+fn outcome(o: linear::FillAnswer) -> u8 {
     match o {
-        linear::Outcome::Tied => b't',
-        linear::Outcome::None => b'n',
-        linear::Outcome::One => b'1',
+        linear::FillAnswer::Tied => b't',
+        linear::FillAnswer::None => b'n',
+        linear::FillAnswer::One => b'1',
     }
 }
 

@@ -6,7 +6,7 @@ use native.Mathlib.Omega.{arith}
 use lib.Dec.{lit≤}
 use lib.ListN.{length, List·getD-eq-default}
 use lib.Seq.{take-all}
-use Rattle.plans.specs.Plan.{Plan, Level, ones, plan1, plan2, plan3, noPlan, planOf, noLevel, levelOf, checksTo}
+use Rattle.plans.specs.Plan.{Plan, Level, allOnes, plan1, plan2, plan3, noPlan, planOf, noLevel, levelOf, checksTo}
 
 -- a number that is no plan's has the plan with nothing in it
 pub unknown : (p : ℕ) → (p ≡ 1 → ⊥) → (p ≡ 2 → ⊥) → (p ≡ 3 → ⊥) → planOf p ≡ noPlan
@@ -63,7 +63,7 @@ weights-none p (suc (suc (suc zero))) n2 n3 = absurd (n3 refl)
 weights-none p (suc (suc (suc (suc t)))) n2 n3 = of-plans (λ P. levelOf P (suc (suc (suc (suc t)))) .weights ≡ []) refl refl refl refl p
 
 -- only plans 2 and 3 have a level 3: one plain total
-pub weights-3 : (p : ℕ) → 2 ≤ p → p < 4 → levelOf (planOf p) 3 .weights ≡ ones 8 ∷ []
+pub weights-3 : (p : ℕ) → 2 ≤ p → p < 4 → levelOf (planOf p) 3 .weights ≡ allOnes 8 ∷ []
 unfolding planOf plan2 plan3 levelOf
 weights-3 zero l h = absurd (omega arith)
 weights-3 (suc zero) l h = absurd (omega arith)

@@ -20,7 +20,7 @@ use Rattle.linear.proofs.Tests.{is-true, or-right, all-first, all-rest}
 use Rattle.linear.proofs.Choices.{Alike}
 use Rattle.linear.proofs.Beside.{beside-alike}
 use Rattle.plans.specs.Plan.{Plan, known, planOf, rowAt, marksAt, checksTo}
-use Rattle.plans.specs.Refusal.{room, firstFailed, stripeFits, wordsFit, marksFit, allBelow, unmarkedBelow, symbolsFit, sumsAt, sumsFit, inMemory, inFile, lentRefusal}
+use Rattle.plans.specs.Refusal.{sumPlaces, firstFailed, stripeFits, wordsFit, marksFit, allBelow, unmarkedBelow, symbolsFit, sumsAt, sumsFit, inMemory, inFile, lentRefusal}
 use Rattle.plans.specs.Tables.{FactsOf}
 use Rattle.plans.specs.declared.plan.Facts.{Facts}
 use Rattle.plans.proofs.Plans.{rows-most}
@@ -130,19 +130,19 @@ pub record Turn (P : Plan) (marks symbols : List ℕ) (f : Facts) (r at : ℕ) :
   pub long : length (part symbols (f .columns) at) ≡ P .columns
   pub test : let row = part symbols (f .columns) at in unmarkedBelow (f .field) (bitsOf (length row) (getD marks r 0)) row ≡ rowFits P marks symbols r
 
-module _ (P : Plan) (marks symbols : List ℕ) (room : P .rows * P .columns ≤ length symbols) where
+module _ (P : Plan) (marks symbols : List ℕ) (long : P .rows * P .columns ≤ length symbols) where
   pub symbols-below : allBelow (size (P .field)) (take (P .rows * P .columns) symbols) ≡ true → symbolsFit P marks symbols ≡ true
   unfolding symbolsFit rowAt
   symbols-below e =
       up-true (rowFits P marks symbols) (P .rows) (λ r h.
       is-true _ (unmarked-below (P .field) (marksAt P marks r) _
-      (subst T (sym (below-part _ symbols (P .rows * P .columns) room e (r * P .columns) (P .columns) (row-ends P r h))) tt)))
+      (subst T (sym (below-part _ symbols (P .rows * P .columns) long e (r * P .columns) (P .columns) (row-ends P r h))) tt)))
 
   pub turn : {f : Facts} → FactsOf P f → (r at : ℕ) → r < f .rows → at ≡ r * f .columns → Turn P marks symbols f r at
   unfolding rowAt marksAt
   turn {f} is r at h start =
       let N = P .columns in
-      let ends : r * N + N ≤ length symbols = le-trans (row-ends P r (rw (is .rows) at h)) room in
+      let ends : r * N + N ≤ length symbols = le-trans (row-ends P r (rw (is .rows) at h)) long in
       let long : length (take N (drop (r * N) symbols)) ≡ N = length-take-le N (drop (r * N) symbols) (rw length-drop (omega arith)) in
       record {
         ends = rw (start, is .columns) ends;
@@ -161,7 +161,7 @@ pub sums-up : (P : Plan) (t : ℕ) (sums : List ℕ) {rows : ℕ} → rows ≡ P
 unfolding sumsFit
 sums-up P t sums er = ap (λ n. all (rowSumsFit P t sums) (upFrom 0 n)) (sym er)
 
-pub sums-end : (p t r : ℕ) → r < planOf p .rows → r * room + length (checksTo (planOf p) t) ≤ 128
+pub sums-end : (p t r : ℕ) → r < planOf p .rows → r * sumPlaces + length (checksTo (planOf p) t) ≤ 128
 sums-end p t r h = omega (arith, rows-most p, sums-most p t)
 
 pub sums-below : (p t : ℕ) (sums : List ℕ) → length sums ≡ 128 → allBelow (size (planOf p .field)) sums ≡ true → sumsFit (planOf p) t sums ≡ true
@@ -169,13 +169,13 @@ unfolding sumsFit sumsAt
 sums-below p t sums whole e =
     let some : allBelow (size (planOf p .field)) (take 128 sums) ≡ true = ap (allBelow _) (take-all 128 sums (omega arith)) ∙ e in
     up-true (rowSumsFit (planOf p) t sums) (planOf p .rows) (λ r h.
-    below-part _ sums 128 (omega arith) some (r * room) (length (checksTo (planOf p) t)) (sums-end p t r h))
+    below-part _ sums 128 (omega arith) some (r * sumPlaces) (length (checksTo (planOf p) t)) (sums-end p t r h))
 
 -- row r's test as it is called, on a part of the sums
 pub sums-part : (P : Plan) (t : ℕ) (sums : List ℕ) {count q : ℕ} → count ≡ length (checksTo P t) → q ≡ size (P .field) → (r : ℕ)
-    → allBelow q (take (r * room + count - r * room) (drop (r * room) sums)) ≡ rowSumsFit P t sums r
+    → allBelow q (take (r * sumPlaces + count - r * sumPlaces) (drop (r * sumPlaces) sums)) ≡ rowSumsFit P t sums r
 unfolding sumsAt
-sums-part P t sums en eq r = rw (en, eq, add-sub-cancel-left (r * room) (length (checksTo P t)))
+sums-part P t sums en eq r = rw (en, eq, add-sub-cancel-left (r * sumPlaces) (length (checksTo P t)))
 
 -- ---- what holds where nothing is refused
 

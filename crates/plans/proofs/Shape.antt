@@ -11,8 +11,8 @@ use Rattle.field.proofs.Test.{both-right}
 use Rattle.field.proofs.Laws.{IsField}
 use Rattle.field.proofs.Fields.{gf2-field, gf16-field}
 use Rattle.linear.specs.Lists.{all}
-use Rattle.plans.specs.Plan.{Plan, Level, ones, bitChecks, locations1, plan1, locations2, powers2, plan2, locations3, powers3, plan3, noPlan, known, planOf, noLevel, levelOf, checksTo}
-use Rattle.plans.specs.Refusal.{room}
+use Rattle.plans.specs.Plan.{Plan, Level, allOnes, bitChecks, locations1, plan1, locations2, powers2, plan2, locations3, powers3, plan3, noPlan, known, planOf, noLevel, levelOf, checksTo}
+use Rattle.plans.specs.Refusal.{sumPlaces}
 use Rattle.plans.proofs.Flat.{all-at}
 
 -- what holds of 1, 2 and 3 holds of every known number
@@ -46,11 +46,11 @@ pub record Shape (P : Plan) : Type 0 where
   pub symbols-le : P .rows * P .columns ≤ 256
   pub levels-pos : 0 < length (P .levels)
   pub levels-le : length (P .levels) ≤ 3
-  pub sums-le : length (checksTo P (length (P .levels))) ≤ room
+  pub sums-le : length (checksTo P (length (P .levels))) ≤ sumPlaces
   pub some-checks : T (all (λ (L : Level). ltb 0 (length (L .checks))) (P .levels))
 
 pub shape : (p : ℕ) → T (known p) → Shape (planOf p)
-unfolding upFrom flatMap all ones bitChecks locations1 plan1 locations2 powers2 plan2 locations3 powers3 plan3 planOf checksTo
+unfolding upFrom flatMap all allOnes bitChecks locations1 plan1 locations2 powers2 plan2 locations3 powers3 plan3 planOf checksTo
 shape = of-known (λ p. Shape (planOf p)) (omega arith) (omega arith) (omega arith)
 
 -- every level has a check

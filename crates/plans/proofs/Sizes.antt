@@ -10,7 +10,7 @@ use Rattle.field.specs.Lists.{upFrom}
 use Rattle.field.specs.Field.{_⊕_, size, double, times, mul, gf16, gf32}
 use Rattle.field.specs.Power.{power}
 use Rattle.linear.specs.Lists.{all}
-use Rattle.plans.specs.Plan.{Level, ones, bitChecks, locations1, plan1, locations2, powers2, plan2, locations3, powers3, plan3, noPlan, planOf, noLevel, levelOf, checksTo}
+use Rattle.plans.specs.Plan.{Level, allOnes, bitChecks, locations1, plan1, locations2, powers2, plan2, locations3, powers3, plan3, noPlan, planOf, noLevel, levelOf, checksTo}
 use Rattle.plans.specs.Tables.{padded, flat, checkTable, weightTable}
 use Rattle.plans.proofs.Plans.{of-plans, rows-most, columns-most}
 use Rattle.plans.proofs.Flat.{all-getD}
@@ -20,7 +20,7 @@ use Rattle.plans.proofs.Tables.{checks-before, sums-most}
 
 checks-all : (p : ℕ) → length (checkTable (planOf p)) ≡ length (checksTo (planOf p) (length (planOf p .levels))) * planOf p .columns
 unfolding upFrom flatMap _⊕_ size double times mul gf16 gf32 power
-    ones bitChecks locations1 plan1 locations2 powers2 plan2 locations3 powers3 plan3 noPlan checksTo checkTable
+    allOnes bitChecks locations1 plan1 locations2 powers2 plan2 locations3 powers3 plan3 noPlan checksTo checkTable
 checks-all = of-plans (λ P. length (checkTable P) ≡ length (checksTo P (length (P .levels))) * P .columns) refl refl refl refl
 
 pub checks-room : (p t : ℕ) → length (checksTo (planOf p) t) * planOf p .columns ≤ length (checkTable (planOf p))
@@ -34,11 +34,11 @@ checks-length p = rw (checks-all p) (mul-le-mul (sums-most p (length (planOf p .
 -- ---- weights
 
 few-totals : (p : ℕ) → T (all (λ (L : Level). leb (length (L .weights)) 2) (planOf p .levels))
-unfolding upFrom all ones plan1 plan2 plan3 noPlan
+unfolding upFrom all allOnes plan1 plan2 plan3 noPlan
 few-totals = of-plans (λ P. T (all (λ (L : Level). leb (length (L .weights)) 2) (P .levels))) tt tt tt tt
 
 full-tables : (p : ℕ) → T (all (λ (L : Level). eqb (length (flat 16 (L .weights))) 16) (planOf p .levels))
-unfolding upFrom flatMap _⊕_ size double times mul gf16 power all ones plan1 plan2 plan3 noPlan padded flat
+unfolding upFrom flatMap _⊕_ size double times mul gf16 power all allOnes plan1 plan2 plan3 noPlan padded flat
 full-tables = of-plans (λ P. T (all (λ (L : Level). eqb (length (flat 16 (L .weights))) 16) (P .levels))) tt tt tt tt
 
 module _ (p t : ℕ) where

@@ -13,7 +13,7 @@ use Rattle.field.specs.Field.{_⊕_, size, double, times, mul, gf2, gf16, gf32}
 use Rattle.field.specs.Power.{power}
 use Rattle.field.proofs.Ring.{size-pos}
 use Rattle.linear.specs.Lists.{all}
-use Rattle.plans.specs.Plan.{Plan, Level, ones, bitChecks, locations1, plan1, locations2, powers2, plan2, locations3, powers3, plan3, noPlan, planOf, noLevel, levelOf, checksTo}
+use Rattle.plans.specs.Plan.{Plan, Level, allOnes, bitChecks, locations1, plan1, locations2, powers2, plan2, locations3, powers3, plan3, noPlan, planOf, noLevel, levelOf, checksTo}
 use Rattle.plans.specs.Refusal.{allBelow}
 use Rattle.plans.specs.Tables.{padded, flat, checkTable, weightTable}
 use Rattle.plans.proofs.Plans.{of-plans}
@@ -48,25 +48,25 @@ sums-more P t = ap length (checks-more P t) ∙ length-append (checksTo P t) (le
 
 wide-checks : (p : ℕ) → T (wide (planOf p .columns) (checksTo (planOf p) (length (planOf p .levels))))
 unfolding upFrom flatMap _⊕_ size double times mul gf16 gf32 power all
-    ones bitChecks locations1 plan1 locations2 powers2 plan2 locations3 powers3 plan3 noPlan checksTo
+    allOnes bitChecks locations1 plan1 locations2 powers2 plan2 locations3 powers3 plan3 noPlan checksTo
 wide-checks = of-plans (λ P. T (wide (P .columns) (checksTo P (length (P .levels))))) tt tt tt tt
 
 small-checks : (p : ℕ) → T (allBelow (size (planOf p .field)) (flatMap (λ row. row) (checksTo (planOf p) (length (planOf p .levels)))))
 unfolding upFrom flatMap _⊕_ size double times mul gf2 gf16 gf32 power all
-    ones bitChecks locations1 plan1 locations2 powers2 plan2 locations3 powers3 plan3 noPlan checksTo allBelow
+    allOnes bitChecks locations1 plan1 locations2 powers2 plan2 locations3 powers3 plan3 noPlan checksTo allBelow
 small-checks = of-plans (λ P. T (allBelow (size (P .field)) (flatMap (λ row. row) (checksTo P (length (P .levels)))))) tt tt tt tt
 
 wide-weights : (p : ℕ) → T (all (λ (L : Level). wide (planOf p .rows) (L .weights)) (planOf p .levels))
-unfolding upFrom _⊕_ size double times mul gf16 power all ones plan1 plan2 plan3 noPlan
+unfolding upFrom _⊕_ size double times mul gf16 power all allOnes plan1 plan2 plan3 noPlan
 wide-weights = of-plans (λ P. T (all (λ (L : Level). wide (P .rows) (L .weights)) (P .levels))) tt tt tt tt
 
 small-weights : (p : ℕ) → T (all (λ (L : Level). allBelow (size (planOf p .field)) (flatMap (λ row. row) (L .weights))) (planOf p .levels))
-unfolding upFrom flatMap _⊕_ size double times mul gf2 gf16 power all ones plan1 plan2 plan3 noPlan allBelow
+unfolding upFrom flatMap _⊕_ size double times mul gf2 gf16 power all allOnes plan1 plan2 plan3 noPlan allBelow
 small-weights = of-plans (λ P. T (all (λ (L : Level). allBelow (size (P .field)) (flatMap (λ row. row) (L .weights))) (P .levels))) tt tt tt tt
 
 -- a row has at most 16 sums
 pub sums-most : (p t : ℕ) → length (checksTo (planOf p) t) ≤ 16
-unfolding upFrom flatMap ones bitChecks locations1 plan1 powers2 plan2 locations3 plan3 noPlan checksTo
+unfolding upFrom flatMap allOnes bitChecks locations1 plan1 powers2 plan2 locations3 plan3 noPlan checksTo
 sums-most p t =
     let all : length (checksTo (planOf p) (length (planOf p .levels))) ≤ 16 =
     of-plans (λ P. length (checksTo P (length (P .levels))) ≤ 16) (lit≤ tt) (lit≤ tt) (lit≤ tt) (lit≤ tt) p in

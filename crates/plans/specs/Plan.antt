@@ -26,8 +26,8 @@ pub record Plan : Type 0 where
 -- ---- row checks and weights
 
 -- every coefficient is 1: parity, and the plain total
-unfoldable pub ones : ℕ → List ℕ
-ones n = replicate n 1
+unfoldable pub allOnes : ℕ → List ℕ
+allOnes n = replicate n 1
 
 -- a check for each of the n bits of a column's number, low first
 unfoldable pub bitChecks : ℕ → List ℕ → List (List ℕ)
@@ -49,8 +49,8 @@ plan1 = record {
   rows = 3;
   columns = 7;
   levels =
-      record { checks = ones 7 ∷ []; weights = [] }
-      ∷ record { checks = bitChecks 3 locations1; weights = ones 3 ∷ [] }
+      record { checks = allOnes 7 ∷ []; weights = [] }
+      ∷ record { checks = bitChecks 3 locations1; weights = allOnes 3 ∷ [] }
       ∷ [];
   checkPlaces = replicate 2 (wordOf (6 ∷ [])) ++ (wordOf (2 ∷ 4 ∷ 5 ∷ 6 ∷ []) ∷ []);
 }
@@ -69,9 +69,9 @@ plan2 = record {
   rows = 8;
   columns = 32;
   levels =
-      record { checks = ones 32 ∷ powers2 1; weights = [] }
-      ∷ record { checks = powers2 3; weights = ones 8 ∷ [] }
-      ∷ record { checks = powers2 5; weights = ones 8 ∷ [] }
+      record { checks = allOnes 32 ∷ powers2 1; weights = [] }
+      ∷ record { checks = powers2 3; weights = allOnes 8 ∷ [] }
+      ∷ record { checks = powers2 5; weights = allOnes 8 ∷ [] }
       ∷ [];
   checkPlaces = replicate 7 (wordOf ((0 to 4) ++ (31 ∷ []))) ++ (wordOf ((0 to 14) ++ (31 ∷ [])) ∷ []);
 }
@@ -91,8 +91,8 @@ plan3 = record {
   columns = 15;
   levels =
       record { checks = map powers3 (0 to 1); weights = [] }
-      ∷ record { checks = powers3 2 ∷ []; weights = ones 8 ∷ map (power gf16 2) (0 to 7) ∷ [] }
-      ∷ record { checks = map powers3 (3 to 6); weights = ones 8 ∷ [] }
+      ∷ record { checks = powers3 2 ∷ []; weights = allOnes 8 ∷ map (power gf16 2) (0 to 7) ∷ [] }
+      ∷ record { checks = map powers3 (3 to 6); weights = allOnes 8 ∷ [] }
       ∷ [];
   checkPlaces = replicate 6 (wordOf (13 to 14)) ++ (wordOf (12 to 14) ∷ wordOf (8 to 14) ∷ []);
 }

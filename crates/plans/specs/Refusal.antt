@@ -58,12 +58,12 @@ symbolsFit P marks symbols =
     all (λ r. unmarkedBelow (size (P .field)) (marksAt P marks r) (rowAt P symbols r)) (upFrom 0 (P .rows))
 
 -- a row's sums stand at the first of its 16 places
-abbrev pub room : ℕ
-room = 16
+abbrev pub sumPlaces : ℕ
+sumPlaces = 16
 
 -- the learned sums of row r for levels 1 to t
 unfoldable pub sumsAt : Plan → ℕ → List ℕ → ℕ → List ℕ
-sumsAt P t sums r = take (length (checksTo P t)) (drop (r * room) sums)
+sumsAt P t sums r = take (length (checksTo P t)) (drop (r * sumPlaces) sums)
 
 unfoldable pub sumsFit : Plan → ℕ → List ℕ → Bool
 sumsFit P t sums = all (λ r. allBelow (size (P .field)) (sumsAt P t sums r)) (upFrom 0 (P .rows))

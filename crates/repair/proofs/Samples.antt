@@ -12,7 +12,7 @@ use Rattle.field.specs.Power.{power}
 use Rattle.linear.specs.Lists.{all, only, same, vanish, first, rest, beside}
 use Rattle.linear.specs.Marks.{bitsOf}
 use Rattle.linear.specs.Fill.{sumsOf}
-use Rattle.plans.specs.Plan.{ones, bitChecks, wordOf, locations1, plan1, locations2, powers2, plan2, locations3, powers3, plan3, known, noPlan, planOf, noLevel, levelOf, checksTo, rowAt, marksAt, marksOf, across, checkPlacesOf, carried, marksOffset, symbolsOffset, fileLength}
+use Rattle.plans.specs.Plan.{allOnes, bitChecks, wordOf, locations1, plan1, locations2, powers2, plan2, locations3, powers3, plan3, known, noPlan, planOf, noLevel, levelOf, checksTo, rowAt, marksAt, marksOf, across, checkPlacesOf, carried, marksOffset, symbolsOffset, fileLength}
 use Rattle.plans.specs.Refusal.{firstFailed, unasked, inMemory, inFile, stripeFits, wordsFit, marksFit, allBelow, unmarkedBelow, symbolsFit, sumsAt, sumsFit, levelFits, lentRefusal, benchRefusal}
 use Rattle.codewords.specs.Codeword.{rowsHold, totalsHold, isCodeword, testRefusal, encodeRefusal, extractRefusal}
 use Rattle.repair.specs.File.{bytes2, headerOf, blanked, planIn, wordAt, marksIn, symbolsIn, fileRefusal, readRefusal, writeRefusal}
@@ -42,7 +42,7 @@ pub samples :
     (isCodeword plan2 sample2 ≡ true) × (isCodeword plan2 (changed 40 1 sample2) ≡ false)
     × (isCodeword plan3 sample3 ≡ true) × (isCodeword plan3 (changed 40 9 sample3) ≡ false)
 unfolding if_then_else_ upFrom _⊕_ size double times mul dot gf2 gf16 gf32 power flatMap all vanish bitsOf sumsOf
-    ones bitChecks wordOf locations2 powers2 plan2 locations3 powers3 plan3 noLevel levelOf rowAt
+    allOnes bitChecks wordOf locations2 powers2 plan2 locations3 powers3 plan3 noLevel levelOf rowAt
     across rowsHold totalsHold isCodeword rowOf sample2 sample3 changed
 samples = (refl, refl, refl, refl)
 
@@ -50,7 +50,7 @@ samples = (refl, refl, refl, refl)
 pub sizes :
     (carried plan1 ≡ 15) × (carried plan2 ≡ 198) × (carried plan3 ≡ 98)
     × (fileLength plan1 ≡ 41) × (fileLength plan2 ≡ 296) × (fileLength plan3 ≡ 160)
-unfolding if_then_else_ upFrom flatMap only bitsOf ones wordOf plan1 plan2 plan3 marksAt marksOf checkPlacesOf carried marksOffset symbolsOffset fileLength
+unfolding if_then_else_ upFrom flatMap only bitsOf allOnes wordOf plan1 plan2 plan3 marksAt marksOf checkPlacesOf carried marksOffset symbolsOffset fileLength
 sizes = (refl, refl, refl, refl, refl, refl)
 
 -- ---- the orders of refusal: of two flaws the earlier in the order is named
@@ -118,7 +118,7 @@ pub memory-order :
     × (extractRefusal 1 (set blank 0 2) [] ≡ 11) × (extractRefusal 1 (set (set blank 0 2) 7 1) noData ≡ 13)
     × (extractRefusal 1 (set blank 0 1) noData ≡ 16)
 unfolding if_then_else_ upFrom _⊕_ size double times mul dot gf2 flatMap all only vanish first rest beside bitsOf sumsOf
-    ones bitChecks wordOf locations1 plan1 known noPlan planOf noLevel levelOf checksTo rowAt marksAt marksOf
+    allOnes bitChecks wordOf locations1 plan1 known noPlan planOf noLevel levelOf checksTo rowAt marksAt marksOf
     firstFailed unasked inMemory stripeFits wordsFit marksFit allBelow unmarkedBelow symbolsFit sumsAt sumsFit levelFits lentRefusal benchRefusal
     across rowsHold totalsHold isCodeword checkPlacesOf carried extractRefusal blank noMarks noData benchWith
 memory-order = (refl, refl, refl, refl, refl, refl, refl, refl, refl, refl, refl, refl)
@@ -135,7 +135,7 @@ pub other-orders :
     × (writeRefusal 4 blank noMarks noFile ≡ 10) × (writeRefusal 1 blank (set noMarks 0 128) [] ≡ 11)
     × (writeRefusal 1 (set blank 0 2) (set noMarks 0 128) noFile ≡ 12) × (writeRefusal 1 (set blank 0 2) noMarks noFile ≡ 13)
 unfolding if_then_else_ upFrom _⊕_ size double times mul dot gf2 flatMap all only vanish first rest beside bitsOf sumsOf
-    ones bitChecks wordOf locations1 plan1 known noPlan planOf noLevel levelOf rowAt marksAt marksOf
+    allOnes bitChecks wordOf locations1 plan1 known noPlan planOf noLevel levelOf rowAt marksAt marksOf
     firstFailed unasked inMemory stripeFits wordsFit marksFit allBelow unmarkedBelow symbolsFit marksOffset symbolsOffset fileLength
     across rowsHold totalsHold isCodeword testRefusal checkPlacesOf carried encodeRefusal extractRefusal writeRefusal blank noMarks noData noFile
 other-orders = (refl, refl, refl, refl, refl, refl, refl, refl, refl, refl, refl)

@@ -7,7 +7,7 @@ use Rattle.field.specs.Power.{power}
 use Rattle.linear.specs.Lists.{any, all, only, same, zeros, vanish, first, rest, beside}
 use Rattle.linear.specs.Marks.{bitsOf}
 use Rattle.linear.specs.Fill.{sumsOf, options, before, oneOfEach, choices, loose, dependent, fillings, fillBy, fill}
-use Rattle.plans.specs.Plan.{ones, bitChecks, wordOf, locations1, plan1, known, planOf, noLevel, levelOf, checksTo, rowAt, marksAt, marksOf, across, checkPlacesOf, carried, marksOffset, symbolsOffset, fileLength}
+use Rattle.plans.specs.Plan.{allOnes, bitChecks, wordOf, locations1, plan1, known, planOf, noLevel, levelOf, checksTo, rowAt, marksAt, marksOf, across, checkPlacesOf, carried, marksOffset, symbolsOffset, fileLength}
 use Rattle.plans.specs.Answers.{answerNumber, placeValues, endValues, answerValues, reportValues}
 use Rattle.plans.specs.Refusal.{firstFailed, unasked, inMemory, inFile, stripeFits, wordsFit, marksFit, allBelow, unmarkedBelow, symbolsFit, sumsAt, sumsFit, levelFits, lentRefusal, benchRefusal}
 use Rattle.steps.specs.Steps.{fresh, stepped, unlessRefused, rowFill, putRow, rowStepBy, rowStep, lossy, join, joined, levelFill, keepSums, raise, levelStepBy, levelStep}
@@ -24,7 +24,7 @@ use Rattle.plans.specs.declared.Answer.the-variants.{Clash}
 pub sheet : Sheet
 unfolding if_then_else_ upFrom _⊕_ size double times mul dot gf2 gf16 gf32 power flatMap
     any all only same zeros vanish first rest beside bitsOf sumsOf options before oneOfEach choices loose dependent fillings fillBy fill
-    ones bitChecks wordOf locations1 plan1 known planOf noLevel levelOf checksTo rowAt marksAt marksOf
+    allOnes bitChecks wordOf locations1 plan1 known planOf noLevel levelOf checksTo rowAt marksAt marksOf
     answerNumber placeValues endValues answerValues reportValues
     firstFailed unasked inMemory inFile stripeFits wordsFit marksFit allBelow unmarkedBelow symbolsFit sumsAt sumsFit levelFits lentRefusal benchRefusal
     fresh stepped unlessRefused rowFill putRow rowStepBy rowStep lossy across join joined levelFill keepSums raise levelStepBy levelStep

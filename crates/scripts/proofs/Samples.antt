@@ -11,7 +11,7 @@ use Rattle.field.specs.Power.{power}
 use Rattle.linear.specs.Lists.{all, only, vanish}
 use Rattle.linear.specs.Marks.{bitsOf}
 use Rattle.linear.specs.Fill.{sumsOf}
-use Rattle.plans.specs.Plan.{ones, wordOf, plan1, locations3, powers3, plan3, known, planOf, noLevel, levelOf, rowAt, marksAt, across}
+use Rattle.plans.specs.Plan.{allOnes, wordOf, plan1, locations3, powers3, plan3, known, planOf, noLevel, levelOf, rowAt, marksAt, across}
 use Rattle.plans.specs.Answers.{stepNumber, outcomeNumber}
 use Rattle.plans.specs.Refusal.{firstFailed, inMemory, marksFit, allBelow, benchRefusal}
 use Rattle.codewords.specs.Codeword.{rowsHold, totalsHold, isCodeword}
@@ -98,7 +98,7 @@ unfoldable pub twoMarked : List ℕ
 twoMarked = wordOf (upFrom 0 3) ∷ wordOf (upFrom 0 7) ∷ replicate 6 0
 
 pub zero-word : Codeword 3 zeroStripe
-unfolding if_then_else_ upFrom _⊕_ size double times mul dot gf16 power all vanish sumsOf ones wordOf locations3 powers3 plan3 planOf noLevel levelOf rowAt
+unfolding if_then_else_ upFrom _⊕_ size double times mul dot gf16 power all vanish sumsOf allOnes wordOf locations3 powers3 plan3 planOf noLevel levelOf rowAt
     allBelow across rowsHold totalsHold isCodeword zeroStripe
 zero-word = record { long = refl; symbols = tt; holds = tt }
 

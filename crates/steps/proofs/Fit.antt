@@ -16,7 +16,7 @@ use Rattle.linear.specs.Lists.{all, vanish}
 use Rattle.linear.specs.Marks.{bitsOf}
 use Rattle.linear.proofs.Tests.{all-in, in-all, up-in, in-up}
 use Rattle.plans.specs.Plan.{Plan, planOf, known, checksTo, rowAt, marksAt}
-use Rattle.plans.specs.Refusal.{firstFailed, unasked, inMemory, stripeFits, wordsFit, marksFit, allBelow, unmarkedBelow, symbolsFit, room, sumsAt, sumsFit, levelFits, lentRefusal, benchRefusal}
+use Rattle.plans.specs.Refusal.{firstFailed, unasked, inMemory, stripeFits, wordsFit, marksFit, allBelow, unmarkedBelow, symbolsFit, sumPlaces, sumsAt, sumsFit, levelFits, lentRefusal, benchRefusal}
 use Rattle.steps.specs.Steps.{fresh}
 use Rattle.plans.specs.declared.Bench.{Bench}
 use Rattle.plans.proofs.Rows.{row-end, row-append}
@@ -260,8 +260,8 @@ module _ (p : ℕ → Bool) where
 pub fresh-sums : (p : ℕ) (stripe marks : List ℕ) (r : ℕ) → T (vanish (sumsAt (planOf p) 1 (fresh p stripe marks .sums) r))
 unfolding fresh sumsAt vanish
 fresh-sums p stripe marks r =
-    all-take (λ x. eqb x 0) (length (checksTo (planOf p) 1)) (drop (r * room) (replicate 128 0))
-    (all-drop (λ x. eqb x 0) (r * room) (replicate 128 0) (all-zeros (λ x. eqb x 0) tt 128))
+    all-take (λ x. eqb x 0) (length (checksTo (planOf p) 1)) (drop (r * sumPlaces) (replicate 128 0))
+    (all-drop (λ x. eqb x 0) (r * sumPlaces) (replicate 128 0) (all-zeros (λ x. eqb x 0) tt 128))
 
 module _ (p : ℕ) (stripe marks : List ℕ) (f : LentFit p stripe marks) where
   pub sized-fresh : Sized (fresh p stripe marks)
@@ -297,6 +297,6 @@ module _ (p : ℕ) (stripe marks : List ℕ) (f : LentFit p stripe marks) where
         (f .row-fits r h));
     sums-fits = λ r h.
         let q = size (planOf p .field) in
-        all-take (λ x. ltb x q) (length (checksTo (planOf p) 1)) (drop (r * room) (replicate 128 0))
-        (all-drop (λ x. ltb x q) (r * room) (replicate 128 0) (all-zeros (λ x. ltb x q) (lt→ltb 0 q (size-pos (planOf p .field))) 128));
+        all-take (λ x. ltb x q) (length (checksTo (planOf p) 1)) (drop (r * sumPlaces) (replicate 128 0))
+        (all-drop (λ x. ltb x q) (r * sumPlaces) (replicate 128 0) (all-zeros (λ x. ltb x q) (lt→ltb 0 q (size-pos (planOf p .field))) 128));
   }

@@ -15,10 +15,10 @@ use Rattle.field.specs.Field.{size}
 use Rattle.field.specs.Ours.{fieldOf}
 use Rattle.field.proofs.Ring.{size-pos}
 use Rattle.linear.specs.Lists.{zeros}
-use Rattle.linear.specs.Marks.{rowsOf, bitsOf, Fit, fillOf, answerOf, vectorOf}
+use Rattle.linear.specs.Marks.{rowsOf, bitsOf, Fillable, fillOf, answerOf, vectorOf}
 use Rattle.linear.specs.Fill.{Fill, tied, none, one, fill}
-use Rattle.linear.specs.declared.Outcome.{Outcome}
-use Rattle.linear.specs.declared.Outcome.the-variants.{Tied, None, One}
+use Rattle.linear.specs.declared.FillAnswer.{FillAnswer}
+use Rattle.linear.specs.declared.FillAnswer.the-variants.{Tied, None, One}
 use Rattle.linear.proofs.Answers.{wide-tied}
 use Rattle.plans.specs.Plan.{planOf, levelOf, checksTo}
 use Rattle.steps.specs.Steps.{lossy, Learned, blocked, failing, learned, levelFill, newSums, keepSums, raise, stepped, unlessRefused, levelStepBy, levelStep}
@@ -109,7 +109,7 @@ module _ {p t q rows n totals : ℕ} {weights : List ℕ} (w : Weighing p t q ro
         ∙ ap₂ (λ F v. fill F W (zeros W) (bitsOf (P .rows) lossy) v) (w .is .field) made-is
 
     -- what `fill` asks
-    pub column-fits : (lossy : ℕ) → lossy < 2 ^ planOf p .rows → Fit q (take (totals * rows) weights) (take totals lentZeros) (take rows made) lossy
+    pub column-fits : (lossy : ℕ) → lossy < 2 ^ planOf p .rows → Fillable q (take (totals * rows) weights) (take totals lentZeros) (take rows made) lossy
     column-fits lossy small =
         let long = column-rows (w .is) lent (suc t) more symbols e in
         record {
@@ -221,7 +221,7 @@ module _ {p t rows last word j : ℕ} {symbols marks old kept : List ℕ} (s : L
     within : j < length (checksTo (planOf p) t) + length (levelOf (planOf p) (suc t) .checks)
     within = rw (← sums-more (planOf p) t) learned-here
 
-    module _ {a : Outcome} (answer : a ≡ answerOf (columnFill (planOf p) t symbols (bitsOf (planOf p .rows) word) j)) where
+    module _ {a : FillAnswer} (answer : a ≡ answerOf (columnFill (planOf p) t symbols (bitsOf (planOf p .rows) word) j)) where
       -- of the rows that have marks
       told : answerOf (columnFill (planOf p) t symbols (lossy (planOf p) marks) j) ≡ a
       told = sym (answer ∙ ap (λ ms. answerOf (columnFill (planOf p) t symbols ms j)) (s .bits))

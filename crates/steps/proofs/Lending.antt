@@ -13,8 +13,8 @@ use Rattle.field.specs.Field.{Field, size}
 use Rattle.field.specs.Ours.{fieldOf}
 use Rattle.field.proofs.Ring.{size-pos}
 use Rattle.systems.specs.System.{vec, Elements}
-use Rattle.linear.specs.Marks.{rowsOf, bitsOf, Fit, fillOf, answerOf, vectorOf}
-use Rattle.linear.specs.declared.Outcome.the-variants.{Tied}
+use Rattle.linear.specs.Marks.{rowsOf, bitsOf, Fillable, fillOf, answerOf, vectorOf}
+use Rattle.linear.specs.declared.FillAnswer.the-variants.{Tied}
 use Rattle.linear.proofs.Answers.{wide-tied}
 use Rattle.linear.specs.Fill.{fill}
 use Rattle.plans.specs.Plan.{Plan, planOf, known, checksTo, rowAt}
@@ -135,7 +135,7 @@ module _ {p t : ℕ} {f : Facts} {m : ℕ} {checks sums symbols : List ℕ} {r :
       part-back (r * f .columns) (r * f .columns + f .columns - r * f .columns) symbols v (omega (arith, row-end)) (omega (arith, e, row-count)) ∙ ap (λ j. sets symbols (r * j) v) (is .columns)
 
   -- what `fill` asks
-  pub fits : (word : ℕ) → word < 2 ^ P .columns → Fit (f .field) lentChecks lentSums lentRow word
+  pub fits : (word : ℕ) → word < 2 ^ P .columns → Fillable (f .field) lentChecks lentSums lentRow word
   fits word h = record {
     few = omega (arith, sums-count, few);
     narrow = narrow;

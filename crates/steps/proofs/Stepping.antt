@@ -11,8 +11,8 @@ use lib.Seq.{sets}
 use Rattle.field.specs.Lists.{if_then_else_}
 use Rattle.linear.specs.Marks.{answerOf, vectorOf}
 use Rattle.linear.specs.Fill.{Fill, tied, none, one}
-use Rattle.linear.specs.declared.Outcome.{Outcome}
-use Rattle.linear.specs.declared.Outcome.the-variants.{Tied as TiedFill, None, One}
+use Rattle.linear.specs.declared.FillAnswer.{FillAnswer}
+use Rattle.linear.specs.declared.FillAnswer.the-variants.{Tied as TiedFill, None, One}
 use Rattle.plans.specs.Plan.{planOf, rowAt}
 use Rattle.plans.specs.Refusal.{unasked, benchRefusal}
 use Rattle.steps.specs.Steps.{stepped, unlessRefused, rowFill, putRow, rowStepBy, rowStep}
@@ -23,7 +23,7 @@ use Rattle.plans.proofs.Rows.{row-length, row-again}
 use Rattle.steps.proofs.Fit.{bench-fit, fit-bench}
 use Rattle.steps.proofs.Learning.{is-refused, is-taken}
 
-module _ (b : Bench) (r : ℕ) (a : Outcome) (e : a ≡ answerOf (rowFill b r)) where
+module _ (b : Bench) (r : ℕ) (a : FillAnswer) (e : a ≡ answerOf (rowFill b r)) where
   -- nothing is filled: the symbols are as they were
   module _ (symbols : List ℕ) (place : r * planOf (b .plan) .columns + planOf (b .plan) .columns ≤ length (b .symbols))
       (l : symbols ≡ sets (b .symbols) (r * planOf (b .plan) .columns) (vectorOf (rowFill b r) (rowAt (planOf (b .plan)) (b .symbols) r))) where

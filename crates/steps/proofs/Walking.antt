@@ -12,15 +12,15 @@ use Rattle.field.specs.Lists.{if_then_else_}
 use Rattle.linear.specs.Marks.{bitsOf, answerOf, vectorOf}
 use Rattle.linear.specs.Fill.{sumsOf, Fill, tied, none, one, fill}
 use Rattle.plans.specs.Plan.{planOf, checksTo, rowAt, marksAt}
-use Rattle.plans.specs.Refusal.{room, sumsAt, unasked, benchRefusal}
+use Rattle.plans.specs.Refusal.{sumPlaces, sumsAt, unasked, benchRefusal}
 use Rattle.steps.specs.Steps.{rowFill, putRow}
 use Rattle.steps.specs.Rounds.{clash, more, turns}
 use Rattle.steps.specs.Learned.{benchOf}
 use Rattle.steps.specs.Walk.{standingOf, Arrays, HasSums, Settled, Walked}
 use Rattle.plans.specs.declared.Bench.{Bench}
 use Rattle.plans.specs.declared.Place.the-variants.{Row}
-use Rattle.linear.specs.declared.Outcome.{Outcome}
-use Rattle.linear.specs.declared.Outcome.the-variants.{Tied, None, One}
+use Rattle.linear.specs.declared.FillAnswer.{FillAnswer}
+use Rattle.linear.specs.declared.FillAnswer.the-variants.{Tied, None, One}
 use Rattle.plans.proofs.Rows.{of-rows, row-length, row-again}
 use Rattle.steps.proofs.Fit.{bench-fit, fit-bench}
 use Rattle.steps.proofs.Sound.{Sound, row-place, sound-put}
@@ -109,21 +109,21 @@ module _ (p t : ℕ) (sums symbols₀ marks₀ : List ℕ) where
     walking-passed : (t ≡ 1 → ⊥) → getD marks row 0 ≡ 0 → Walking p t sums symbols₀ marks₀ symbols marks (row + 1) filled
     walking-passed above z = walking-whole z (whole-fill b (W .sound) row inside z (W .settled row inside (λ e. absurd (above e)) z))
 
-    few-checks : length (checksTo (planOf p) t) ≤ room
+    few-checks : length (checksTo (planOf p) t) ≤ sumPlaces
     few-checks = omega (arith, checks-le (planOf p) (W .sound .fit .level-le), shape p (W .sound .fit .plan-known) .sums-le)
 
-    own-sums : row * room + room ≤ length sums
+    own-sums : row * sumPlaces + sumPlaces ≤ length sums
     own-sums = omega (arith, W .sound .sized .sums, shape p (W .sound .fit .plan-known) .rows-le)
 
     abbrev sumsHere : List ℕ
     sumsHere = sumsOf (planOf p .field) (checksTo (planOf p) t) (rowAt (planOf p) symbols row)
 
-    sum-at : (i : ℕ) → i < length (checksTo (planOf p) t) → getD (sumsAt (planOf p) t sums row) i 0 ≡ getD sums (row * room + i) 0
+    sum-at : (i : ℕ) → i < length (checksTo (planOf p) t) → getD (sumsAt (planOf p) t sums row) i 0 ≡ getD sums (row * sumPlaces + i) 0
     unfolding sumsAt
-    sum-at i h = getD-take (length (checksTo (planOf p) t)) (drop (row * room) sums) i 0 h ∙ getD-drop (row * room) sums i 0
+    sum-at i h = getD-take (length (checksTo (planOf p) t)) (drop (row * sumPlaces) sums) i 0 h ∙ getD-drop (row * sumPlaces) sums i 0
 
     -- every check was passed: the sums are those learned, one by one
-    walking-checked : getD marks row 0 ≡ 0 → ((i : ℕ) → i < length (checksTo (planOf p) t) → getD sumsHere i 0 ≡ getD sums (row * room + i) 0)
+    walking-checked : getD marks row 0 ≡ 0 → ((i : ℕ) → i < length (checksTo (planOf p) t) → getD sumsHere i 0 ≡ getD sums (row * sumPlaces + i) 0)
         → Walking p t sums symbols₀ marks₀ symbols marks (row + 1) filled
     unfolding sumsOf
     walking-checked z h =
@@ -134,7 +134,7 @@ module _ (p t : ℕ) (sums symbols₀ marks₀ : List ℕ) where
         (λ i l. h i (omega arith) ∙ sym (sum-at i (omega arith)))))
 
     -- every check that it is tested by was passed
-    pub walking-tested : {count : ℕ} → Tested p t count → getD marks row 0 ≡ 0 → ((i : ℕ) → i < count → getD sumsHere i 0 ≡ getD sums (row * room + i) 0)
+    pub walking-tested : {count : ℕ} → Tested p t count → getD marks row 0 ≡ 0 → ((i : ℕ) → i < count → getD sumsHere i 0 ≡ getD sums (row * sumPlaces + i) 0)
         → Walking p t sums symbols₀ marks₀ symbols marks (row + 1) filled
     walking-tested w z h =
         elim (ℕ-discrete t 1) [ yes e ↦ walking-checked z (λ i l. h i (omega (arith, w .first e))) | no ne ↦ walking-passed ne z ]
@@ -179,7 +179,7 @@ module _ (p t : ℕ) (sums symbols₀ marks₀ : List ℕ) where
     }
 
     -- one check was not passed
-    pub walked-failed : getD marks row 0 ≡ 0 → (j : ℕ) → j < length (checksTo (planOf p) t) → (getD sumsHere j 0 ≡ getD sums (row * room + j) 0 → ⊥)
+    pub walked-failed : getD marks row 0 ≡ 0 → (j : ℕ) → j < length (checksTo (planOf p) t) → (getD sumsHere j 0 ≡ getD sums (row * sumPlaces + j) 0 → ⊥)
         → Walked (benchOf p t symbols₀ marks₀ sums) b row filled
     walked-failed z j h ne = walked-clash (whole-none b (W .sound) row inside z (λ e. ne (ap (λ l. getD l j 0) e ∙ sum-at j h)))
 
@@ -194,7 +194,7 @@ module _ (p t : ℕ) (sums symbols₀ marks₀ : List ℕ) where
     same-row : (f : Fill) → vectorOf f (rowAt (planOf p) symbols row) ≡ rowAt (planOf p) symbols row → sets symbols (row * planOf p .columns) (vectorOf f (rowAt (planOf p) symbols row)) ≡ symbols
     same-row f e = ap (sets symbols (row * planOf p .columns)) e ∙ row-again (planOf p) row (rowAt (planOf p) symbols row) symbols (row-length (planOf p) symbols row place) place refl
 
-    pub answered-tied : (a : Outcome) (symbols′ : List ℕ) → a ≡ answerOf found → a ≡ Tied → Left symbols′
+    pub answered-tied : (a : FillAnswer) (symbols′ : List ℕ) → a ≡ answerOf found → a ≡ Tied → Left symbols′
         → Walking p t sums symbols₀ marks₀ symbols′ marks (row + 1) filled
     unfolding answerOf vectorOf rowFill marksAt
     answered-tied a symbols′ e k l = go found refl (sym e ∙ k)
@@ -205,7 +205,7 @@ module _ (p t : ℕ) (sums symbols₀ marks₀ : List ℕ) where
         go none q h = let z : _≡_ {A = ℕ} 0 1 = cc in absurd (omega arith)
         go (one w) q h = let z : _≡_ {A = ℕ} 0 1 = cc in absurd (omega arith)
 
-    pub answered-none : (a : Outcome) (symbols′ : List ℕ) → a ≡ answerOf found → a ≡ None → Left symbols′
+    pub answered-none : (a : FillAnswer) (symbols′ : List ℕ) → a ≡ answerOf found → a ≡ None → Left symbols′
         → Walked (benchOf p t symbols₀ marks₀ sums) (benchOf p t symbols′ marks sums) row filled
     unfolding answerOf vectorOf rowFill marksAt
     answered-none a symbols′ e k l = go found refl (sym e ∙ k)
@@ -216,7 +216,7 @@ module _ (p t : ℕ) (sums symbols₀ marks₀ : List ℕ) where
             (sym (l ∙ ap (λ f. sets symbols (row * planOf p .columns) (vectorOf f (rowAt (planOf p) symbols row))) q ∙ same-row none refl)) (walked-clash q)
         go (one w) q h = let z : _≡_ {A = ℕ} 0 1 = cc in absurd (omega arith)
 
-    pub answered-one : (a : Outcome) (symbols′ : List ℕ) → (getD marks row 0 ≡ 0 → ⊥) → a ≡ answerOf found → a ≡ One → Left symbols′
+    pub answered-one : (a : FillAnswer) (symbols′ : List ℕ) → (getD marks row 0 ≡ 0 → ⊥) → a ≡ answerOf found → a ≡ One → Left symbols′
         → Walking p t sums symbols₀ marks₀ symbols′ (set marks row 0) (row + 1) (filled + 1)
     unfolding answerOf vectorOf rowFill marksAt
     answered-one a symbols′ nz e k l = go found refl (sym e ∙ k)

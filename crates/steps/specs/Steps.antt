@@ -9,7 +9,7 @@ use Rattle.field.specs.Lists.{if_then_else_, upFrom}
 use Rattle.linear.specs.Lists.{zeros}
 use Rattle.linear.specs.Fill.{Fill, tied, none, one, fill}
 use Rattle.plans.specs.Plan.{Plan, planOf, levelOf, checksTo, rowAt, marksAt, across}
-use Rattle.plans.specs.Refusal.{room, sumsAt, unasked, lentRefusal, benchRefusal}
+use Rattle.plans.specs.Refusal.{sumPlaces, sumsAt, unasked, lentRefusal, benchRefusal}
 use Rattle.plans.specs.declared.Bench.{Bench}
 use Rattle.plans.specs.declared.Stepped.{Stepped}
 use Rattle.plans.specs.declared.Started.{Started}
@@ -116,7 +116,7 @@ newSums cs r = map (λ c. getD c r 0) cs
 -- row by row: in the row's places the new sums are written behind the n sums before them. All else is as it was
 unfoldable pub keepSums : (n : ℕ) → (news : List (List ℕ)) → (sums : List ℕ) → List ℕ
 keepSums n [] sums = sums
-keepSums n (new ∷ news) sums = sets (take room sums) n new ++ keepSums n news (drop room sums)
+keepSums n (new ∷ news) sums = sets (take sumPlaces sums) n new ++ keepSums n news (drop sumPlaces sums)
 
 -- all rows' sums learned, t one higher
 unfoldable pub raise : Bench → List (List ℕ) → Bench

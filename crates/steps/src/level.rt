@@ -45,7 +45,7 @@ fn learn_column(
     lossy: u32,
     j: usize,
     column: &mut [u8; 8],
-) -> linear::Outcome
+) -> linear::FillAnswer
     requires { ⌜ (now table ≡ products) × (now checks ≡ checkTable (planOf plan)) ⌝ }
     requires { ⌜ planOf plan .rows * planOf plan .columns ≤ length (now symbols) ⌝ }
     requires { ⌜ (level < 3) × (j < length (checksTo (planOf plan) (suc level))) × (lossy < 2 ^ planOf plan .rows) ⌝ }
@@ -116,9 +116,9 @@ pub fn learn<'a>(
     for j in first..last {
         let outcome = learn_column(plan, level, table, checks, symbols, lossy, j, &mut column);
         match outcome {
-            linear::Outcome::Tied => return Learning::Blocked,
-            linear::Outcome::None => return Learning::Failing,
-            linear::Outcome::One => keep_column(rows, j, &column, &mut kept),
+            linear::FillAnswer::Tied => return Learning::Blocked,
+            linear::FillAnswer::None => return Learning::Failing,
+            linear::FillAnswer::One => keep_column(rows, j, &column, &mut kept),
         }
     }
     *sums = kept;

@@ -52,7 +52,7 @@ fn fill_row(
     word: u32,
     sums: &[u8],
     row: usize,
-) -> linear::Outcome
+) -> linear::FillAnswer
     requires { ⌜ now table ≡ products ⌝ }
     requires { ⌜ now checks ≡ checkTable (planOf plan) ⌝ }
     requires { ⌜ T (known plan) × (row < planOf plan .rows) × (word < 2 ^ planOf plan .columns) × T (sumsFit (planOf plan) level (now sums)) ⌝ }
@@ -70,7 +70,7 @@ fn fill_row(
     let n = facts.columns;
     let m = plan::sums_to(plan, level);
     if m < u32::count_ones(word) as usize {
-        return linear::Outcome::Tied;
+        return linear::FillAnswer::Tied;
     }
     let size = m * n;
     let start = row * n;
@@ -155,11 +155,11 @@ pub fn walk_rows(
             }
         } else {
             match fill_row(plan, level, table, checks, symbols, word, sums, row) {
-                linear::Outcome::Tied => {}
-                linear::Outcome::None => {
+                linear::FillAnswer::Tied => {}
+                linear::FillAnswer::None => {
                     break 'rows row;
                 }
-                linear::Outcome::One => {
+                linear::FillAnswer::One => {
                     marks[row] = 0;
                     filled += 1;
                 }
@@ -178,7 +178,7 @@ fn fill_by_plan(
     word: u32,
     sums: &[u8],
     row: usize,
-) -> linear::Outcome
+) -> linear::FillAnswer
     requires { ⌜ T (known plan) × (row < planOf plan .rows) × (word < 2 ^ planOf plan .columns) × T (sumsFit (planOf plan) level (now sums)) ⌝ }
     requires { ⌜ (length (now symbols) ≡ 256) × (length (now sums) ≡ 128) ⌝ }
     ensures { λ r. ⌜ r ≡ answerOf (fillAt (planOf plan) level (now (sums .entry)) word (now (symbols .entry)) row) ⌝ }
@@ -224,9 +224,9 @@ pub fn step_row(
     }
     let word = marks[row];
     match fill_by_plan(plan, level, symbols, word, sums, row) {
-        linear::Outcome::Tied => Step::Tied,
-        linear::Outcome::None => Step::Clash,
-        linear::Outcome::One => {
+        linear::FillAnswer::Tied => Step::Tied,
+        linear::FillAnswer::None => Step::Clash,
+        linear::FillAnswer::One => {
             marks[row] = 0;
             if word == 0 {
                 return Step::Whole;

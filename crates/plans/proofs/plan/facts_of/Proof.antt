@@ -8,24 +8,24 @@ use Rattle.field.specs.Ours.{fieldOf}
 use Rattle.field.specs.Power.{power}
 use Rattle.linear.specs.Lists.{only}
 use Rattle.linear.specs.Marks.{bitsOf}
-use Rattle.plans.specs.Plan.{ones, bitChecks, wordOf, locations1, plan1, locations2, powers2, plan2, locations3, powers3, plan3, noPlan, planOf, noLevel, levelOf, checksTo, marksAt, marksOf, checkPlacesOf, carried, marksOffset, symbolsOffset, fileLength}
+use Rattle.plans.specs.Plan.{allOnes, bitChecks, wordOf, locations1, plan1, locations2, powers2, plan2, locations3, powers3, plan3, noPlan, planOf, noLevel, levelOf, checksTo, marksAt, marksOf, checkPlacesOf, carried, marksOffset, symbolsOffset, fileLength}
 use Rattle.plans.specs.Tables.{FactsOf}
 use Rattle.plans.proofs.Plans.{unknown}
 use Rattle.plans.proofs.plan.facts_of.Statement.{statement}
 use Rattle.plans.proofs.plan.facts_of.Tie as tie
 
 returns : tie.Need-returns
-unfolding if_then_else_ upFrom flatMap size gf2 only bitsOf ones bitChecks wordOf locations1 plan1 planOf noLevel levelOf checksTo marksAt marksOf
+unfolding if_then_else_ upFrom flatMap size gf2 only bitsOf allOnes bitChecks wordOf locations1 plan1 planOf noLevel levelOf checksTo marksAt marksOf
     checkPlacesOf carried marksOffset symbolsOffset fileLength fieldOf
 returns c = subst (λ p. FactsOf (planOf p) _) (sym (c .match .keys1)) (search needs)
 
 returns-2 : tie.Need-returns-2
-unfolding if_then_else_ upFrom flatMap _⊕_ size double times mul gf2 gf32 power only bitsOf ones bitChecks wordOf locations2 powers2 plan2 planOf noLevel levelOf checksTo marksAt marksOf
+unfolding if_then_else_ upFrom flatMap _⊕_ size double times mul gf2 gf32 power only bitsOf allOnes bitChecks wordOf locations2 powers2 plan2 planOf noLevel levelOf checksTo marksAt marksOf
     checkPlacesOf carried marksOffset symbolsOffset fileLength fieldOf
 returns-2 c = subst (λ p. FactsOf (planOf p) _) (sym (c .match .keys2)) (search needs)
 
 returns-3 : tie.Need-returns-3
-unfolding if_then_else_ upFrom flatMap _⊕_ size double times mul gf16 power only bitsOf ones bitChecks wordOf locations3 powers3 plan3 planOf noLevel levelOf checksTo marksAt marksOf
+unfolding if_then_else_ upFrom flatMap _⊕_ size double times mul gf16 power only bitsOf allOnes bitChecks wordOf locations3 powers3 plan3 planOf noLevel levelOf checksTo marksAt marksOf
     checkPlacesOf carried marksOffset symbolsOffset fileLength fieldOf
 returns-3 c = subst (λ p. FactsOf (planOf p) _) (sym (c .match .keys3)) (search needs)
 

@@ -4,13 +4,13 @@ use mathlib.Core.List.{flatMap}
 use Rattle.field.specs.Lists.{upFrom}
 use Rattle.field.specs.Field.{_⊕_, size, double, times, mul, gf32}
 use Rattle.field.specs.Power.{power}
-use Rattle.plans.specs.Plan.{ones, bitChecks, locations2, powers2, plan2, planOf, checksTo}
+use Rattle.plans.specs.Plan.{allOnes, bitChecks, locations2, powers2, plan2, planOf, checksTo}
 use Rattle.plans.specs.Tables.{checkTable}
 use Rattle.plans.proofs.plan.row_checks_2.Statement.{statement}
 use Rattle.plans.proofs.plan.row_checks_2.Tie as tie
 
 returns : tie.Need-returns
-unfolding upFrom flatMap _⊕_ size double times mul gf32 power ones bitChecks locations2 powers2 plan2 planOf checksTo checkTable
+unfolding upFrom flatMap _⊕_ size double times mul gf32 power allOnes bitChecks locations2 powers2 plan2 planOf checksTo checkTable
 returns c = refl
 
 pub row-checks-2-spec : {M : Type 1} → statement M

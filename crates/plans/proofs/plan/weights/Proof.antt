@@ -5,22 +5,22 @@ use native.Mathlib.Omega.{arith}
 use Rattle.field.specs.Lists.{upFrom}
 use Rattle.field.specs.Field.{_⊕_, size, double, times, mul, gf16}
 use Rattle.field.specs.Power.{power}
-use Rattle.plans.specs.Plan.{ones, plan1, plan2, plan3, noPlan, planOf, noLevel, levelOf}
+use Rattle.plans.specs.Plan.{allOnes, plan1, plan2, plan3, noPlan, planOf, noLevel, levelOf}
 use Rattle.plans.specs.Tables.{padded, flat, weightTable}
 use Rattle.plans.proofs.Plans.{unknown, weights-none, weights-3, weights-none-3}
 use Rattle.plans.proofs.plan.weights.Statement.{statement}
 use Rattle.plans.proofs.plan.weights.Tie as tie
 
 returns : tie.Need-returns
-unfolding flatMap ones plan1 planOf levelOf padded flat weightTable
+unfolding flatMap allOnes plan1 planOf levelOf padded flat weightTable
 returns c = ap₂ (λ p t. weightTable (planOf p) t) (sym (c .match .keys1)) (sym (c .before .if1 .taken))
 
 returns-2 : tie.Need-returns-2
-unfolding flatMap ones plan2 planOf levelOf padded flat weightTable
+unfolding flatMap allOnes plan2 planOf levelOf padded flat weightTable
 returns-2 c = ap₂ (λ p t. weightTable (planOf p) t) (sym (c .match .keys2)) (sym (c .before .if1 .taken))
 
 returns-3 : tie.Need-returns-3
-unfolding upFrom flatMap _⊕_ size double times mul gf16 power ones plan3 planOf levelOf padded flat weightTable
+unfolding upFrom flatMap _⊕_ size double times mul gf16 power allOnes plan3 planOf levelOf padded flat weightTable
 returns-3 c = ap₂ (λ p t. weightTable (planOf p) t) (sym (c .match .keys3)) (sym (c .before .if1 .taken))
 
 returns-4 : tie.Need-returns-4
@@ -29,7 +29,7 @@ returns-4 c =
     ap₂ weightTable (sym (unknown _ (c .match .rest .0 .0 .1) (c .match .rest .0 .1) (c .match .rest .1))) (sym (c .before .if1 .taken))
 
 returns-5 : tie.Need-returns-5
-unfolding flatMap ones padded flat weightTable
+unfolding flatMap allOnes padded flat weightTable
 returns-5 c = rw (c .before .before .if2 .taken) (ap (flat 16) (sym (weights-3 _ (c .before .if3 .left) (c .if4 .taken))))
 
 returns-6 : tie.Need-returns-6

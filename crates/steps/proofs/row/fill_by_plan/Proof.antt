@@ -6,7 +6,7 @@ use borrow.Author.Needs.{needs}
 use lib.Dec.{T}
 use lib.Seq.{sets}
 use Rattle.linear.specs.Marks.{answerOf, vectorOf}
-use Rattle.linear.specs.declared.Outcome.{Outcome}
+use Rattle.linear.specs.declared.FillAnswer.{FillAnswer}
 use Rattle.plans.specs.Plan.{planOf, known, rowAt}
 use Rattle.plans.specs.Refusal.{sumsFit}
 use Rattle.plans.proofs.Shape.{third}
@@ -18,12 +18,12 @@ use Rattle.steps.proofs.row.fill_by_plan.Tie as tie
 abbrev Fits : ℕ → (level row word : ℕ) → (sums : List ℕ) → Type 0
 Fits p level row word sums = T (known p) × (row < planOf p .rows) × (word < 2 ^ planOf p .columns) × T (sumsFit (planOf p) level sums)
 
-abbrev Fills : ℕ → (level row word : ℕ) → (sums symbols : List ℕ) → Outcome → List ℕ → Type 0
+abbrev Fills : ℕ → (level row word : ℕ) → (sums symbols : List ℕ) → FillAnswer → List ℕ → Type 0
 Fills p level row word sums symbols r after =
     (r ≡ answerOf (fillAt (planOf p) level sums word symbols row))
     × (after ≡ sets symbols (row * planOf p .columns) (vectorOf (fillAt (planOf p) level sums word symbols row) (rowAt (planOf p) symbols row)))
 
-fills-at : {p n : ℕ} → p ≡ n → (level row word : ℕ) (sums symbols : List ℕ) {r : Outcome} {after : List ℕ}
+fills-at : {p n : ℕ} → p ≡ n → (level row word : ℕ) (sums symbols : List ℕ) {r : FillAnswer} {after : List ℕ}
     → Fills n level row word sums symbols r after → Fills p level row word sums symbols r after
 fills-at e level row word sums symbols {r} {after} = subst (λ p. Fills p level row word sums symbols r after) (sym e)
 
