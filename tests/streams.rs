@@ -25,6 +25,7 @@ const BROKEN_PIPE: i32 = 13;
 
 type Case = fn(&str);
 
+/// Most runs wait for a second or two, so they go side by side; those that must be through in time only when the others have ended.
 pub fn runs(ledger: &mut Ledger, path: &str) {
     let fail: [Case; 12] = [
         full_device,
@@ -182,10 +183,12 @@ fn nothing_works(path: &str) {
 /// Whether there is an strace that may trace.
 pub fn strace_works() -> bool {
     let mut probe = Command::new("strace");
-    probe.args(["-o", "/dev/null", "-e", "inject=read:error=EINTR:when=1", "-P", "/nowhere", "true"]);
+    probe.args(["-o", "/dev/null", "-e", "inject=read:error=EINTR:when=1..5", "-P", "/nowhere", "true"]);
     probe.stdout(Stdio::null()).stderr(Stdio::null()).status().is_ok_and(|status| status.success())
 }
 
+/// Calls that fail once, at the second time and five times are ridden out; calls that always fail are reported, which also shows that
+/// strace does its work.
 pub fn interrupted_runs(ledger: &mut Ledger, path: &str) {
     let folder = Folder::new("strace");
     for error in ["EINTR", "EAGAIN"] {

@@ -10,6 +10,7 @@ fn main() {
     // one byte more than the longest file has, so that a longer one shows
     let mut file = [0u8; 297];
     let input = streams::read_whole(STDIN_FILENO, &mut file);
+    // none where reading failed: as a file of no bytes is, the input is then refused as 20
     let got = input.size;
     if input.failed {
         streams::write_whole(STDERR_FILENO, b"mend: the input cannot be read\n");

@@ -1,5 +1,7 @@
 // Reading to the end of the input and writing all of a text, over calls that may be interrupted or may find a stream not ready.
 ghost use Prim.Native.Nat.{_≤_};
+ghost use mathlib.Core.Path.{_≡_};
+ghost use lib.Dec.{T};
 ghost use lib.ListN.{length};
 ghost use Rattle.io.specs.Counts.{Counts};
 use crate::patience;
@@ -13,6 +15,7 @@ pub struct Input {
 // Reads until buf is full or the input ends. It fails where a read keeps failing.
 pub fn read_whole(fd: i32, buf: &mut [u8]) -> Input
     ensures { λ r. ⌜ Counts (r .size) (now (buf .exit)) ⌝ }
+    ensures { λ r. ⌜ (T (r .failed) → r .size ≡ 0) ⌝ }
 {
     let mut size = 0;
     while size < buf.len() {

@@ -1,7 +1,6 @@
 -- `streams::read_some` meets its contract: from turn to turn the buffer keeps its length. Assumes nothing.
 use mathlib.Core.Path.{_≡_}
 use lib.ListN.{length}
-use native.Mathlib.Omega.{arith}
 use borrow.Author.Needs.{needs}
 use Rattle.mend.proofs.streams.read_some.Statement.{statement}
 use Rattle.mend.proofs.streams.read_some.Tie as tie

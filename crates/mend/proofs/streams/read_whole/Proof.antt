@@ -5,7 +5,6 @@ use Prim.Native.Nat.{ℕ, _-_, _≤_}
 use lib.ListN.{length}
 use lib.Seq.{length-take-le}
 use Rattle.io.specs.Counts.{Counts}
-use native.Mathlib.Omega.{arith}
 use borrow.Author.Needs.{needs}
 use Rattle.mend.proofs.streams.read_whole.Statement.{statement}
 use Rattle.mend.proofs.streams.read_whole.Tie as tie
@@ -53,13 +52,13 @@ same-length-2 : tie.Need-same-length-2 Inv-loop μ-loop
 same-length-2 c = search needs
 
 returns-2 : tie.Need-returns-2 Inv-loop μ-loop
-returns-2 c = counts _ _ (search needs)
+returns-2 c = (counts _ _ (search needs), λ never. absurd never)
 
 same-length-3 : tie.Need-same-length-3 Inv-loop μ-loop
 same-length-3 c = search needs
 
 returns-3 : tie.Need-returns-3 Inv-loop μ-loop
-returns-3 c = counts _ _ (search needs)
+returns-3 c = (counts _ _ (search needs), λ never. absurd never)
 
 pub read-whole-spec : {M : Type 1} → statement M
 read-whole-spec =

@@ -1,5 +1,4 @@
 -- `streams::write_some` meets its contract: nothing has to hold from turn to turn. Assumes nothing.
-use native.Mathlib.Omega.{arith}
 use borrow.Author.Needs.{needs}
 use Rattle.mend.proofs.streams.write_some.Statement.{statement}
 use Rattle.mend.proofs.streams.write_some.Tie as tie

@@ -1,7 +1,6 @@
 -- `streams::write_whole` meets its contract: no more is written than there is. Assumes nothing.
 use Prim.Native.Nat.{_-_, _≤_}
 use lib.ListN.{length}
-use native.Mathlib.Omega.{arith}
 use borrow.Author.Needs.{needs}
 use Rattle.mend.proofs.streams.write_whole.Statement.{statement}
 use Rattle.mend.proofs.streams.write_whole.Tie as tie
