@@ -7,6 +7,10 @@
 import sys
 from ctypes import CDLL, POINTER, c_size_t, c_uint8, c_uint32
 
+if len(sys.argv) != 2:
+    sys.stderr.write(__doc__)
+    sys.exit(2)
+
 shelf = CDLL(sys.argv[1])
 bytes_lent, words_lent = (POINTER(c_uint8), c_size_t), (POINTER(c_uint32), c_size_t)
 shelf.shelf_mend.argtypes = (c_size_t, *bytes_lent, *words_lent, *bytes_lent)

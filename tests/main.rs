@@ -14,6 +14,7 @@ mod refusals;
 mod sheet_cases;
 mod silence;
 mod steps;
+mod streams;
 mod throughout;
 
 use ledger::Ledger;
@@ -42,8 +43,19 @@ fn every_group(program: Option<&str>) {
     ledger.group("files and their text", files::calls);
     ledger.group("any bytes as a file", files::any_bytes);
     match program {
-        Some(path) => ledger.group("the program mend", |ledger| program::runs(ledger, path)),
+        Some(path) => every_run(&mut ledger, path),
         None => println!("the program mend: not run"),
     }
     ledger.close();
+}
+
+fn every_run(ledger: &mut Ledger, path: &str) {
+    ledger.group("the program mend", |ledger| program::runs(ledger, path));
+    ledger.group("the program mend: input and output that fail", |ledger| streams::runs(ledger, path));
+    let interrupted = "the program mend: calls that strace makes fail";
+    if streams::strace_works() {
+        ledger.group(interrupted, |ledger| streams::interrupted_runs(ledger, path));
+    } else {
+        println!("{interrupted}: not run, since there is no strace that may trace");
+    }
 }

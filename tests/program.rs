@@ -29,7 +29,7 @@ pub fn runs(ledger: &mut Ledger, path: &str) {
     (0..RANDOM_FILES).for_each(|_| hold(ledger, path, &random_file(&mut chance), usize::MAX));
 }
 
-/// A file cut short, and made longer than any file, so that the program must see its end.
+/// A file cut short, and made longer than any file (the longest has 296 bytes), so that the program must see its end.
 fn long_and_short(ledger: &mut Ledger, path: &str, file: &[u8]) {
     let length = file.len();
     for other in [0, 1, 7, 8, 9, length - 1, length + 1, 297, 298, 4096, 100_000] {
