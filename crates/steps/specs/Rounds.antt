@@ -32,7 +32,7 @@ more t k restored = set restored (pred t) (getD restored (pred t) 0 + k)
 abbrev pub nextRow : Standing → Bench → (restored : List ℕ) → Turn
 nextRow m b restored = on (record { bench = b; turn = suc (m .turn); restored = restored })
 
--- a Clash stops at the row; a row that was filled counts as restored at the level; after any other step the rows go on as they were
+-- a Clash stops at the row; a row that was filled counts as restored at the level; all others leave the rows restored as they were
 unfoldable pub afterRow : Standing → Step → Bench → Turn
 afterRow m Clash b = clash (Row (m .turn) (m .bench .level))
 afterRow m Filled b = nextRow m b (more (m .bench .level) 1 (m .restored))
@@ -63,9 +63,9 @@ takeTurn m =
     else afterLevel m (s .answer) (s .bench)
 
 unfoldable pub goOn : (Standing → Turn) → Turn → Turn
-goOn more (on m) = more m
-goOn more (end m) = end m
-goOn more (clash place) = clash place
+goOn rest (on m) = rest m
+goOn rest (end m) = end m
+goOn rest (clash place) = clash place
 
 -- at most n turns
 unfoldable pub turns : ℕ → Standing → Turn
