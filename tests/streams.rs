@@ -187,26 +187,37 @@ pub fn strace_works() -> bool {
     probe.stdout(Stdio::null()).stderr(Stdio::null()).status().is_ok_and(|status| status.success())
 }
 
-/// Calls that fail once, at the second time and five times are ridden out; calls that always fail are reported, which also shows that
-/// strace does its work.
+/// Calls that fail for a while are ridden out; calls that always fail are reported, which also shows that strace does its work.
 pub fn interrupted_runs(ledger: &mut Ledger, path: &str) {
-    let folder = Folder::new("strace");
-    for error in ["EINTR", "EAGAIN"] {
-        for when in ["1", "2", "1..5"] {
-            let fault = format!("error={error}:when={when}");
-            for file in [EXAMPLE_FILE.to_vec(), long_file(), vec![0; 297], vec![]] {
-                reads_that_fail(path, &folder, &fault, &file, &printed(&file), "");
-                ledger.count_run();
-            }
-            writes_that_fail(path, &folder, &fault, EXAMPLE_TEXT, "");
-            interrupted_between_pieces(path, &folder, &fault);
-            (0..2).for_each(|_| ledger.count_run());
-        }
+    let whiles = ["EINTR", "EAGAIN"].map(|error| ["1", "2", "1..5"].map(|when| format!("error={error}:when={when}")));
+    let runs: usize = scope(|scope| {
+        let ridden_out = whiles.as_flattened().iter().map(|fault| scope.spawn(|| ridden_out(path, fault)));
+        let given_up = ["error=EIO", "error=EIO:when=2+"].map(|fault| scope.spawn(|| given_up(path, fault)));
+        let cases: Vec<_> = ridden_out.chain(given_up).collect();
+        cases.into_iter().map(|case| case.join().expect("a case that ends")).sum()
+    });
+    (0..runs).for_each(|_| ledger.count_run());
+}
+
+/// Answers how many runs it made.
+fn ridden_out(path: &str, fault: &str) -> usize {
+    let folder = Folder::new(fault);
+    let files = [EXAMPLE_FILE.to_vec(), long_file(), vec![0; 297], vec![]];
+    files.iter().for_each(|file| reads_that_fail(path, &folder, fault, file, &printed(file), ""));
+    writes_that_fail(path, &folder, fault, EXAMPLE_TEXT, "");
+    interrupted_between_pieces(path, &folder, fault);
+    files.len() + 2
+}
+
+/// Answers how many runs it made.
+fn given_up(path: &str, fault: &str) -> usize {
+    let folder = Folder::new(fault);
+    reads_that_fail(path, &folder, fault, &EXAMPLE_FILE, REFUSED, UNREADABLE);
+    if fault == "error=EIO" {
+        writes_that_fail(path, &folder, fault, "", UNWRITTEN);
+        return 2;
     }
-    reads_that_fail(path, &folder, "error=EIO", &EXAMPLE_FILE, REFUSED, UNREADABLE);
-    reads_that_fail(path, &folder, "error=EIO:when=2+", &EXAMPLE_FILE, REFUSED, UNREADABLE);
-    writes_that_fail(path, &folder, "error=EIO", "", UNWRITTEN);
-    (0..3).for_each(|_| ledger.count_run());
+    1
 }
 
 fn reads_that_fail(path: &str, folder: &Folder, fault: &str, file: &[u8], text: &str, errors: &str) {
