@@ -1,45 +1,20 @@
 /* The repair library for scripts: plain numbers and buffers that the caller lends.
  *
- * A buffer is a pointer and then its length in elements. Two buffers of one call must not overlap, and none may be null.
- * No call keeps a buffer, allocates, prints or fails in any other way than by the number that it returns.
- * Every call answers for any numbers, any bytes and any lengths. A number of 10 or more is a refusal: every buffer is then as
- * it was, with one exception: a refused shelf_start fills a bench buffer of the right length with zeros.
+ * A stripe is rows (shelves) by columns (modules) of symbols, one byte each, row after row. Rows and columns count from 0. A row's
+ * marks are one 32-bit word, bit c for column c; a set bit says that the symbol there is lost. The library finds lost symbols from
+ * the others: first inside a row, then across rows. README.md tells it with a picture, and explains the words.
  *
- * Plans, and the lengths that a plan asks for:
+ * What a caller keeps to, and no call can test:
+ *   - A buffer is a pointer and then its length in elements (bytes, or mark words). The length is true: so much can be read and,
+ *     where the pointer is not const, written.
+ *   - No pointer is null, not even with length 0, and two buffers of one call do not overlap.
+ * All else is tested. Every call ends and answers, for any numbers, any bytes and any lengths; it keeps no buffer, allocates
+ * nothing and prints nothing. Calls share nothing, so any number of them may run side by side, each on buffers of its own.
  *
- *     plan  rows  columns  symbols below  stripe bytes  mark words  data bytes  file bytes
- *        1     3        7              2            21           3          15          41
- *        2     8       32              2           256           8         198         296
- *        3     8       15             16           120           8          98         160
+ * A number of 10 or more is a refusal: every buffer is then as it was, with one exception: a refused shelf_start fills a bench
+ * buffer of the right length with zeros, and every step on that bench is then refused by 10.
  *
- * A stripe is one byte for each symbol, row after row. A row's marks are one 32-bit word, bit c for column c; a set bit says
- * that the symbol there is lost. Rows and columns count from 0. No answer and no other byte depends on the byte under a mark,
- * except that a file must hold 0 there.
- *
- * Numbers that are returned:
- *
- *     0  Restored; Done; yes, a codeword
- *     1  Stuck; no, not a codeword
- *     2  Clash: what is not marked contradicts itself
- *     3  Whole: the row has no marks, and its sums are the learned ones
- *     4  Filled: the row's marked symbols were found, its marks are clear
- *     5  Tied: the row's marked symbols are not determined at this level
- *     6  Raised: the next level's sums were learned
- *     7  Blocked: the rows that have marks leave them undetermined
- *     8  Top: the bench is at the plan's last level
- *    10  unknown plan
- *    11  a buffer of a wrong length
- *    12  a mark at a column that the plan does not have
- *    13  an unmarked symbol, a data symbol, or a learned sum that is too large
- *    14  no such row
- *    15  a bench at no level of its plan
- *    16  extraction from a stripe that is not a codeword
- *    20  a file that is too short or of a wrong length
- *    21  a file header that disagrees with its plan
- *    22  a file with a byte other than 0 under a mark
- *
- * Where more than one refusal applies, the first is returned in the order 10, 11, 15, 12, 13, 14, 16 (but see the length of a
- * bench below); for a file that is read, 20 (shorter than 8 bytes), 10, 21, 20 (of a wrong length), 11, 12, 13, 22. */
+ * No answer and no other byte depends on the byte under a mark, except that a file must hold 0 there. */
 #ifndef SHELF_H
 #define SHELF_H
 
@@ -50,11 +25,75 @@
 extern "C" {
 #endif
 
+/* ---- plans ----
+ *
+ *     plan  rows  columns  symbols below  stripe bytes  mark words  data bytes  file bytes  levels  any losses restored
+ *        1     3        7              2            21           3          15          41       2                    3
+ *        2     8       32              2           256           8         198         296       3                    7
+ *        3     8       15             16           120           8          98         160       3                    7
+ */
+#define SHELF_PLAN_1_ROWS 3
+#define SHELF_PLAN_1_COLUMNS 7
+#define SHELF_PLAN_1_BELOW 2
+#define SHELF_PLAN_1_STRIPE 21
+#define SHELF_PLAN_1_MARKS 3
+#define SHELF_PLAN_1_DATA 15
+#define SHELF_PLAN_1_FILE 41
+#define SHELF_PLAN_1_LEVELS 2
+
+#define SHELF_PLAN_2_ROWS 8
+#define SHELF_PLAN_2_COLUMNS 32
+#define SHELF_PLAN_2_BELOW 2
+#define SHELF_PLAN_2_STRIPE 256
+#define SHELF_PLAN_2_MARKS 8
+#define SHELF_PLAN_2_DATA 198
+#define SHELF_PLAN_2_FILE 296
+#define SHELF_PLAN_2_LEVELS 3
+
+#define SHELF_PLAN_3_ROWS 8
+#define SHELF_PLAN_3_COLUMNS 15
+#define SHELF_PLAN_3_BELOW 16
+#define SHELF_PLAN_3_STRIPE 120
+#define SHELF_PLAN_3_MARKS 8
+#define SHELF_PLAN_3_DATA 98
+#define SHELF_PLAN_3_FILE 160
+#define SHELF_PLAN_3_LEVELS 3
+
 /* Lengths of the buffers whose layout does not depend on the plan. */
 #define SHELF_BENCH 418
 #define SHELF_REPORT 8
 #define SHELF_TEXT 320
 #define SHELF_TEXT_SIZE 2
+
+/* ---- numbers that are returned ---- */
+
+#define SHELF_RESTORED 0         /* mending: every symbol is there, no mark is left */
+#define SHELF_DONE 0             /* start, encoding, extraction, reading and writing a file */
+#define SHELF_YES 0              /* the codeword test */
+#define SHELF_STUCK 1            /* mending: some rows are left as they were, the others are restored */
+#define SHELF_NO 1               /* the codeword test */
+#define SHELF_CLASH 2            /* what is not marked contradicts itself; nothing was changed */
+#define SHELF_WHOLE 3            /* row step: the row has no marks, and its sums are the learned ones */
+#define SHELF_FILLED 4           /* row step: the row's marked symbols were found, its marks are clear */
+#define SHELF_TIED 5             /* row step: the row's marked symbols are not determined at this level */
+#define SHELF_RAISED 6           /* level step: the next level's sums were learned */
+#define SHELF_BLOCKED 7          /* level step: the rows that have marks leave them undetermined */
+#define SHELF_TOP 8              /* level step: the bench is at the plan's last level */
+
+/* Refusals. The first that applies is returned, in the order 10, 11, 15, 12, 13, 14, 16 (but see the length of a bench below);
+ * for a file that is read in the order 20 (shorter than 8 bytes), 10, 21, 20 (of a wrong length), 11, 12, 13, 22. */
+#define SHELF_UNKNOWN_PLAN 10    /* there is no plan of this number */
+#define SHELF_WRONG_LENGTH 11    /* a buffer's length is not the plan's */
+#define SHELF_MARK_OUTSIDE 12    /* a mark at a column that the plan does not have */
+#define SHELF_TOO_LARGE 13       /* an unmarked symbol, a data symbol, or a learned sum that is no symbol of the plan */
+#define SHELF_NO_SUCH_ROW 14     /* a row step on a row that the plan does not have */
+#define SHELF_NO_SUCH_LEVEL 15   /* a bench at no level of its plan */
+#define SHELF_NO_CODEWORD 16     /* extraction from a stripe that is not a codeword */
+#define SHELF_FILE_LENGTH 20     /* a file that is shorter than 8 bytes or not as long as its plan's */
+#define SHELF_FILE_HEADER 21     /* a file header that disagrees with its plan */
+#define SHELF_FILE_NOT_BLANK 22  /* a file with a byte other than 0 under a mark */
+
+#define SHELF_IS_REFUSAL(number) ((number) >= 10)
 
 /* ---- mending in one call ---- */
 
@@ -74,7 +113,8 @@ extern "C" {
 size_t shelf_mend(size_t plan, uint8_t *stripe, size_t stripe_length, uint32_t *marks, size_t marks_length,
                   uint8_t *report, size_t report_length);
 
-/* Whether a stripe is a codeword: 0 yes, 1 no; or refused by 10, 11 or 13. */
+/* Whether a stripe is a codeword, that is, whether all its checks hold: 0 yes, 1 no; or refused by 10, 11 or 13. It takes no
+ * marks: every byte counts. */
 size_t shelf_is_codeword(size_t plan, const uint8_t *stripe, size_t stripe_length);
 
 /* ---- data in and out ---- */
@@ -82,20 +122,30 @@ size_t shelf_is_codeword(size_t plan, const uint8_t *stripe, size_t stripe_lengt
 /* Encodes data to a stripe: 0; or refused by 10, 11 or 13. What the stripe held is not read. */
 size_t shelf_encode(size_t plan, const uint8_t *data, size_t data_length, uint8_t *stripe, size_t stripe_length);
 
-/* Takes the data out of a stripe that is a codeword: 0; or refused by 10, 11, 13 or 16. What the data buffer held is not read. */
+/* Takes the data out of a stripe that is a codeword: 0; or refused by 10, 11, 13 or 16. What the data buffer held is not read.
+ *
+ * WARNING: extraction takes no marks. After Stuck the bytes under the marks that are left are whatever they were; should they make
+ * a codeword by chance, extraction answers 0 with data that were never restored. Extract only after shelf_mend answered 0. */
 size_t shelf_extract(size_t plan, const uint8_t *stripe, size_t stripe_length, uint8_t *data, size_t data_length);
 
 /* ---- mending step by step ----
  *
- * A bench is 418 bytes that the caller keeps and may copy:
+ * A bench is 418 bytes that the caller keeps and may copy, with one stripe at work:
  *     0         plan
- *     1         level
+ *     1         level t: the checks of levels 1 to t are in use
  *     2..257    symbols, row after row; those beyond the plan's are not used
  *     258..289  eight mark words of 4 bytes, low byte first; those beyond the plan's rows are not used
  *     290..417  learned sums, row r's from 290 + 16 r on, in the order of the levels
+ * A row's sums at a level are what its checks of that level add up to. At level 1 every row of a true stripe has sums 0. At a
+ * higher level only the weighted totals over all rows are 0; a row's own sums must be learned there: a row without marks gives its
+ * own, and those of rows with marks follow from the totals where few enough rows have marks. That is what a level step does. A row
+ * step then finds the row's lost symbols from its checks and its learned sums. Where a codeword agrees with the stripe, the order of
+ * steps does not matter: carried on until no step changes the bench, they end with the same bytes.
+ *
  * A bench buffer of another length is refused by 11: by a step before anything else, by shelf_start after 10. */
 
-/* Starts a bench at level 1 with the stripe and the marks as they are, zeros elsewhere: 0; or refused by 10, 11, 12 or 13. */
+/* Starts a bench at level 1 with the stripe and the marks as they are, zeros elsewhere: 0; or refused by 10, 11, 12 or 13, with zeros
+ * all over the bench. */
 size_t shelf_start(size_t plan, const uint8_t *stripe, size_t stripe_length, const uint32_t *marks, size_t marks_length,
                    uint8_t *bench, size_t bench_length);
 
