@@ -13,6 +13,7 @@ mod program;
 mod refusals;
 mod sheet_cases;
 mod silence;
+mod stack;
 mod steps;
 mod streams;
 mod throughout;
@@ -49,7 +50,9 @@ fn every_group(program: Option<&str>) {
     ledger.close();
 }
 
+/// What is measured of the compiled library, and the program's runs.
 fn every_run(ledger: &mut Ledger, path: &str) {
+    ledger.group("stack of a call", stack::calls);
     ledger.group("the program mend", |ledger| program::runs(ledger, path));
     ledger.group("the program mend: input and output that fail", |ledger| streams::runs(ledger, path));
     let interrupted = "the program mend: calls that strace makes fail";
