@@ -123,7 +123,7 @@ module _ (p : ℕ) (stripe marks : List ℕ) (fit : Fit p stripe marks) (m : Sta
   enough-words : P .rows ≤ length (b .marks)
   enough-words = omega (arith, shape p (lent-fit p stripe marks fit .plan-known) .rows-le, e .reached .sound .sized .marks)
 
-  row-left : (r : ℕ) → r < P .rows → rowAt P Y r ≡ rowAt P (b .symbols) r
+  pub row-left : (r : ℕ) → r < P .rows → rowAt P Y r ≡ rowAt P (b .symbols) r
   row-left r l = row-take P (b .symbols) (length stripe) r (omega (arith, long, enough)) (omega (arith, long, row-end (P .columns) l))
 
   -- a codeword that agrees has each symbol that is now unmarked

@@ -1,5 +1,5 @@
--- Why the demands hold. The theorems stand in Second, Counts, Encoding, Third, Refused, Blind, Silence, Kept and Room, the plans' parameters in Parameters
--- and Distance, and samples that meet the premises in Samples.
+-- Why the demands hold. The theorems stand in Second, Counts, Encoding, Third, Fewer, Refused, Blind, Silence, Kept and Room, the plans' parameters in
+-- Parameters and Distance, and samples that meet the premises in Samples and FewerSamples.
 pub mod Lists
 pub mod Marked
 pub mod Binary
@@ -26,12 +26,14 @@ pub mod Second
 pub mod Counts
 pub mod Encoding
 pub mod Third
+pub mod Fewer
 pub mod Refused
 pub mod Blind
 pub mod Silence
 pub mod Kept
 pub mod Room
 pub mod Samples
+pub mod FewerSamples
 -- the parameters
 pub mod Parameters
 pub mod Distance

@@ -37,12 +37,12 @@ use Rattle.demands.proofs.Third.{rounds-suffice}
 use Rattle.demands.proofs.Silence.{fresh-same}
 
 -- the test of stripes that agree
-alikeTest : List Bool → List ℕ → List ℕ → Bool
+unfoldable pub alikeTest : List Bool → List ℕ → List ℕ → Bool
 alikeTest [] v w = true
 alikeTest (true ∷ ms) v w = alikeTest ms (rest v) (rest w)
 alikeTest (false ∷ ms) v w = eqb (first v) (first w) && alikeTest ms (rest v) (rest w)
 
-are-alike : (ms : List Bool) (v w : List ℕ) → T (alikeTest ms v w) → Alike ms v w
+pub are-alike : (ms : List Bool) (v w : List ℕ) → T (alikeTest ms v w) → Alike ms v w
 unfolding alikeTest
 are-alike [] v w t = tt
 are-alike (true ∷ ms) v w t = are-alike ms (rest v) (rest w) t

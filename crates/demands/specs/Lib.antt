@@ -2,6 +2,7 @@
 pub mod Words
 pub mod Second
 pub mod Third
+pub mod Fewer
 pub mod Silence
 pub mod Room
 pub mod Refused
