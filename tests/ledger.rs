@@ -21,17 +21,23 @@ impl Ledger {
         println!("{name}: {} calls", self.calls - before);
     }
 
-    /// Holds a call of the library to the independent decoder: its number, and every byte of every buffer.
-    pub fn hold(&mut self, call: &Call) -> Outcome {
+    /// Makes a call of the library, for a caller that holds its outcome to another of the library.
+    pub fn make(&mut self, call: &Call) -> Outcome {
         self.calls += 1;
         let Some(found) = call.make(&LIBRARY) else {
             differ(&format!("{} wrote outside its buffers\nagain: {call}", LIBRARY.name));
         };
+        *self.answers.entry((call.function.name(), found.number)).or_default() += 1;
+        found
+    }
+
+    /// Holds a call of the library to the independent decoder: its number, and every byte of every buffer.
+    pub fn hold(&mut self, call: &Call) -> Outcome {
+        let found = self.make(call);
         let expected = call.make(&ORACLE).expect("the oracle keeps to its buffers");
         if found != expected {
             differ(&comparison(call, &found, &expected));
         }
-        *self.answers.entry((call.function.name(), found.number)).or_default() += 1;
         found
     }
 

@@ -5,6 +5,7 @@
 
 mod calls;
 mod coding;
+mod fewer;
 mod files;
 mod ledger;
 mod mending;
@@ -38,6 +39,7 @@ fn every_group(program: Option<&str>) {
     ledger.group("codeword test, encoding, extraction", coding::calls);
     ledger.group("mending in one call", mending::calls);
     ledger.group("bytes under marks", silence::calls);
+    ledger.group("fewer losses never hurt", fewer::calls);
     ledger.group("steps on fit benches", steps::fit_benches);
     ledger.group("steps on any bytes", steps::any_bytes);
     ledger.group("orders of steps", orders::calls);

@@ -1,5 +1,5 @@
--- Why the demands hold. The theorems stand in Second, Counts, Encoding, Third, Refused, Blind, Silence, Reading, Kept, Leaving, Stopping and Room,
--- the plans' parameters in Parameters and Distance, and samples that meet the premises in Samples (plan 1) and Samples3 (plan 3).
+-- Why the demands hold. The theorems stand in Second, Counts, Encoding, Third, Fewer, Refused, Blind, Silence, Reading, Kept, Leaving, Stopping and
+-- Room, the plans' parameters in Parameters and Distance, and samples that meet the premises in Samples (plan 1), Samples3 (plan 3) and FewerSamples.
 pub mod Lists
 pub mod Marked
 pub mod Binary
@@ -26,6 +26,7 @@ pub mod Second
 pub mod Counts
 pub mod Encoding
 pub mod Third
+pub mod Fewer
 pub mod Refused
 pub mod Blind
 pub mod Silence
@@ -36,6 +37,7 @@ pub mod Stopping
 pub mod Room
 pub mod Samples
 pub mod Samples3
+pub mod FewerSamples
 -- the parameters
 pub mod Parameters
 pub mod Distance

@@ -11,13 +11,13 @@ use Rattle.field.specs.Power.{power}
 use Rattle.linear.specs.Lists.{any, all, only, same, zeros, vanish, first, rest, beside}
 use Rattle.linear.specs.Marks.{bitsOf}
 use Rattle.linear.specs.Fill.{sumsOf, options, before, choices, loose, dependent, fillings, fillBy, fill, oneOfEach}
-use Rattle.plans.specs.Plan.{allOnes, wordOf, locations3, powers3, plan3, known, noPlan, planOf, noLevel, levelOf, checksTo, rowAt, marksAt, marksOf, checkPlacesOf, carried, marksOffset, symbolsOffset, fileLength}
+use Rattle.plans.specs.Plan.{allOnes, wordOf, locations3, powers3, plan3, known, noPlan, planOf, noLevel, levelOf, checksTo, rowAt, marksAt, marksOf, across, checkPlacesOf, carried, marksOffset, symbolsOffset, fileLength}
 use Rattle.plans.specs.Refusal.{firstFailed, unasked, inMemory, inFile, stripeFits, wordsFit, marksFit, allBelow, unmarkedBelow, symbolsFit, sumsAt, sumsFit, levelFits, lentRefusal, benchRefusal}
 use Rattle.steps.specs.Steps.{fresh, stepped, unlessRefused, rowFill, putRow, rowStepBy, rowStep}
 use Rattle.steps.specs.Rounds.{on, more, afterRow, takeTurn, goOn, turns}
 use Rattle.steps.specs.Walk.{standingOf}
 use Rattle.repair.specs.Mending.{mended, bare, turnReport, mendReport}
-use Rattle.codewords.specs.Codeword.{encodeRefusal}
+use Rattle.codewords.specs.Codeword.{rowsHold, totalsHold, isCodeword, encodeRefusal}
 use Rattle.repair.specs.File.{bytes2, headerOf, blanked, planIn, wordAt, marksIn, symbolsIn, fileRefusal, readRefusal}
 use Rattle.plans.specs.declared.Answer.the-variants.{Clash}
 use Rattle.plans.specs.declared.Place.the-variants.{Row}
@@ -31,6 +31,11 @@ use Rattle.demands.proofs.Samples.{plans-known}
 
 unfoldable pub blank3 : List ℕ
 blank3 = replicate 120 0
+
+pub blank-word : Codeword 3 blank3
+unfolding if_then_else_ upFrom _⊕_ size double times mul dot gf16 power all vanish sumsOf allOnes locations3 powers3 plan3 planOf noLevel levelOf rowAt
+    allBelow across rowsHold totalsHold isCodeword blank3
+blank-word = record { long = refl; symbols = tt; holds = tt }
 
 -- ---- encoding and extraction
 

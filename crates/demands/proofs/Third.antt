@@ -39,7 +39,7 @@ order-never-matters p stripe marks premise =
     (held-fresh p (premise .true-stripe) stripe marks (premise .fit) (premise .codeword) (premise .agrees))
 
 -- mending under the premise meets no Clash
-ends : (p : ℕ) (stripe marks : List ℕ) → (premise : Premise p stripe marks)
+pub ends : (p : ℕ) (stripe marks : List ℕ) → (premise : Premise p stripe marks)
     → (m : Standing) × (mended p stripe marks ≡ end m) × Ended p stripe marks (premise .fit) m
 ends p stripe marks premise = go (mended p stripe marks) refl (mended-out p stripe marks (premise .fit))
   where

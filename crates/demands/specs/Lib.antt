@@ -4,6 +4,7 @@ pub mod Second
 pub mod Leaving
 pub mod Stopping
 pub mod Third
+pub mod Fewer
 pub mod Silence
 pub mod Room
 pub mod Refused

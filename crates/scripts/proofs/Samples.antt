@@ -5,16 +5,13 @@ use Prim.Native.Nat.{ℕ, suc, _<_, _≤_}
 use native.Mathlib.Omega.{arith}
 use lib.Dec.{T}
 use lib.ListN.{length, take, getD, set, replicate, length-replicate, getD-replicate}
-use Rattle.field.specs.Lists.{if_then_else_, upFrom}
-use Rattle.field.specs.Field.{_⊕_, size, double, times, mul, dot, gf16}
-use Rattle.field.specs.Power.{power}
-use Rattle.linear.specs.Lists.{all, only, vanish}
+use Rattle.field.specs.Lists.{if_then_else_, upFrom, _to_}
+use Rattle.field.specs.Field.{size}
+use Rattle.linear.specs.Lists.{all, only}
 use Rattle.linear.specs.Marks.{bitsOf}
-use Rattle.linear.specs.Fill.{sumsOf}
-use Rattle.plans.specs.Plan.{allOnes, wordOf, plan1, locations3, powers3, plan3, known, planOf, noLevel, levelOf, rowAt, marksAt, across}
+use Rattle.plans.specs.Plan.{wordOf, plan1, plan3, known, planOf, rowAt, marksAt}
 use Rattle.plans.specs.Answers.{stepNumber, outcomeNumber}
 use Rattle.plans.specs.Refusal.{firstFailed, inMemory, marksFit, allBelow, benchRefusal}
-use Rattle.codewords.specs.Codeword.{rowsHold, totalsHold, isCodeword}
 use Rattle.steps.specs.Steps.{fresh, startedBy, started, stepped, unlessRefused, putRow, rowStep, lossy, raise, levelStep}
 use Rattle.plans.specs.declared.Bench.{Bench}
 use Rattle.repair.specs.Sheet.{Case, restored, stuck, clashed, unchanged, blankRestored, exampleStripe, exampleMarks, exampleAfter, cases, done}
@@ -23,12 +20,13 @@ use Rattle.steps.proofs.Fit.{marks-fit, fit-lent}
 use Rattle.plans.proofs.Refusals.{unmarked-below}
 use Rattle.steps.proofs.Settled.{put-whole}
 use Rattle.shelf.specs.Layout.{benchSize, benchIn}
-use Rattle.demands.specs.Words.{Codeword, Fit, Move, onRow, onLevel, after, walk, Quiet, rounds, counts}
+use Rattle.demands.specs.Words.{Fit, Move, onRow, onLevel, after, walk, Quiet, rounds, counts}
 use Rattle.demands.specs.Third.{Premise}
 use Rattle.demands.proofs.Codewords.{word-below}
 use Rattle.demands.proofs.Few.{few-independent, weights-independent}
 use Rattle.demands.proofs.Held.{RowFree, LevelFree, Held, held-fresh, held-unmarked, row-fills, level-learns, Made, stays, fills, learns, makes, held-after}
 use Rattle.demands.proofs.Samples.{example, other-quiet}
+use Rattle.demands.proofs.Samples3.{blank3, blank-word}
 use Rattle.scripts.specs.Calls.{Call, start, step, told, numbers}
 use Rattle.scripts.specs.Third.{script, QuietBytes}
 use Rattle.scripts.proofs.Calls.{calls-are-steps}
@@ -91,36 +89,28 @@ example-restored =
 
 -- ---- plan 3: a zero stripe, rows 0 and 1 with 3 and 7 marks
 
-unfoldable pub zeroStripe : List ℕ
-zeroStripe = replicate 120 0
-
 unfoldable pub twoMarked : List ℕ
-twoMarked = wordOf (upFrom 0 3) ∷ wordOf (upFrom 0 7) ∷ replicate 6 0
+twoMarked = wordOf (0 to 2) ∷ wordOf (0 to 6) ∷ replicate 6 0
 
-pub zero-word : Codeword 3 zeroStripe
-unfolding if_then_else_ upFrom _⊕_ size double times mul dot gf16 power all vanish sumsOf allOnes wordOf locations3 powers3 plan3 planOf noLevel levelOf rowAt
-    allBelow across rowsHold totalsHold isCodeword zeroStripe
-zero-word = record { long = refl; symbols = tt; holds = tt }
-
-zero-fits : Fit 3 zeroStripe twoMarked
+zero-fits : Fit 3 blank3 twoMarked
 unfolding if_then_else_ upFrom all wordOf plan3 known planOf marksFit twoMarked
-zero-fits = fit-lent 3 zeroStripe twoMarked record {
+zero-fits = fit-lent 3 blank3 twoMarked record {
   plan-known = tt;
-  long = zero-word .long;
+  long = blank-word .long;
   words = refl;
   mark-lt = marks-fit (planOf 3) twoMarked tt;
   row-fits = λ r h.
-      unmarked-below (planOf 3 .field) (marksAt (planOf 3) twoMarked r) (rowAt (planOf 3) zeroStripe r) (word-below 3 zeroStripe zero-word r h);
+      unmarked-below (planOf 3 .field) (marksAt (planOf 3) twoMarked r) (rowAt (planOf 3) blank3 r) (word-below 3 blank3 blank-word r h);
 }
 
-pub zero-premise : Premise 3 zeroStripe twoMarked
-zero-premise = record { fit = zero-fits; true-stripe = zeroStripe; codeword = zero-word; agrees = λ i e. refl }
+pub zero-premise : Premise 3 blank3 twoMarked
+zero-premise = record { fit = zero-fits; true-stripe = blank3; codeword = blank-word; agrees = λ i e. refl }
 
 -- ---- by the rounds again, and in another order: each level as soon as it can be learned, and no rows but these two
 
-pub zero-rounds-quiet : QuietBytes (script 3 zeroStripe twoMarked (rounds (planOf 3) 3) clean)
+pub zero-rounds-quiet : QuietBytes (script 3 blank3 twoMarked (rounds (planOf 3) 3) clean)
 unfolding plan3 planOf
-zero-rounds-quiet = script-rounds-suffice 3 zeroStripe twoMarked zero-premise clean clean-long
+zero-rounds-quiet = script-rounds-suffice 3 blank3 twoMarked zero-premise clean clean-long
 
 -- a bench held to a codeword, at level t and with these marks
 record At (p : ℕ) (X : List ℕ) (b : Bench) (t : ℕ) (marks : List ℕ) : Type 0 where
@@ -172,24 +162,24 @@ module _ (p : ℕ) (X : List ℕ) {b : Bench} {t : ℕ} {marks : List ℕ} (at :
 abbrev levelsFirst : List Move
 levelsFirst = onLevel ∷ onRow 0 ∷ onLevel ∷ onRow 1 ∷ []
 
-zero-at : At 3 zeroStripe (fresh 3 zeroStripe twoMarked) 1 twoMarked
+zero-at : At 3 blank3 (fresh 3 blank3 twoMarked) 1 twoMarked
 unfolding fresh twoMarked
-zero-at = record { held = held-fresh 3 zeroStripe zeroStripe twoMarked zero-fits zero-word (λ i e. refl); level = refl; words = refl }
+zero-at = record { held = held-fresh 3 blank3 blank3 twoMarked zero-fits blank-word (λ i e. refl); level = refl; words = refl }
 
-zero-ends : At 3 zeroStripe (walk levelsFirst (fresh 3 zeroStripe twoMarked)) 3 (replicate 8 0)
+zero-ends : At 3 blank3 (walk levelsFirst (fresh 3 blank3 twoMarked)) 3 (replicate 8 0)
 unfolding if_then_else_ upFrom only bitsOf wordOf plan3 planOf marksAt lossy counts twoMarked
 zero-ends =
-    let two = raised 3 zeroStripe zero-at (omega arith) (weights-independent 3 0 (lossy (planOf 3) twoMarked) refl (omega arith)) in
-    let row = filled 3 zeroStripe two 0 (omega arith) (few-independent 3 1 (marksAt (planOf 3) twoMarked 0) refl (omega arith)) in
-    let three = raised 3 zeroStripe row (omega arith) (weights-independent 3 1 (lossy (planOf 3) (set twoMarked 0 0)) refl (omega arith)) in
-    filled 3 zeroStripe three 1 (omega arith) (few-independent 3 2 (marksAt (planOf 3) (set twoMarked 0 0) 1) refl (omega arith))
+    let two = raised 3 blank3 zero-at (omega arith) (weights-independent 3 0 (lossy (planOf 3) twoMarked) refl (omega arith)) in
+    let row = filled 3 blank3 two 0 (omega arith) (few-independent 3 1 (marksAt (planOf 3) twoMarked 0) refl (omega arith)) in
+    let three = raised 3 blank3 row (omega arith) (weights-independent 3 1 (lossy (planOf 3) (set twoMarked 0 0)) refl (omega arith)) in
+    filled 3 blank3 three 1 (omega arith) (few-independent 3 2 (marksAt (planOf 3) (set twoMarked 0 0) 1) refl (omega arith))
 
-pub zero-order-quiet : QuietBytes (script 3 zeroStripe twoMarked levelsFirst used)
+pub zero-order-quiet : QuietBytes (script 3 blank3 twoMarked levelsFirst used)
 unfolding plan3 planOf
 zero-order-quiet =
-    quiet-bytes (script-holds 3 zeroStripe twoMarked zero-premise used used-long levelsFirst)
-    (whole-quiet 3 zeroStripe zero-ends (omega arith) (λ r l. getD-replicate 8 r 0 0 l))
+    quiet-bytes (script-holds 3 blank3 twoMarked zero-premise used used-long levelsFirst)
+    (whole-quiet 3 blank3 zero-ends (omega arith) (λ r l. getD-replicate 8 r 0 0 l))
 
-pub zero-equal : script 3 zeroStripe twoMarked (rounds (planOf 3) 3) clean ≡ script 3 zeroStripe twoMarked levelsFirst used
+pub zero-equal : script 3 blank3 twoMarked (rounds (planOf 3) 3) clean ≡ script 3 blank3 twoMarked levelsFirst used
 zero-equal =
-    scripts-end-equal 3 zeroStripe twoMarked zero-premise clean used clean-long used-long (rounds (planOf 3) 3) levelsFirst zero-rounds-quiet zero-order-quiet
+    scripts-end-equal 3 blank3 twoMarked zero-premise clean used clean-long used-long (rounds (planOf 3) 3) levelsFirst zero-rounds-quiet zero-order-quiet
