@@ -53,11 +53,11 @@ pub extern "C" fn shelf_level_step(bench: &mut [u8]) -> usize
     if bench.len() != 418 {
         return 11;
     }
-    let stepped = repair::level_step(layout::bench_in(&bench[..]));
-    let answer = stepped.answer;
-    let after = stepped.bench;
+    let raised = repair::level_step(layout::bench_in(&bench[..]));
+    let told = raised.answer;
+    let after = raised.bench;
     layout::put_bench(after, bench);
-    numbers::of_step(answer)
+    numbers::of_step(told)
 }
 
 // Whether a stripe is a codeword.
