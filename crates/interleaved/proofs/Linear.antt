@@ -25,7 +25,8 @@ pub dot-plain : (c : List ℕ) (f : ℕ → List ℕ) (rs : List ℕ)
 unfolding dot sum
 dot-plain c f [] = dot-comm gf16 c []
 dot-plain c f (r ∷ rs) =
-    dot-plus gf16 c (f r) (sum (map f rs)) ∙ ap₂ _⊕_ (sym (gf16-field .unit (dot gf16 c (f r)) (dot-lt gf16 gf16-field c (f r)))) (dot-plain c f rs)
+    dot-plus gf16 c (f r) (sum (map f rs))
+    ∙ ap₂ _⊕_ (sym (gf16-field .unit (dot gf16 c (f r)) (dot-lt gf16 gf16-field c (f r)))) (dot-plain c f rs)
 
 -- the weighted sum has the weighted total of the sums
 pub dot-weighted : (c : List ℕ) (w : ℕ → ℕ) (f : ℕ → List ℕ) (rs : List ℕ)

@@ -17,7 +17,8 @@ use Rattle.plans.specs.declared.Verdict.the-variants.{Yes, No, Refused}
 use Rattle.codewords.specs.Codeword.{rowsHold, totalsHold, isCodeword, testRefusal, tested}
 use Rattle.codewords.proofs.Walk.{all-map}
 use Rattle.codewords.proofs.Holding.{vanish-turned}
-use Rattle.interleaved.specs.Interleaved.{a^, row, locations, inCode, plainSum, weightedSum, isInterleaved, interleavedRefusal, interleaved}
+use Rattle.interleaved.specs.Interleaved.{a^, row, locations, inCode, plainSum, weightedSum}
+use Rattle.interleaved.specs.Interleaved.{isInterleaved, interleavedRefusal, interleaved}
 use Rattle.interleaved.specs.Same.{SameCode, SameVerdict}
 use Rattle.interleaved.proofs.Linear.{dot-plain, dot-weighted, sum-in, weighted-in}
 
@@ -68,7 +69,8 @@ unfolding plan3 rowAt across a^ row weightedSum
 weighted-total stripe p = sym (dot-weighted (powers3 p) a^ (row stripe) (upFrom 0 8)) ∙ power-check (weightedSum stripe) p
 
 -- a level's totals are zero, weights by weights
-by-weights : (stripe : List ℕ) (L : Level) → totalsHold plan3 stripe L ≡ all (λ w. vanish (map (λ c. dot gf16 w (across plan3 stripe c)) (L .checks))) (L .weights)
+by-weights : (stripe : List ℕ) (L : Level)
+    → totalsHold plan3 stripe L ≡ all (λ w. vanish (map (λ c. dot gf16 w (across plan3 stripe c)) (L .checks))) (L .weights)
 unfolding sumsOf plan3 totalsHold
 by-weights stripe L = vanish-turned (λ c w. dot gf16 w (across plan3 stripe c)) (L .checks) (L .weights)
 

@@ -9,7 +9,8 @@ use Rattle.field.specs.Power.{power, powerSum}
 use Rattle.linear.specs.Lists.{all}
 use Rattle.plans.specs.Refusal.{firstFailed, unasked, inMemory, allBelow}
 use Rattle.plans.specs.declared.Verdict.the-variants.{Yes, No, Refused}
-use Rattle.interleaved.specs.Interleaved.{a^, row, locations, inCode, sum, plainSum, weightedSum, isInterleaved, interleavedRefusal, interleaved}
+use Rattle.interleaved.specs.Interleaved.{a^, row, locations, inCode, sum, plainSum, weightedSum}
+use Rattle.interleaved.specs.Interleaved.{isInterleaved, interleavedRefusal, interleaved}
 
 -- a row read off a number, column 0 last
 unfoldable pub digits : ℕ → List ℕ

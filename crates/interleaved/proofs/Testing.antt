@@ -43,7 +43,8 @@ module _ (weights stripe sum : List ℕ) (made : (length sum ≡ 32) × (take 15
   pub sum-length : length (take 15 sum) ≡ 15
   sum-length = length-take-le 15 sum sum-room
 
-  pub sum-tested : (m : ℕ) (checks : List ℕ) {b : Bool} → b ≡ vanish (sumsOf (fieldOf 16) (rowsOf m (length (take 15 sum)) checks) (take 15 sum))
+  pub sum-tested : (m : ℕ) (checks : List ℕ) {b : Bool}
+      → b ≡ vanish (sumsOf (fieldOf 16) (rowsOf m (length (take 15 sum)) checks) (take 15 sum))
       → b ≡ vanish (sumsOf gf16 (rowsOf m 15 checks) (totalRow gf16 weights 15 stripe))
   sum-tested m checks e =
       e ∙ ap₂ (λ k v. vanish (sumsOf (fieldOf 16) (rowsOf m k checks) v)) sum-length (made .1)
@@ -53,7 +54,8 @@ module _ (weights stripe sum : List ℕ) (made : (length sum ≡ 32) × (take 15
 
 -- a sum of the rows under any check is the weighted total of theirs
 total-rows : (c : List ℕ) (w : ℕ → ℕ) (stripe : List ℕ)
-    → dot gf16 c (totalRow gf16 (map w (upFrom 0 8)) 15 stripe) ≡ dot gf16 (map w (upFrom 0 8)) (map (λ r. dot gf16 c (row stripe r)) (upFrom 0 8))
+    → dot gf16 c (totalRow gf16 (map w (upFrom 0 8)) 15 stripe)
+    ≡ dot gf16 (map w (upFrom 0 8)) (map (λ r. dot gf16 c (row stripe r)) (upFrom 0 8))
 unfolding upFrom row
 total-rows c w stripe =
     dot-total gf16 gf16-field c (map w (upFrom 0 8)) 8 15 stripe (lit≤ tt)
@@ -71,19 +73,23 @@ checks-are : (rowsOf 7 15 (checkTable (planOf 3)) ≡ map powers3 (upFrom 0 7)) 
 unfolding upFrom flatMap rowsOf locations3 powers3 plan3 planOf checksTo checkTable
 checks-are = (refl, refl)
 
-weights-are : (take 8 (drop 0 (weightTable (planOf 3) 2)) ≡ map (λ r. 1) (upFrom 0 8)) × (take 8 (drop 8 (weightTable (planOf 3) 2)) ≡ map a^ (upFrom 0 8))
+weights-are :
+    (take 8 (drop 0 (weightTable (planOf 3) 2)) ≡ map (λ r. 1) (upFrom 0 8))
+    × (take 8 (drop 8 (weightTable (planOf 3) 2)) ≡ map a^ (upFrom 0 8))
 unfolding upFrom flatMap ones plan3 planOf levelOf padded flat weightTable a^
 weights-are = (refl, refl)
 
 module _ (stripe : List ℕ) {checks weights : List ℕ} (lent : checks ≡ checkTable (planOf 3)) (weigh : weights ≡ weightTable (planOf 3) 2) where
-  pub plain-tested : {b : Bool} → b ≡ vanish (sumsOf gf16 (rowsOf 7 15 checks) (totalRow gf16 (take 8 (drop 0 weights)) 15 stripe)) → b ≡ inCode 6 (plainSum stripe)
+  pub plain-tested : {b : Bool} → b ≡ vanish (sumsOf gf16 (rowsOf 7 15 checks) (totalRow gf16 (take 8 (drop 0 weights)) 15 stripe))
+      → b ≡ inCode 6 (plainSum stripe)
   unfolding plainSum
   plain-tested e =
       e ∙ ap₂ (λ cs ws. vanish (sumsOf gf16 cs (totalRow gf16 ws 15 stripe)))
       (ap (rowsOf 7 15) lent ∙ checks-are .0) (ap (λ l. take 8 (drop 0 l)) weigh ∙ weights-are .0)
       ∙ same-sums 6 _ (plainSum stripe) (λ c. total-rows c (λ r. 1) stripe ∙ sym (dot-plain c (row stripe) (upFrom 0 8)))
 
-  pub weighted-tested : {b : Bool} → b ≡ vanish (sumsOf gf16 (rowsOf 3 15 checks) (totalRow gf16 (take 8 (drop 8 weights)) 15 stripe)) → b ≡ inCode 2 (weightedSum stripe)
+  pub weighted-tested : {b : Bool} → b ≡ vanish (sumsOf gf16 (rowsOf 3 15 checks) (totalRow gf16 (take 8 (drop 8 weights)) 15 stripe))
+      → b ≡ inCode 2 (weightedSum stripe)
   unfolding weightedSum
   weighted-tested e =
       e ∙ ap₂ (λ cs ws. vanish (sumsOf gf16 cs (totalRow gf16 ws 15 stripe)))

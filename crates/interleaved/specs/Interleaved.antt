@@ -15,10 +15,11 @@ use Rattle.plans.specs.declared.Verdict.the-variants.{Yes, No, Refused}
 
 -- ---- the stripe: 8 rows of 15 symbols of GF(16), row after row
 
--- power r of a
+-- a ^ r, where a is 2
 unfoldable pub a^ : ℕ → ℕ
 a^ r = power gf16 2 r
 
+-- row r of a stripe
 unfoldable pub row : List ℕ → ℕ → List ℕ
 row stripe r = take 15 (drop (r * 15) stripe)
 

@@ -70,7 +70,8 @@ returns-3 c =
     let tests = weights .before .before in
     let lent = tests .before .before .before .row-checks-3 .ensures in
     holds-by _ (tests .rows-hold .ensures) (not-false _ (weights .before .if1 .left))
-    (plain-tested _ lent (weights .weights .ensures) (plain .sum-vanishes .ensures)) (not-false _ (c .before .before .before .before .before .if2 .left))
+    (plain-tested _ lent (weights .weights .ensures) (plain .sum-vanishes .ensures))
+    (not-false _ (c .before .before .before .before .before .if2 .left))
     (weighted-tested _ lent (weights .weights .ensures) (c .sum-vanishes2 .ensures))
 
 pub holds-spec : {M : Type 1} → statement M

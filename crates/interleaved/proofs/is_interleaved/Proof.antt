@@ -20,12 +20,14 @@ holds-requires c κs = search needs
 returns-3 : tie.Need-returns-3
 returns-3 c =
     let tests = c .before .before .before in
-    answered-yes _ (tests .before .if1 .left) (tests .all-below .ensures) (not-false _ (c .before .before .if2 .left)) (c .before .holds .ensures) (c .if3 .taken)
+    let below = not-false _ (c .before .before .if2 .left) in
+    answered-yes _ (tests .before .if1 .left) (tests .all-below .ensures) below (c .before .holds .ensures) (c .if3 .taken)
 
 returns-4 : tie.Need-returns-4
 returns-4 c =
     let tests = c .before .before .before in
-    answered-no _ (tests .before .if1 .left) (tests .all-below .ensures) (not-false _ (c .before .before .if2 .left)) (c .before .holds .ensures) (c .if3 .left)
+    let below = not-false _ (c .before .before .if2 .left) in
+    answered-no _ (tests .before .if1 .left) (tests .all-below .ensures) below (c .before .holds .ensures) (c .if3 .left)
 
 pub is-interleaved-spec : {M : Type 1} → statement M
 is-interleaved-spec =
