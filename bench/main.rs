@@ -21,19 +21,40 @@ const TIME_ENOUGH: Duration = Duration::from_millis(400);
 #[derive(Clone, Copy)]
 struct Side {
     is_codeword: fn(usize, &[u8]) -> usize,
+    is_interleaved: fn(&[u8]) -> usize,
     encode: fn(usize, &[u8], &mut [u8]) -> usize,
     mend: fn(usize, &mut [u8], &mut [u32], &mut [u8]) -> usize,
     row_step: fn(&mut [u8], usize) -> usize,
 }
 
-const LIBRARY: Side =
-    Side { is_codeword: shelf::is_codeword, encode: shelf::encode, mend: shelf::mend, row_step: shelf::row_step };
-const PLAIN: Side =
-    Side { is_codeword: plain::is_codeword, encode: plain::encode, mend: plain::mend, row_step: plain::row_step };
-const PACKED: Side =
-    Side { is_codeword: packed::is_codeword, encode: packed::encode, mend: packed::mend, row_step: packed::row_step };
-const ORACLE: Side =
-    Side { is_codeword: oracle::is_codeword, encode: oracle::encode, mend: oracle::mend, row_step: oracle::row_step };
+const LIBRARY: Side = Side {
+    is_codeword: shelf::is_codeword,
+    is_interleaved: shelf::is_interleaved,
+    encode: shelf::encode,
+    mend: shelf::mend,
+    row_step: shelf::row_step,
+};
+const PLAIN: Side = Side {
+    is_codeword: plain::is_codeword,
+    is_interleaved: plain::is_interleaved,
+    encode: plain::encode,
+    mend: plain::mend,
+    row_step: plain::row_step,
+};
+const PACKED: Side = Side {
+    is_codeword: packed::is_codeword,
+    is_interleaved: packed::is_interleaved,
+    encode: packed::encode,
+    mend: packed::mend,
+    row_step: packed::row_step,
+};
+const ORACLE: Side = Side {
+    is_codeword: oracle::is_codeword,
+    is_interleaved: oracle::is_interleaved,
+    encode: oracle::encode,
+    mend: oracle::mend,
+    row_step: oracle::row_step,
+};
 
 const SIDES: [(&str, Side); 3] = [("library", LIBRARY), ("plain code", PLAIN), ("packed code", PACKED)];
 
@@ -42,15 +63,18 @@ enum Work {
     /// The floor: the stripe is copied.
     Copy,
     IsCodeword,
+    /// The same of plan 3 alone.
+    IsInterleaved,
     Encode,
     Mend(Marks),
     /// The step of a row that has one mark, on a fresh bench.
     RowStep,
 }
 
-const WORKS: [(&str, Work); 10] = [
+const WORKS: [(&str, Work); 11] = [
     ("copy of the stripe", Work::Copy),
     ("codeword test", Work::IsCodeword),
+    ("codeword test, interleaved form", Work::IsInterleaved),
     ("encoding", Work::Encode),
     ("mending, no marks", Work::Mend(Marks::None)),
     ("mending, one mark", Work::Mend(Marks::One)),
@@ -124,6 +148,7 @@ impl Pool {
                 stripes.zip(copies).map(|(stripe, copy)| copied(stripe, copy)).sum()
             }
             Work::IsCodeword => stripes.map(|stripe| (side.is_codeword)(number, stripe)).sum(),
+            Work::IsInterleaved => stripes.map(|stripe| (side.is_interleaved)(stripe)).sum(),
             Work::Encode => {
                 let data = self.data.chunks_exact(plan.carried());
                 data.zip(stripes).map(|(data, stripe)| (side.encode)(number, data, stripe)).sum()
@@ -201,6 +226,9 @@ fn main() {
     println!("|---|---|---:|---:|---:|---:|");
     for plan in Plan::all() {
         for (name, work) in WORKS {
+            if matches!(work, Work::IsInterleaved) && plan.number != 3 {
+                continue;
+            }
             let start = Pool::new(plan, work, &mut Chance::seeded(121));
             let expected = after_pass(plan, work, ORACLE, &start);
             for (whose, side) in SIDES {

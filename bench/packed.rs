@@ -291,6 +291,11 @@ pub fn is_codeword(plan: usize, stripe: &[u8]) -> usize {
     (plain != 0 || plan.q == 16 && second != 0) as usize
 }
 
+/// Plan 3 in its interleaved form: the same code.
+pub fn is_interleaved(stripe: &[u8]) -> usize {
+    is_codeword(3, stripe)
+}
+
 // ---- encoding
 
 /// For each row, sum and value: the packed check symbols that give the row this sum and no other.

@@ -288,6 +288,33 @@ pub fn is_codeword(plan: usize, stripe: &[u8]) -> usize {
     !holds(plan, stripe) as usize
 }
 
+/// Whether the first power sums of a word of plan 3 are zero.
+fn in_code(sums: usize, word: &[u8]) -> bool {
+    CHECKS[2][..sums].iter().all(|check| sum(16, check, word) == 0)
+}
+
+/// Plan 3's codeword test in its interleaved form.
+pub fn is_interleaved(stripe: &[u8]) -> usize {
+    if stripe.len() != 120 {
+        return 11;
+    }
+    if !all_below(16, stripe) {
+        return 13;
+    }
+    let (mut plain, mut weighted, mut weight) = ([0; 15], [0; 15], 1);
+    for row in stripe.chunks_exact(15) {
+        if !in_code(2, row) {
+            return 1;
+        }
+        for ((plain, weighted), &symbol) in plain.iter_mut().zip(&mut weighted).zip(row) {
+            *plain ^= symbol;
+            *weighted ^= times(weight, symbol);
+        }
+        weight = times(2, weight);
+    }
+    !(in_code(7, &plain) && in_code(3, &weighted)) as usize
+}
+
 pub fn encode(plan: usize, data: &[u8], stripe: &mut [u8]) -> usize {
     let plan = match Plan::numbered(plan) {
         Ok(plan) => plan,

@@ -75,6 +75,7 @@ pub enum Function {
     LevelStep,
     Mend,
     IsCodeword,
+    IsInterleaved,
     Encode,
     Extract,
     ReadFile,
@@ -82,12 +83,13 @@ pub enum Function {
     Text,
 }
 
-pub const FUNCTIONS: [Function; 10] = [
+pub const FUNCTIONS: [Function; 11] = [
     Function::Start,
     Function::RowStep,
     Function::LevelStep,
     Function::Mend,
     Function::IsCodeword,
+    Function::IsInterleaved,
     Function::Encode,
     Function::Extract,
     Function::ReadFile,
@@ -103,6 +105,7 @@ impl Function {
             Function::LevelStep => "level_step",
             Function::Mend => "mend",
             Function::IsCodeword => "is_codeword",
+            Function::IsInterleaved => "is_interleaved",
             Function::Encode => "encode",
             Function::Extract => "extract",
             Function::ReadFile => "read_file",
@@ -115,7 +118,7 @@ impl Function {
     fn shape(self) -> &'static [bool] {
         match self {
             Function::Start | Function::Mend | Function::WriteFile => &[false, true, false],
-            Function::RowStep | Function::LevelStep | Function::IsCodeword => &[false],
+            Function::RowStep | Function::LevelStep | Function::IsCodeword | Function::IsInterleaved => &[false],
             Function::Encode | Function::Extract => &[false, false],
             Function::ReadFile => &[false, false, true],
             Function::Text => &[false, false, false],
@@ -130,6 +133,7 @@ impl Function {
             Function::LevelStep => &[2, 6, 7, 8, 10, 11, 12, 13, 15],
             Function::Mend => &[0, 1, 2, 10, 11, 12, 13],
             Function::IsCodeword => &[0, 1, 10, 11, 13],
+            Function::IsInterleaved => &[0, 1, 11, 13],
             Function::Encode => &[0, 10, 11, 13],
             Function::Extract => &[0, 10, 11, 13, 16],
             Function::ReadFile => &[0, 10, 11, 12, 13, 20, 21, 22],
@@ -161,6 +165,7 @@ pub struct Side {
     level_step: fn(&mut [u8]) -> usize,
     mend: fn(usize, &mut [u8], &mut [u32], &mut [u8]) -> usize,
     is_codeword: fn(usize, &[u8]) -> usize,
+    is_interleaved: fn(&[u8]) -> usize,
     encode: fn(usize, &[u8], &mut [u8]) -> usize,
     extract: fn(usize, &[u8], &mut [u8]) -> usize,
     read_file: fn(&[u8], &mut [u8], &mut [u32]) -> usize,
@@ -175,6 +180,7 @@ pub const LIBRARY: Side = Side {
     level_step: shelf::level_step,
     mend: shelf::mend,
     is_codeword: shelf::is_codeword,
+    is_interleaved: shelf::is_interleaved,
     encode: shelf::encode,
     extract: shelf::extract,
     read_file: shelf::read_file,
@@ -189,6 +195,7 @@ pub const ORACLE: Side = Side {
     level_step: oracle::level_step,
     mend: oracle::mend,
     is_codeword: oracle::is_codeword,
+    is_interleaved: oracle::is_interleaved,
     encode: oracle::encode,
     extract: oracle::extract,
     read_file: oracle::read_file,
@@ -237,6 +244,10 @@ impl Call {
         Call { function: Function::IsCodeword, number: plan, buffers: vec![stripe.into()] }
     }
 
+    pub fn is_interleaved(stripe: &[u8]) -> Call {
+        Call { function: Function::IsInterleaved, number: 0, buffers: vec![stripe.into()] }
+    }
+
     pub fn encode(plan: usize, data: &[u8], stripe: &[u8]) -> Call {
         Call { function: Function::Encode, number: plan, buffers: vec![data.into(), stripe.into()] }
     }
@@ -277,6 +288,7 @@ impl Call {
                 (side.mend)(n, stripe.lent_bytes(), marks.lent_words(), report.lent_bytes())
             }
             (Function::IsCodeword, [stripe]) => (side.is_codeword)(n, stripe.lent_bytes()),
+            (Function::IsInterleaved, [stripe]) => (side.is_interleaved)(stripe.lent_bytes()),
             (Function::Encode, [data, stripe]) => (side.encode)(n, data.lent_bytes(), stripe.lent_bytes()),
             (Function::Extract, [stripe, data]) => (side.extract)(n, stripe.lent_bytes(), data.lent_bytes()),
             (Function::ReadFile, [file, stripe, marks]) => {

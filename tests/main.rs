@@ -7,6 +7,7 @@ mod calls;
 mod coding;
 mod fewer;
 mod files;
+mod interleaved;
 mod ledger;
 mod mending;
 mod orders;
@@ -37,6 +38,7 @@ fn every_group(program: Option<&str>) {
     ledger.group("refusals, every set of flaws", refusals::calls);
     ledger.group("plan 1 throughout", throughout::calls);
     ledger.group("codeword test, encoding, extraction", coding::calls);
+    ledger.group("interleaved form of plan 3", interleaved::calls);
     ledger.group("mending in one call", mending::calls);
     ledger.group("bytes under marks", silence::calls);
     ledger.group("fewer losses never hurt", fewer::calls);

@@ -11,12 +11,15 @@
 //! - mending takes the checks of all rows up to a level as one system, a level at a time;
 //! - the steps of the bench ask the rank of one row's checks, or of one level's weights.
 //!
-//! The ten functions below have the buffers and the answers of the library's C names.
+//! The interleaved form of plan 3 alone divides polynomials.
+//!
+//! The eleven functions below have the buffers and the answers of the library's C names.
 
 pub mod answers;
 pub mod bench;
 pub mod binary;
 pub mod file;
+pub mod interleaved;
 pub mod mending;
 pub mod plan;
 pub mod stripe;
@@ -24,6 +27,7 @@ pub mod text;
 
 pub use bench::{level_step, row_step, start};
 pub use file::{read_file, write_file};
+pub use interleaved::is_interleaved;
 pub use mending::mend;
 pub use plan::Plan;
 pub use stripe::{encode, extract, is_codeword};

@@ -68,6 +68,7 @@ fn flaws(function: Function) -> Vec<Flaw> {
         Function::RowStep => vec![Length(0), UnknownPlan, BenchLevel, MarkOutside, Symbol, Sum, Row],
         Function::LevelStep => vec![Length(0), UnknownPlan, BenchLevel, MarkOutside, Symbol, Sum],
         Function::IsCodeword => vec![UnknownPlan, Length(0), Symbol],
+        Function::IsInterleaved => vec![Length(0), Symbol],
         Function::Encode => vec![UnknownPlan, Length(0), Length(1), Symbol],
         Function::Extract => vec![UnknownPlan, Length(0), Length(1), Symbol, NoCodeword],
         Function::ReadFile => {
@@ -83,7 +84,7 @@ pub fn calls(ledger: &mut Ledger) {
     let mut chance = Chance::seeded(91);
     for function in FUNCTIONS {
         let all = flaws(function);
-        for plan in Plan::all() {
+        for plan in Plan::all().filter(|plan| function != Function::IsInterleaved || plan.number == 3) {
             for set in 0..1u32 << all.len() {
                 let chosen: Vec<Flaw> = (0..all.len()).filter(|n| set >> n & 1 == 1).map(|n| all[n]).collect();
                 if plan.columns == 32 && chosen.iter().any(|flaw| matches!(flaw, Flaw::MarkOutside)) {
@@ -152,6 +153,7 @@ fn fit_call(function: Function, plan: &Plan, chance: &mut Chance) -> Call {
         Function::RowStep => Call::row_step(&fit_bench(plan, &lent, &marks, chance), chance.below(plan.rows)),
         Function::LevelStep => Call::level_step(&fit_bench(plan, &lent, &marks, chance)),
         Function::IsCodeword => Call::is_codeword(p, &word),
+        Function::IsInterleaved => Call::is_interleaved(&word),
         Function::Encode => Call::encode(p, &chance.bytes_below(plan.q(), plan.carried()), &symbols),
         Function::Extract => Call::extract(p, &word, &carried),
         Function::ReadFile => {
@@ -188,7 +190,9 @@ fn layout(function: Function, plan: &Plan) -> Layout {
         Function::Start | Function::Mend | Function::WriteFile => Layout { symbols: (0, 0), marks: Some((1, 0)) },
         Function::RowStep | Function::LevelStep => Layout { symbols: (0, 2), marks: Some((0, 258)) },
         Function::ReadFile | Function::Text => Layout { symbols: (0, 8 + 4 * plan.rows), marks: Some((0, 8)) },
-        Function::IsCodeword | Function::Encode | Function::Extract => Layout { symbols: (0, 0), marks: None },
+        Function::IsCodeword | Function::IsInterleaved | Function::Encode | Function::Extract => {
+            Layout { symbols: (0, 0), marks: None }
+        }
     }
 }
 

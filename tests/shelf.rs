@@ -25,6 +25,7 @@ mod c {
             report_length: usize,
         ) -> usize;
         pub fn shelf_is_codeword(plan: usize, stripe: *const u8, stripe_length: usize) -> usize;
+        pub fn shelf_is_interleaved(stripe: *const u8, stripe_length: usize) -> usize;
         pub fn shelf_encode(
             plan: usize,
             data: *const u8,
@@ -92,6 +93,10 @@ pub fn mend(plan: usize, stripe: &mut [u8], marks: &mut [u32], report: &mut [u8]
 
 pub fn is_codeword(plan: usize, stripe: &[u8]) -> usize {
     unsafe { c::shelf_is_codeword(plan, stripe.as_ptr(), stripe.len()) }
+}
+
+pub fn is_interleaved(stripe: &[u8]) -> usize {
+    unsafe { c::shelf_is_interleaved(stripe.as_ptr(), stripe.len()) }
 }
 
 pub fn encode(plan: usize, data: &[u8], stripe: &mut [u8]) -> usize {

@@ -133,7 +133,7 @@ all-true [] = refl
 all-true (x ∷ l) = all-true l
 
 -- each row of a matrix is zero where each column is
-vanish-turned : {A B : Type 0} (f : A → B → ℕ) (xs : List A) (ys : List B) → all (λ x. vanish (map (f x) ys)) xs ≡ all (λ y. vanish (map (λ x. f x y) xs)) ys
+pub vanish-turned : {A B : Type 0} (f : A → B → ℕ) (xs : List A) (ys : List B) → all (λ x. vanish (map (f x) ys)) xs ≡ all (λ y. vanish (map (λ x. f x y) xs)) ys
 unfolding vanish all
 vanish-turned f [] ys = sym (all-true ys)
 vanish-turned f (x ∷ xs) ys =

@@ -101,7 +101,7 @@ module _ (F : Field) (weights : List ℕ) (n : ℕ) (symbols : List ℕ) (few : 
 
 module _ (F : Field) (K : IsField F) where
   -- the sum of a row that is multiplied by its weight
-  dot-times : (c : List ℕ) (w : ℕ) (row : List ℕ) → dot F c (map (mul F w) row) ≡ mul F w (dot F c row)
+  pub dot-times : (c : List ℕ) (w : ℕ) (row : List ℕ) → dot F c (map (mul F w) row) ≡ mul F w (dot F c row)
   dot-times c w row = dot-comm F c (map (mul F w) row) ∙ dot-scaled F K w row c ∙ ap (mul F w) (dot-comm F row c)
 
   -- with each row its sum is added, times its weight

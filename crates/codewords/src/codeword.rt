@@ -18,7 +18,7 @@ ghost use Rattle.codewords.specs.Totals.{totalRow};
 ghost use Rattle.plans.specs.Tables.{checkTable};
 
 // Whether each of the first m checks gives 0 with v. A check is as long as v.
-fn vanishes(q: usize, table: &[u8; 256], checks: &[u8], m: usize, v: &[u8]) -> bool
+pub fn vanishes(q: usize, table: &[u8; 256], checks: &[u8], m: usize, v: &[u8]) -> bool
     requires { ⌜ now table ≡ products ⌝ }
     requires { ⌜ m * length (now v) ≤ length (now checks) ⌝ }
     ensures { λ r. ⌜ r ≡ vanish (sumsOf (fieldOf q) (rowsOf m (length (now (v .entry))) (now (checks .entry))) (now (v .entry))) ⌝ }
@@ -80,7 +80,7 @@ fn add_row(q: usize, table: &[u8; 256], weight: u8, row: &[u8], total: &mut [u8]
 }
 
 // The weighted total of the rows, n symbols each, in the first n places.
-fn weighted(q: usize, table: &[u8; 256], weights: &[u8], n: usize, symbols: &[u8]) -> [u8; 32]
+pub fn weighted(q: usize, table: &[u8; 256], weights: &[u8], n: usize, symbols: &[u8]) -> [u8; 32]
     requires { ⌜ now table ≡ products ⌝ }
     requires { ⌜ (n ≤ 32) × (length (now weights) * n ≤ length (now symbols)) ⌝ }
     ensures { λ l. ⌜ (length l ≡ 32) × (take n l ≡ totalRow (fieldOf q) (now (weights .entry)) n (now (symbols .entry))) ⌝ }

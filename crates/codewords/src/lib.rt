@@ -1,5 +1,5 @@
 // The codeword test, and extraction.
-mod codeword;
+pub mod codeword;
 pub mod encoding;
 
 use plans::Outcome;

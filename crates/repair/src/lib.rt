@@ -4,6 +4,7 @@ mod mending;
 use codewords::encoding;
 pub use codewords::extract;
 pub use codewords::is_codeword;
+pub use interleaved::is_interleaved;
 pub use plans::Answer;
 pub use plans::Bench;
 pub use plans::Outcome;

@@ -5,6 +5,7 @@ mod numbers;
 ghost use mathlib.Core.Path.{_≡_};
 ghost use Rattle.plans.specs.Answers.{verdictNumber};
 ghost use Rattle.codewords.specs.Codeword.{tested, encodeRefusal, extractRefusal, extractData};
+ghost use Rattle.interleaved.specs.Interleaved.{interleaved};
 ghost use Rattle.repair.specs.Encoding.{encodeStripe};
 ghost use Rattle.repair.specs.File.{readRefusal, readStripe, readMarks, writeRefusal, writeFile};
 ghost use Rattle.steps.specs.Steps.{rowStep, levelStep};
@@ -66,6 +67,14 @@ pub extern "C" fn shelf_is_codeword(plan: usize, stripe: &[u8]) -> usize
     ensures { λ r. ⌜ r ≡ verdictNumber (tested plan (now (stripe .entry))) ⌝ }
 {
     numbers::of_verdict(repair::is_codeword(plan, stripe))
+}
+
+// Whether a stripe is a codeword of plan 3, by its interleaved form.
+#[no_mangle]
+pub extern "C" fn shelf_is_interleaved(stripe: &[u8]) -> usize
+    ensures { λ r. ⌜ r ≡ verdictNumber (interleaved (now (stripe .entry))) ⌝ }
+{
+    numbers::of_verdict(repair::is_interleaved(stripe))
 }
 
 // Mends a stripe in one call and reports beside the answer. A Clash leaves stripe and marks as they were, a refusal the report too.

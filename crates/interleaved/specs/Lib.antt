@@ -1,0 +1,4 @@
+-- What the crate `interleaved` means.
+pub mod Interleaved
+-- that it is plan 3's code
+pub mod Same
