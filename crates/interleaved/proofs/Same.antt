@@ -78,7 +78,7 @@ by-weights stripe L = vanish-turned (λ c w. dot gf16 w (across plan3 stripe c))
 totals-same : (stripe : List ℕ)
     → all (totalsHold plan3 stripe) (drop 1 (plan3 .levels))
     ≡ zeroFrom 2 1 (plainSum stripe) && (zeroFrom 2 1 (weightedSum stripe) && true) && (zeroFrom 3 4 (plainSum stripe) && true && true)
-unfolding all plan3
+unfolding upFrom all plan3
 totals-same stripe =
     let plain : List ℕ → ℕ = λ c. dot gf16 (allOnes 8) (across plan3 stripe c) in
     let weighted : List ℕ → ℕ = λ c. dot gf16 (map (power gf16 2) (upFrom 0 8)) (across plan3 stripe c) in

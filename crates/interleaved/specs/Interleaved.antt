@@ -1,11 +1,11 @@
 -- The code of plan 3 as generalized integrated interleaving (document 001, section V), written from the partner's description alone:
 -- nothing here is read off the plan.
-use Prim.Native.Nat.{ℕ, _*_}
+use Prim.Native.Nat.{ℕ, suc, _*_}
 use mathlib.Core.Bool.{Bool, _&&_}
 use mathlib.Core.List.{List, [], _∷_, map}
 use lib.Dec.{eqb}
 use lib.ListN.{length, take, drop}
-use Rattle.field.specs.Lists.{if_then_else_, _to_}
+use Rattle.field.specs.Lists.{if_then_else_, upFrom, _to_}
 use Rattle.field.specs.Field.{mul, gf16}
 use Rattle.field.specs.Power.{power, powerSum}
 use Rattle.linear.specs.Lists.{all, plus}
@@ -30,7 +30,7 @@ locations = map a^ (0 to 14)
 
 -- a word is in the code with power sums 0 to `last` where each of these is 0
 unfoldable pub inCode : (last : ℕ) → List ℕ → Bool
-inCode last word = all (λ p. eqb (powerSum gf16 locations word p) 0) (0 to last)
+inCode last word = all (λ p. eqb (powerSum gf16 locations word p) 0) (upFrom 0 (suc last))
 
 -- ---- sums of rows
 
