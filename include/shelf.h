@@ -117,6 +117,10 @@ size_t shelf_mend(size_t plan, uint8_t *stripe, size_t stripe_length, uint32_t *
  * marks: every byte counts. */
 size_t shelf_is_codeword(size_t plan, const uint8_t *stripe, size_t stripe_length);
 
+/* Whether a stripe of 120 bytes is a codeword of plan 3, by the plan's interleaved form: 0 yes, 1 no; or refused by 11 or 13. It answers as
+ * shelf_is_codeword does for plan 3, and takes no plan number. */
+size_t shelf_is_interleaved(const uint8_t *stripe, size_t stripe_length);
+
 /* ---- data in and out ---- */
 
 /* Encodes data to a stripe: 0; or refused by 10, 11 or 13. What the stripe held is not read. */

@@ -84,6 +84,8 @@ static void answers(void) {
     hold("no codeword", shelf_is_codeword(1, stripe, n), SHELF_NO);
     hold("its data", shelf_extract(1, stripe, n, data, SHELF_PLAN_1_DATA), SHELF_NO_CODEWORD);
     hold("no plan", shelf_is_codeword(4, stripe, n), SHELF_UNKNOWN_PLAN);
+    hold("interleaved form, no codeword", shelf_is_interleaved(stripe, SHELF_PLAN_3_STRIPE), SHELF_NO);
+    hold("interleaved form, another length", shelf_is_interleaved(stripe, n), SHELF_WRONG_LENGTH);
     hold("a file", shelf_write_file(1, stripe, n, marks, r, file, SHELF_PLAN_1_FILE), SHELF_DONE);
     hold("its text", shelf_text(file, SHELF_PLAN_1_FILE, text, SHELF_TEXT, size, SHELF_TEXT_SIZE), SHELF_DONE);
     file[8] = 1;
