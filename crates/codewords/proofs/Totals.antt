@@ -1,14 +1,19 @@
 -- The rows' weighted total: the loops that add it up, and its sums. Assumes nothing.
 use mathlib.Core.Path.{_≡_, refl, sym, ap, ap₂, _∙_, subst}
 use mathlib.Core.List.{List, [], _∷_, _++_, map}
-use Prim.Native.Nat.{ℕ, zero, suc, _+_, _*_, _≤_, _<_}
+use Prim.Native.Nat.{ℕ, zero, suc, _+_, _*_, _%_, _≤_, _<_}
 use native.Mathlib.Nat.{zero-mul, suc-mul, zero-add, add-zero, le-of-eq}
 use native.Mathlib.Numerals.{add-one}
 use native.Mathlib.Omega.{arith}
+use lib.Dec.{lit<}
 use lib.ListN.{length, getD, set, take, drop, replicate, length-map, List·getD-map, drop-of-length-le}
 use lib.Seq.{take-all, take-at, length-take-le, length-front, drop-cons, drop-drop, drop-paste, getD-drop}
-use Rattle.field.specs.Field.{_⊕_, Field, mul, dot}
+use Rattle.field.specs.Lists.{if_then_else_}
+use Rattle.field.specs.Field.{_⊕_, Field, size, mul, dot, gf16}
+use Rattle.field.specs.Ours.{fieldOf}
 use Rattle.field.proofs.Sum.{⊕-assoc, ⊕-zero, zero-⊕}
+use Rattle.field.proofs.Ring.{one-low}
+use Rattle.field.proofs.Fields.{field-16}
 use Rattle.field.proofs.Laws.{IsField, mul-zero}
 use Rattle.linear.specs.Marks.{rowsOf}
 use Rattle.linear.specs.Lists.{plus}
@@ -18,6 +23,17 @@ use Rattle.plans.proofs.Parts.{part, part-of, part-length}
 use Rattle.codewords.specs.Totals.{withRows, totalRow}
 
 -- ---- one row
+
+-- in GF(16) the product with 1 is the low bits
+pub plain-product : (x : ℕ) → x % 16 ≡ mul (fieldOf 16) 1 x
+unfolding if_then_else_ size gf16 fieldOf
+plain-product x = sym (one-low gf16 (lit< tt) x)
+
+-- any field but GF(2) is GF(16), where a row of weight 1 is added so
+pub plain-row : {q w : ℕ} → (q ≡ 2 → ⊥) → w ≡ 1 → (total row : List ℕ) {added : List ℕ} → added ≡ plus total (map (mul (fieldOf 16) 1) row)
+    → added ≡ plus total (map (mul (fieldOf q) w) row)
+unfolding if_then_else_ fieldOf
+plain-row {q} {w} ne one total row e = e ∙ ap₂ (λ F w. plus total (map (mul F w) row)) (sym (field-16 q ne)) (sym one)
 
 module _ (F : Field) (w : ℕ) (row total₀ : List ℕ) (same : length row ≡ length total₀) where
   abbrev added : List ℕ

@@ -66,6 +66,16 @@ fn add_in(q: usize, table: &[u8; 256], weight: u8, row: &[u8], total: &mut [u8])
     }
 }
 
+// Adds each symbol of a row to the total, in GF(16): a row of weight 1 asks for no products. Of a symbol the low bits count.
+fn add_plain(row: &[u8], total: &mut [u8])
+    requires { ⌜ length (now row) ≡ length (now total) ⌝ }
+    ensures { λ _. ⌜ now (total .exit) ≡ plus (now (total .entry)) (map (mul (fieldOf 16) 1) (now (row .entry))) ⌝ }
+{
+    for c in 0..row.len() {
+        total[c] = total[c] ^ row[c] % 16;
+    }
+}
+
 // Adds each symbol of a row, times the row's weight, to the total. GF(2) has a call of its own, whose loop is compiled without the table.
 fn add_row(q: usize, table: &[u8; 256], weight: u8, row: &[u8], total: &mut [u8])
     requires { ⌜ now table ≡ products ⌝ }
@@ -74,6 +84,8 @@ fn add_row(q: usize, table: &[u8; 256], weight: u8, row: &[u8], total: &mut [u8]
 {
     if q == 2 {
         add_in(2, table, weight, row, total);
+    } else if weight == 1 {
+        add_plain(row, total);
     } else {
         add_in(q, table, weight, row, total);
     }

@@ -97,9 +97,13 @@ module _ (F : Field) where
   pub mul-low : (a b : ℕ) → mul F (a % size F) (b % size F) ≡ mul F a b
   mul-low a b = low-mul a (b % size F) ∙ mul-comm a (b % size F) ∙ low-mul b a ∙ mul-comm b a
 
-  pub one-mul′ : 1 < size F → (a : ℕ) → a < size F → mul F 1 a ≡ a
+  -- 1 times a is its low bits
+  pub one-low : 1 < size F → (a : ℕ) → mul F 1 a ≡ a % size F
   unfolding mul size
-  one-mul′ one a h = rw (mod-eq-of-lt one, one-times (F .width) a (le-refl (F .width))) (mod-eq-of-lt h)
+  one-low one a = rw (mod-eq-of-lt one) (one-times (F .width) a (le-refl (F .width)))
+
+  pub one-mul′ : 1 < size F → (a : ℕ) → a < size F → mul F 1 a ≡ a
+  one-mul′ one a h = one-low one a ∙ mod-eq-of-lt h
 
   module _ (degree : F .polynomial / size F ≡ 1) where
     double-lt : (a : ℕ) → a < size F → double F a < size F

@@ -41,9 +41,13 @@ power-check : (word : List ℕ) (p : ℕ) → dot gf16 (powers3 p) word ≡ powe
 unfolding powerSum locations3 powers3 a^ locations
 power-check word p = refl
 
-pub in-code : (last : ℕ) (word : List ℕ) → vanish (sumsOf gf16 (map powers3 (upFrom 0 (suc last))) word) ≡ inCode last word
-unfolding sumsOf zeroFrom inCode
-in-code last word = vanish-powers (λ c. dot gf16 c word) word (power-check word) 0 (suc last)
+pub in-sums : (k m : ℕ) (word : List ℕ) → vanish (sumsOf gf16 (map powers3 (upFrom k m)) word) ≡ zeroFrom k m word
+unfolding sumsOf
+in-sums k m word = vanish-powers (λ c. dot gf16 c word) word (power-check word) k m
+
+in-code : (last : ℕ) (word : List ℕ) → vanish (sumsOf gf16 (map powers3 (upFrom 0 (suc last))) word) ≡ inCode last word
+unfolding zeroFrom inCode
+in-code last word = in-sums 0 (suc last) word
 
 -- ---- rows
 
@@ -93,11 +97,11 @@ totals-same stripe =
 
 -- power sums 0 and 1 of both sums of the rows are 0 where the rows' are
 module _ (stripe : List ℕ) (rows : T (all (λ r. inCode 1 (row stripe r)) (upFrom 0 8))) where
-  plain-in : T (inCode 1 (plainSum stripe))
+  pub plain-in : T (inCode 1 (plainSum stripe))
   unfolding plainSum
   plain-in = sum-in 1 (row stripe) (upFrom 0 8) rows
 
-  weighted-sum-in : T (inCode 1 (weightedSum stripe))
+  pub weighted-sum-in : T (inCode 1 (weightedSum stripe))
   unfolding weightedSum
   weighted-sum-in = weighted-in 1 a^ (row stripe) (upFrom 0 8) rows
 

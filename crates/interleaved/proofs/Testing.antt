@@ -1,14 +1,15 @@
 -- What the code of the test says, as the definition has it. Assumes nothing.
-use mathlib.Core.Path.{_≡_, refl, sym, ap, ap₂, _∙_, fun-ext}
+use mathlib.Core.Path.{_≡_, refl, sym, ap, ap₂, _∙_, subst, fun-ext}
 use mathlib.Core.Bool.{Bool, true, false, _&&_}
 use mathlib.Core.List.{List, map, map-map, flatMap}
-use Prim.Native.Nat.{ℕ, suc, _≤_}
-use lib.Dec.{eqb, lit≤}
+use Prim.Native.Nat.{ℕ, _≤_}
+use lib.Dec.{T, eqb, lit≤}
 use lib.ListN.{length, take, drop}
 use lib.Seq.{length-take-le}
 use borrow.Author.Tests.{eq-eqb, ne-eqb}
 use Rattle.field.specs.Lists.{if_then_else_, upFrom}
 use Rattle.field.specs.Field.{dot, gf16}
+use Rattle.field.specs.Power.{powerSum}
 use Rattle.field.specs.Ours.{fieldOf}
 use Rattle.field.proofs.Fields.{gf16-field}
 use Rattle.linear.specs.Lists.{all, vanish}
@@ -25,9 +26,9 @@ use Rattle.plans.proofs.Parts.{rows-of}
 use Rattle.codewords.specs.Codeword.{rowsHold}
 use Rattle.codewords.specs.Totals.{totalRow}
 use Rattle.codewords.proofs.Totals.{dot-total}
-use Rattle.interleaved.specs.Interleaved.{a^, row, inCode, plainSum, weightedSum, isInterleaved, interleavedRefusal, interleaved}
+use Rattle.interleaved.specs.Interleaved.{a^, row, locations, inCode, plainSum, weightedSum, isInterleaved, interleavedRefusal, interleaved}
 use Rattle.interleaved.proofs.Linear.{dot-plain, dot-weighted}
-use Rattle.interleaved.proofs.Same.{in-code, rows-same}
+use Rattle.interleaved.proofs.Same.{zeroFrom, in-sums, rows-same, plain-in, weighted-sum-in}
 
 -- ---- the sum of the rows
 
@@ -62,14 +63,28 @@ total-rows c w stripe =
     ∙ ap (λ rows. dot gf16 (map w (upFrom 0 8)) (map (dot gf16 c) rows)) (rows-of 8 15 stripe)
     ∙ ap (dot gf16 (map w (upFrom 0 8))) (map-map (dot gf16 c) (rowIn 15 stripe) (upFrom 0 8))
 
--- words with the same sums under every check are in the same codes
-same-sums : (last : ℕ) (u v : List ℕ) → ((c : List ℕ) → dot gf16 c u ≡ dot gf16 c v)
-    → vanish (sumsOf gf16 (map powers3 (upFrom 0 (suc last))) u) ≡ inCode last v
+-- words with the same sums under every check have the same power sums
+same-sums : (k m : ℕ) (u v : List ℕ) → ((c : List ℕ) → dot gf16 c u ≡ dot gf16 c v)
+    → vanish (sumsOf gf16 (map powers3 (upFrom k m)) u) ≡ zeroFrom k m v
 unfolding sumsOf
-same-sums last u v e = ap (λ f. vanish (map f (map powers3 (upFrom 0 (suc last))))) (fun-ext e) ∙ in-code last v
+same-sums k m u v e = ap (λ f. vanish (map f (map powers3 (upFrom k m)))) (fun-ext e) ∙ in-sums k m v
 
--- the plan's first checks, and its weights, by computation
-checks-are : (rowsOf 7 15 (checkTable (planOf 3)) ≡ map powers3 (upFrom 0 7)) × (rowsOf 3 15 (checkTable (planOf 3)) ≡ map powers3 (upFrom 0 3))
+-- where power sums 0 and 1 are 0, those from 2 on decide
+both-pass : (a b c : Bool) → T (a && (b && true)) → c ≡ a && (b && c)
+both-pass true true c t = refl
+both-pass true false c t = absurd t
+both-pass false b c t = absurd t
+
+from-2 : (word : List ℕ) → T (inCode 1 word) → (zeroFrom 2 5 word ≡ inCode 6 word) × (zeroFrom 2 1 word ≡ inCode 2 word)
+unfolding upFrom all inCode zeroFrom
+from-2 word t =
+    let zero : ℕ → Bool = λ p. eqb (powerSum gf16 locations word p) 0 in
+    (both-pass (zero 0) (zero 1) (zeroFrom 2 5 word) t, both-pass (zero 0) (zero 1) (zeroFrom 2 1 word) t)
+
+-- the plan's checks from the third on, and its weights, by computation
+checks-are :
+    (rowsOf 5 15 (take 75 (drop 30 (checkTable (planOf 3)))) ≡ map powers3 (upFrom 2 5))
+    × (rowsOf 1 15 (take 15 (drop 30 (checkTable (planOf 3)))) ≡ map powers3 (upFrom 2 1))
 unfolding upFrom flatMap rowsOf locations3 powers3 plan3 planOf checksTo checkTable
 checks-are = (refl, refl)
 
@@ -80,21 +95,21 @@ unfolding upFrom flatMap allOnes plan3 planOf levelOf padded flat weightTable a^
 weights-are = (refl, refl)
 
 module _ (stripe : List ℕ) {checks weights : List ℕ} (lent : checks ≡ checkTable (planOf 3)) (weigh : weights ≡ weightTable (planOf 3) 2) where
-  pub plain-tested : {b : Bool} → b ≡ vanish (sumsOf gf16 (rowsOf 7 15 checks) (totalRow gf16 (take 8 (drop 0 weights)) 15 stripe))
-      → b ≡ inCode 6 (plainSum stripe)
+  pub plain-tested : {b : Bool} → b ≡ vanish (sumsOf gf16 (rowsOf 5 15 (take 75 (drop 30 checks))) (totalRow gf16 (take 8 (drop 0 weights)) 15 stripe))
+      → b ≡ zeroFrom 2 5 (plainSum stripe)
   unfolding plainSum
   plain-tested e =
       e ∙ ap₂ (λ cs ws. vanish (sumsOf gf16 cs (totalRow gf16 ws 15 stripe)))
-      (ap (rowsOf 7 15) lent ∙ checks-are .0) (ap (λ l. take 8 (drop 0 l)) weigh ∙ weights-are .0)
-      ∙ same-sums 6 _ (plainSum stripe) (λ c. total-rows c (λ r. 1) stripe ∙ sym (dot-plain c (row stripe) (upFrom 0 8)))
+      (ap (λ l. rowsOf 5 15 (take 75 (drop 30 l))) lent ∙ checks-are .0) (ap (λ l. take 8 (drop 0 l)) weigh ∙ weights-are .0)
+      ∙ same-sums 2 5 _ (plainSum stripe) (λ c. total-rows c (λ r. 1) stripe ∙ sym (dot-plain c (row stripe) (upFrom 0 8)))
 
-  pub weighted-tested : {b : Bool} → b ≡ vanish (sumsOf gf16 (rowsOf 3 15 checks) (totalRow gf16 (take 8 (drop 8 weights)) 15 stripe))
-      → b ≡ inCode 2 (weightedSum stripe)
+  pub weighted-tested : {b : Bool} → b ≡ vanish (sumsOf gf16 (rowsOf 1 15 (take 15 (drop 30 checks))) (totalRow gf16 (take 8 (drop 8 weights)) 15 stripe))
+      → b ≡ zeroFrom 2 1 (weightedSum stripe)
   unfolding weightedSum
   weighted-tested e =
       e ∙ ap₂ (λ cs ws. vanish (sumsOf gf16 cs (totalRow gf16 ws 15 stripe)))
-      (ap (rowsOf 3 15) lent ∙ checks-are .1) (ap (λ l. take 8 (drop 8 l)) weigh ∙ weights-are .1)
-      ∙ same-sums 2 _ (weightedSum stripe) (λ c. total-rows c a^ stripe ∙ sym (dot-weighted c a^ (row stripe) (upFrom 0 8)))
+      (ap (λ l. rowsOf 1 15 (take 15 (drop 30 l))) lent ∙ checks-are .1) (ap (λ l. take 8 (drop 8 l)) weigh ∙ weights-are .1)
+      ∙ same-sums 2 1 _ (weightedSum stripe) (λ c. total-rows c a^ stripe ∙ sym (dot-weighted c a^ (row stripe) (upFrom 0 8)))
 
 -- ---- the test
 
@@ -107,14 +122,20 @@ module _ (stripe : List ℕ) {a : Bool} (rows : a ≡ rowsHold (planOf 3) stripe
   unfolding isInterleaved
   rows-not f = ap (λ a. a && (inCode 6 (plainSum stripe) && inCode 2 (weightedSum stripe))) (sym f ∙ rows-tested)
 
-  module _ (t : a ≡ true) {b : Bool} (plain : b ≡ inCode 6 (plainSum stripe)) where
+  module _ (t : a ≡ true) {b : Bool} (tested : b ≡ zeroFrom 2 5 (plainSum stripe)) where
+    rows-in : T (all (λ r. inCode 1 (row stripe r)) (upFrom 0 8))
+    rows-in = subst T (sym t ∙ rows-tested) tt
+
+    plain : b ≡ inCode 6 (plainSum stripe)
+    plain = tested ∙ from-2 (plainSum stripe) (plain-in stripe rows-in) .0
+
     pub plain-not : b ≡ false → false ≡ isInterleaved stripe
     unfolding isInterleaved
     plain-not f = ap₂ (λ a b. a && (b && inCode 2 (weightedSum stripe))) (sym t ∙ rows-tested) (sym f ∙ plain)
 
-    pub holds-by : b ≡ true → {c : Bool} → c ≡ inCode 2 (weightedSum stripe) → c ≡ isInterleaved stripe
+    pub holds-by : b ≡ true → {c : Bool} → c ≡ zeroFrom 2 1 (weightedSum stripe) → c ≡ isInterleaved stripe
     unfolding isInterleaved
-    holds-by t′ e = e ∙ ap₂ (λ a b. a && (b && inCode 2 (weightedSum stripe))) (sym t ∙ rows-tested) (sym t′ ∙ plain)
+    holds-by t′ e = e ∙ from-2 (weightedSum stripe) (weighted-sum-in stripe rows-in) .1 ∙ ap₂ (λ a b. a && (b && inCode 2 (weightedSum stripe))) (sym t ∙ rows-tested) (sym t′ ∙ plain)
 
 -- ---- refusals and the answer
 

@@ -34,11 +34,12 @@ fn holds(stripe: &[u8]) -> bool
     if !codeword::rows_hold(3, &table, &checks, stripe) {
         return false;
     }
+    // power sums 0 and 1 of both sums are 0 where the rows' are
     let weights = plan::weights(3, 2);
-    if !sum_vanishes(&table, &checks, 7, &weights[0..8], stripe) {
+    if !sum_vanishes(&table, &checks[30..105], 5, &weights[0..8], stripe) {
         return false;
     }
-    sum_vanishes(&table, &checks, 3, &weights[8..16], stripe)
+    sum_vanishes(&table, &checks[30..45], 1, &weights[8..16], stripe)
 }
 
 // Whether a stripe is a codeword of plan 3, by its interleaved form: each row is in the code with power sums 0 and 1, the plain sum of all
