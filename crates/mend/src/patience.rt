@@ -1,6 +1,7 @@
-// How long a call that fails is made again. Why it failed cannot be told, so a call that a signal interrupted, or that found a stream not
+// How long a call that fails is made again. Why it failed is not asked: a call that a signal interrupted, or that found a stream not
 // ready, is no different from one that cannot succeed.
 ghost use Prim.Native.Nat.{_<_};
+ghost use mathlib.Core.Path.{_≡_};
 
 pub struct Patience {
     // the second that the clock showed last
@@ -13,7 +14,9 @@ pub struct Patience {
 
 // Patience that ends when the clock's second has changed twice, so after one to two seconds, or after so many tries where the clock stands
 // still. The clock is not looked at yet: the first look is a change too.
-pub fn fresh() -> Patience {
+pub fn fresh() -> Patience
+    ensures { λ r. ⌜ (r .changes ≡ 3) × (r .tries ≡ 100000000) ⌝ }
+{
     Patience {
         second: 0,
         changes: 3,
