@@ -17,7 +17,7 @@ use Rattle.plans.specs.declared.Report.{Report}
 use Rattle.plans.proofs.Rows.{marks-length}
 use Rattle.steps.proofs.Fit.{lent-fit, fresh-mark}
 use Rattle.demands.specs.Words.{Codeword, Agree, Fit, walk, Quiet, rounds}
-use Rattle.demands.specs.Fewer.{MarksInside, Unmarked, rowLeft, NoWorse, FewerNeverHurt}
+use Rattle.demands.specs.Fewer.{MarksInside, EndsClear, rowAfter, NoWorse, FewerNeverHurt}
 use Rattle.demands.proofs.Alike.{mark-at}
 use Rattle.demands.proofs.Held.{Held, held-fresh, held-unmarked}
 use Rattle.demands.proofs.Order.{RowInside, Below, below-unmarked, fewer-marks}
@@ -51,7 +51,7 @@ record LeftBy (p : ℕ) (X stripe marks : List ℕ) : Type 0 where
   quiet : Quiet bench
   leads : walk (rounds (planOf p) (length (planOf p .levels))) (fresh p stripe marks) ≡ bench
   words : (r : ℕ) → r < planOf p .rows → getD (mendMarks p stripe marks) r 0 ≡ getD (bench .marks) r 0
-  rows : (r : ℕ) → r < planOf p .rows → rowLeft p stripe marks r ≡ rowAt (planOf p) (bench .symbols) r
+  rows : (r : ℕ) → r < planOf p .rows → rowAfter p stripe marks r ≡ rowAt (planOf p) (bench .symbols) r
   level : mendReport p stripe marks .level ≡ bench .level
 
 left-by : (p : ℕ) (X stripe marks : List ℕ) → Codeword p X → Fit p stripe marks → Agree p marks X stripe → LeftBy p X stripe marks
@@ -75,8 +75,8 @@ left-by p X stripe marks word fit agree =
     }
 
 -- a row without marks at the end is the codeword's
-left-true : (p : ℕ) (X stripe marks : List ℕ) → (b : LeftBy p X stripe marks) → (r : ℕ) → r < planOf p .rows → Unmarked p stripe marks r
-    → rowLeft p stripe marks r ≡ rowAt (planOf p) X r
+left-true : (p : ℕ) (X stripe marks : List ℕ) → (b : LeftBy p X stripe marks) → (r : ℕ) → r < planOf p .rows → EndsClear p stripe marks r
+    → rowAfter p stripe marks r ≡ rowAt (planOf p) X r
 left-true p X stripe marks b r l z = b .rows r l ∙ held-unmarked p X (b .bench) (b .held) r l (sym (b .words r l) ∙ z)
 
 -- ---- under both
@@ -90,7 +90,7 @@ below-fresh p s ms t ns inside fit fit-more = record {
 }
 
 module _ (p : ℕ) (X s ms t ns : List ℕ) (few : LeftBy p X s ms) (many : LeftBy p X t ns) (below : Below p (many .bench) (few .bench)) where
-  stays-unmarked : (r : ℕ) → r < planOf p .rows → Unmarked p t ns r → Unmarked p s ms r
+  stays-unmarked : (r : ℕ) → r < planOf p .rows → EndsClear p t ns r → EndsClear p s ms r
   stays-unmarked r l z = few .words r l ∙ below-unmarked p X (many .bench) (few .bench) (few .held) below r l (sym (many .words r l) ∙ z)
 
   no-worse : NoWorse p X s ms t ns

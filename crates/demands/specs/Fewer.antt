@@ -22,19 +22,19 @@ pub record FewerLosses (p : ℕ) (X s ms t ns : List ℕ) : Type 0 where
   pub agrees-more : Agree p ns X t
 
 -- mending leaves no mark in row r
-abbrev pub Unmarked : ℕ → (stripe marks : List ℕ) → ℕ → Type 0
-Unmarked p stripe marks r = getD (mendMarks p stripe marks) r 0 ≡ 0
+abbrev pub EndsClear : ℕ → (stripe marks : List ℕ) → ℕ → Type 0
+EndsClear p stripe marks r = getD (mendMarks p stripe marks) r 0 ≡ 0
 
 -- the symbols that it leaves in row r
-abbrev pub rowLeft : ℕ → (stripe marks : List ℕ) → ℕ → List ℕ
-rowLeft p stripe marks r = rowAt (planOf p) (mendStripe p stripe marks) r
+abbrev pub rowAfter : ℕ → (stripe marks : List ℕ) → ℕ → List ℕ
+rowAfter p stripe marks r = rowAt (planOf p) (mendStripe p stripe marks) r
 
 -- s under ms ends no worse than t under ns: each row without marks at the end under ns has none under ms, and the same symbols, which are X's;
 -- and the level reached is no lower
 pub record NoWorse (p : ℕ) (X s ms t ns : List ℕ) : Type 0 where
-  pub unmarked : (r : ℕ) → r < planOf p .rows → Unmarked p t ns r → Unmarked p s ms r
-  pub symbols : (r : ℕ) → r < planOf p .rows → Unmarked p t ns r → rowLeft p s ms r ≡ rowLeft p t ns r
-  pub true-symbols : (r : ℕ) → r < planOf p .rows → Unmarked p t ns r → rowLeft p s ms r ≡ rowAt (planOf p) X r
+  pub unmarked : (r : ℕ) → r < planOf p .rows → EndsClear p t ns r → EndsClear p s ms r
+  pub symbols : (r : ℕ) → r < planOf p .rows → EndsClear p t ns r → rowAfter p s ms r ≡ rowAfter p t ns r
+  pub true-symbols : (r : ℕ) → r < planOf p .rows → EndsClear p t ns r → rowAfter p s ms r ≡ rowAt (planOf p) X r
   pub level : mendReport p t ns .level ≤ mendReport p s ms .level
 
 abbrev pub FewerNeverHurt : Type 0

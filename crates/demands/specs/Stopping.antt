@@ -4,20 +4,19 @@ use mathlib.Core.Path.{_≡_}
 use mathlib.Core.Logic.{_≢_}
 use mathlib.Core.List.{List}
 use lib.Dec.{ltb}
-use lib.ListN.{replicate}
 use Rattle.field.specs.Lists.{if_then_else_}
 use Rattle.plans.specs.Plan.{planOf}
 use Rattle.steps.specs.Steps.{fresh, rowStep, levelStep}
 use Rattle.steps.specs.Rounds.{Standing, Turn, on, end, clash, turns}
-use Rattle.repair.specs.Mending.{mended}
+use Rattle.repair.specs.Mending.{begunOn, mended}
 use Rattle.plans.specs.declared.Stepped.{Stepped}
 use Rattle.plans.specs.declared.Step.the-variants.{Blocked, Top, Clash, Refused}
 use Rattle.plans.specs.declared.Place.the-variants.{Row, Across}
 use Rattle.demands.specs.Words.{Fit}
 
--- where mending starts from: a fresh bench, row 0's turn, no row restored
+-- where mending begins: on a fresh bench
 abbrev pub begun : ℕ → (stripe marks : List ℕ) → Standing
-begun p stripe marks = record { bench = fresh p stripe marks; turn = 0; restored = replicate 3 0 }
+begun p stripe marks = begunOn (fresh p stripe marks)
 
 -- the step whose turn it is: a row's, and behind the last row the level step
 unfoldable pub nextStep : ℕ → Standing → Stepped

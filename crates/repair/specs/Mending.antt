@@ -13,9 +13,13 @@ use Rattle.plans.specs.declared.Report.{Report}
 use Rattle.plans.specs.declared.Answer.the-variants.{Restored, Stuck, Clash as Clashing, Refused as Unmended}
 use Rattle.steps.specs.Rounds.{Standing, Turn, on, end, clash, turns}
 
--- as many rounds on a bench as the plan has levels, from row 0
+-- where rounds on a bench begin: row 0 has its turn, and no row is restored
+abbrev pub begunOn : Bench → Standing
+begunOn b = record { bench = b; turn = 0; restored = replicate 3 0 }
+
+-- as many rounds on it as the plan has levels
 abbrev pub roundsOn : (plan : ℕ) → Bench → Turn
-roundsOn p b = let P = planOf p in turns (length (P .levels) * suc (P .rows)) (record { bench = b; turn = 0; restored = replicate 3 0 })
+roundsOn p b = let P = planOf p in turns (length (P .levels) * suc (P .rows)) (begunOn b)
 
 unfoldable pub mended : ℕ → List ℕ → List ℕ → Turn
 mended p stripe marks = roundsOn p (fresh p stripe marks)

@@ -45,7 +45,7 @@ module _ (b : Bench) (symbols : length (b .symbols) ≡ 256) (marks : length (b 
   length-words : length words ≡ 32
   length-words = length-bytes (b .marks) ∙ ap (λ n. 4 * n) marks
 
-  bench-length : length (benchBytes b) ≡ 418
+  pub bench-length : length (benchBytes b) ≡ 418
   unfolding benchBytes
   bench-length =
       length-append ((head ++ b .symbols) ++ words) (b .sums)

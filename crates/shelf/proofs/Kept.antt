@@ -37,6 +37,7 @@ use Rattle.shelf.specs.Layout.{benchSize, benchBytes, benchIn}
 use Rattle.shelf.specs.Calls.{stepAnswer, stepBuffer}
 use Rattle.shelf.specs.Kept.{OfCode, ReadOfCode, StartOfCode, RowStepOfCode, LevelStepOfCode, WrittenLong, WrittenIsRead, ReadIsWritten, RowStepStays, LevelStepStays}
 use Rattle.shelf.proofs.Sizing.{sized-fit, sized-unfit}
+use Rattle.shelf.proofs.Benches.{bench-length}
 
 -- ---- what was written is read
 
@@ -75,8 +76,7 @@ module _ (b : Bench) (c : OfCode b) where
   sums-read = ap (take 128) (drop-at (front ++ words) (b .sums) 290 middle-long) ∙ take-all 128 (b .sums) (le-of-eq (c .sums))
 
 pub written-long : WrittenLong
-unfolding benchBytes
-written-long b c = length-append (front b c ++ words b c) (b .sums) ∙ ap₂ _+_ (middle-long b c) (c .sums)
+written-long b c = bench-length b (c .symbols) (c .marks) (c .sums)
 
 pub written-is-read : WrittenIsRead
 unfolding benchBytes benchIn

@@ -54,9 +54,9 @@ pub extern "C" fn shelf_level_step(bench: &mut [u8]) -> usize
     if bench.len() != 418 {
         return 11;
     }
-    let raised = repair::level_step(layout::bench_in(&bench[..]));
-    let told = raised.answer;
-    let after = raised.bench;
+    let stepped = repair::level_step(layout::bench_in(&bench[..]));
+    let told = stepped.answer;
+    let after = stepped.bench;
     layout::put_bench(after, bench);
     numbers::of_step(told)
 }
