@@ -1,5 +1,7 @@
 //! What `plain.rs` and `packed.rs` share: the fields, the plans, what is refused, a bench's bytes, and solving.
 
+use std::ops::RangeInclusive;
+
 pub const ROWS: usize = 8;
 pub const COLUMNS: usize = 32;
 pub const SYMBOLS: usize = 256;
@@ -202,46 +204,51 @@ pub fn lent(plan: usize, stripe: &[u8], marks: &[u32], rest_fits: impl Fn(&Plan)
 // ---- solving
 
 pub enum Solved {
-    Dependent,
     None,
+    /// Solutions there are, and more than one.
+    Many,
     One,
 }
 
-/// Reduces equations in some unknowns, the right-hand side after them. The solution stands there afterwards.
+/// Reduces equations in some unknowns, the right-hand side after them. Where there is one solution it stands there then.
 pub fn solve<const CELLS: usize>(q: u8, system: &mut [[u8; CELLS]], unknowns: usize) -> Solved {
-    if unknowns > system.len() {
-        return Solved::Dependent;
-    }
+    let mut rank = 0;
     for at in 0..unknowns {
-        let Some(pivot) = (at..system.len()).find(|&row| system[row][at] != 0) else {
-            return Solved::Dependent;
+        // every right-hand side is met
+        if rank == system.len() {
+            break;
+        }
+        let Some(pivot) = (rank..system.len()).find(|&row| system[row][at] != 0) else {
+            continue;
         };
-        system.swap(at, pivot);
-        let own = &mut system[at];
+        system.swap(rank, pivot);
+        let own = &mut system[rank];
         if own[at] != 1 {
             let inverse = INVERSES[own[at] as usize & 15];
             own[at..=unknowns].iter_mut().for_each(|cell| *cell = times(inverse, *cell));
         }
         let own = *own;
-        for row in (0..system.len()).filter(|&row| row != at) {
+        for row in (0..system.len()).filter(|&row| row != rank) {
             let factor = system[row][at];
             if factor != 0 {
-                add(q, factor, &own[at..=unknowns], &mut system[row][at..=unknowns]);
+                add(q, factor, &own, &mut system[row], at..=unknowns);
             }
         }
+        rank += 1;
     }
-    match system[unknowns..].iter().all(|row| row[unknowns] == 0) {
-        true => Solved::One,
+    match system[rank..].iter().all(|row| row[unknowns] == 0) {
+        true if rank == unknowns => Solved::One,
+        true => Solved::Many,
         false => Solved::None,
     }
 }
 
-/// Adds a row times a factor that is not 0 to another row.
-fn add(q: u8, factor: u8, row: &[u8], other: &mut [u8]) {
-    let cells = other.iter_mut().zip(row);
+/// Adds a row times a factor that is not 0 to another row. The row is 0 outside the cells in use; over GF(2) all are added,
+/// their number being known.
+fn add<const CELLS: usize>(q: u8, factor: u8, row: &[u8; CELLS], other: &mut [u8; CELLS], used: RangeInclusive<usize>) {
     match q {
-        2 => cells.for_each(|(cell, more)| *cell ^= more),
-        _ => cells.for_each(|(cell, &more)| *cell ^= times(factor, more)),
+        2 => other.iter_mut().zip(row).for_each(|(cell, more)| *cell ^= more),
+        _ => other[used.clone()].iter_mut().zip(&row[used]).for_each(|(cell, &more)| *cell ^= times(factor, more)),
     }
 }
 

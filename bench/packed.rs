@@ -1,8 +1,8 @@
 //! The timed calls once more, with packed tables and a precomputed encoder: what can be won beyond the plain code.
 //!
 //! A row's sums are packed into one word, each sum in as many bits as a symbol has. For every column and symbol a table
-//! gives the packed shares, so that a row's sums are an exclusive-or of one word a column. Encoding looks up what each of
-//! a row's sums adds to the row's check symbols.
+//! gives the packed shares, so that a row's sums are an exclusive-or of one word a column. Over GF(2) a row is solved by
+//! these words too. Encoding looks up what each of a row's sums adds to the row's check symbols.
 
 #[path = "common.rs"]
 pub mod common;
@@ -106,7 +106,49 @@ fn fill_row(plan: &Plan, level: usize, row: &mut [u8], word: u32, missing: u32) 
     if word == 0 {
         return if missing == 0 { WHOLE } else { CLASH };
     }
+    match plan.q {
+        2 => fill_bits(plan, level, row, word, missing),
+        _ => fill_nibbles(plan, level, row, word, missing),
+    }
+}
+
+/// Takes the kept vectors out of another. Its low half are packed sums, its high half says which columns it adds up; a kept
+/// vector stands at the place of its lowest sum.
+fn reduced(kept: &[u64], vector: u64) -> u64 {
+    kept.iter().enumerate().fold(vector, |left, (sum, own)| left ^ own & (left >> sum & 1).wrapping_neg())
+}
+
+fn fill_bits(plan: &Plan, level: usize, row: &mut [u8], word: u32, missing: u32) -> usize {
     let (sums, count) = (plan.sums_to[level], word.count_ones() as usize);
+    let (mut kept, mut rank) = ([0; SUMS], 0);
+    for column in columns_of(word) {
+        let shares = plan.shares()[column][1] & plan.mask(level);
+        let left = reduced(&kept[..sums], 1 << (32 + column) | shares as u64);
+        if left as u32 != 0 {
+            kept[left.trailing_zeros() as usize & 15] = left;
+            rank += 1;
+        }
+        // every target is met, in more than one way
+        if rank == sums && count > sums {
+            return TIED;
+        }
+    }
+    let left = reduced(&kept[..sums], missing as u64);
+    if left as u32 != 0 {
+        return CLASH;
+    }
+    if rank < count {
+        return TIED;
+    }
+    for column in columns_of(word) {
+        row[column] = (left >> (32 + column)) as u8 & 1;
+    }
+    FILLED
+}
+
+fn fill_nibbles(plan: &Plan, level: usize, row: &mut [u8], word: u32, missing: u32) -> usize {
+    let (sums, count) = (plan.sums_to[level], word.count_ones() as usize);
+    // power sums of different locations: with more marks than sums every target is met, in more than one way
     if count > sums {
         return TIED;
     }
@@ -118,8 +160,8 @@ fn fill_row(plan: &Plan, level: usize, row: &mut [u8], word: u32, missing: u32) 
         equation[count] = plan.unpacked(missing, sum);
     }
     match solve(plan.q, &mut system[..sums], count) {
-        Solved::Dependent => TIED,
         Solved::None => CLASH,
+        Solved::Many => TIED,
         Solved::One => {
             for (equation, column) in system.iter().zip(columns_of(word)) {
                 row[column] = equation[count];
@@ -185,6 +227,8 @@ impl Packed {
         let next = level + 1;
         let totals = plan.totals[next];
         let marked = marks[..plan.rows].iter().filter(|&&word| word != 0).count();
+        // any as many weight columns as there are totals are independent: more of them meet every target, in more than one
+        // way, and fewer meet one in one way at most
         if marked > totals {
             return BLOCKED;
         }
@@ -206,11 +250,9 @@ impl Packed {
                     }
                 }
             }
-            match solve(plan.q, &mut system[..totals], marked) {
-                Solved::Dependent => return BLOCKED,
-                Solved::None => return CLASH,
-                Solved::One => (),
-            }
+            let Solved::One = solve(plan.q, &mut system[..totals], marked) else {
+                return CLASH;
+            };
             let rows = (0..plan.rows).filter(|&row| marks[row] != 0);
             for (equation, row) in system.iter().zip(rows) {
                 learned[row] |= (equation[marked] as u32) << (plan.width() * sum);

@@ -82,7 +82,14 @@ fn sum(q: u8, check: &[u8], symbols: &[u8]) -> u8 {
 }
 
 /// Fills the marked places of a vector so that its sums under the checks are the target, where one filling alone does so.
-fn fill<const N: usize>(q: u8, checks: &[[u8; N]], target: &[u8], vector: &mut [u8], marks: u32) -> Solved {
+/// An equation has a cell for each place and one for what the target leaves: CELLS is N + 1.
+fn fill<const N: usize, const CELLS: usize>(
+    q: u8,
+    checks: &[[u8; N]],
+    target: &[u8],
+    vector: &mut [u8],
+    marks: u32,
+) -> Solved {
     if marks == 0 {
         return match checks.iter().zip(target).all(|(check, &wanted)| sum(q, check, vector) == wanted) {
             true => Solved::One,
@@ -90,10 +97,7 @@ fn fill<const N: usize>(q: u8, checks: &[[u8; N]], target: &[u8], vector: &mut [
         };
     }
     let unknowns = marks.count_ones() as usize;
-    if unknowns > checks.len() {
-        return Solved::Dependent;
-    }
-    let (mut places, mut shown) = ([0; SUMS], [0; COLUMNS]);
+    let (mut places, mut shown) = ([0; N], [0; N]);
     let (places, shown) = (&mut places[..unknowns], &mut shown[..vector.len()]);
     shown.copy_from_slice(vector);
     let mut rest = marks;
@@ -102,7 +106,7 @@ fn fill<const N: usize>(q: u8, checks: &[[u8; N]], target: &[u8], vector: &mut [
         shown[*place] = 0;
         rest &= rest - 1;
     }
-    let mut system = [[0; SUMS + 1]; SUMS];
+    let mut system = [[0; CELLS]; SUMS];
     let system = &mut system[..checks.len()];
     for (equation, (check, wanted)) in system.iter_mut().zip(checks.iter().zip(target)) {
         for (cell, &place) in equation.iter_mut().zip(places.iter()) {
@@ -125,10 +129,15 @@ impl Bench {
     fn row_step(&mut self, row: usize) -> usize {
         let (plan, word) = (self.plan, self.marks[row]);
         let sums = plan.sums_to[self.level];
+        // power sums of different locations: with more marks than sums every target is met, in more than one way
+        if plan.q == 16 && word.count_ones() as usize > sums {
+            return TIED;
+        }
         let symbols = &mut self.symbols[row * plan.columns..][..plan.columns];
-        match fill(plan.q, &plan.checks()[..sums], &self.sums[row][..sums], symbols, word) {
-            Solved::Dependent => TIED,
+        let (checks, target) = (&plan.checks()[..sums], &self.sums[row][..sums]);
+        match fill::<COLUMNS, { COLUMNS + 1 }>(plan.q, checks, target, symbols, word) {
             Solved::None => CLASH,
+            Solved::Many => TIED,
             Solved::One if word == 0 => WHOLE,
             Solved::One => {
                 self.marks[row] = 0;
@@ -144,7 +153,12 @@ impl Bench {
         }
         let next = self.level + 1;
         let weights = &plan.weights[next][..plan.totals[next]];
-        let lossy = (0..plan.rows).filter(|&row| self.marks[row] != 0).fold(0, |rows, row| rows | 1 << row);
+        let lossy = (0..plan.rows).filter(|&row| self.marks[row] != 0).fold(0u32, |rows, row| rows | 1 << row);
+        // any as many weight columns as there are totals are independent: more of them meet every target, in more than one
+        // way, and fewer meet one in one way at most
+        if lossy.count_ones() as usize > weights.len() {
+            return BLOCKED;
+        }
         let mut learned = self.sums;
         for check in plan.sums_to[self.level]..plan.sums_to[next] {
             let mut sums = [0; ROWS];
@@ -153,10 +167,9 @@ impl Bench {
                     sums[row] = sum(plan.q, &plan.checks()[check], symbols);
                 }
             }
-            match fill(plan.q, weights, &[0; TOTALS], &mut sums[..plan.rows], lossy) {
-                Solved::Dependent => return BLOCKED,
-                Solved::None => return CLASH,
+            match fill::<ROWS, { ROWS + 1 }>(plan.q, weights, &[0; TOTALS], &mut sums[..plan.rows], lossy) {
                 Solved::One => learned.iter_mut().zip(sums).for_each(|(row, sum)| row[check] = sum),
+                _ => return CLASH,
             }
         }
         self.sums = learned;

@@ -72,12 +72,12 @@ extern "C" {
 #define SHELF_YES 0              /* the codeword test */
 #define SHELF_STUCK 1            /* mending: some rows are left as they were, the others are restored */
 #define SHELF_NO 1               /* the codeword test */
-#define SHELF_CLASH 2            /* what is not marked contradicts itself; nothing was changed */
+#define SHELF_CLASH 2            /* what is not marked contradicts itself: some unmarked symbol is wrong; nothing was changed */
 #define SHELF_WHOLE 3            /* row step: the row has no marks, and its sums are the learned ones */
 #define SHELF_FILLED 4           /* row step: the row's marked symbols were found, its marks are clear */
-#define SHELF_TIED 5             /* row step: the row's marked symbols are not determined at this level */
+#define SHELF_TIED 5             /* row step: the row can be filled, but in more than one way at this level */
 #define SHELF_RAISED 6           /* level step: the next level's sums were learned */
-#define SHELF_BLOCKED 7          /* level step: the rows that have marks leave them undetermined */
+#define SHELF_BLOCKED 7          /* level step: too many rows have marks; there are such sums, but more than one choice of them */
 #define SHELF_TOP 8              /* level step: the bench is at the plan's last level */
 
 /* Refusals. The first that applies is returned, in the order 10, 11, 15, 12, 13, 14, 16 (but see the length of a bench below);
@@ -99,17 +99,22 @@ extern "C" {
 
 /* Mends a stripe: fills what the marks say is lost, as far as the plan can, and clears the marks of each row that was restored.
  *     0 Restored   every row is whole, all marks are clear
- *     1 Stuck      some rows are left, with their marks and bytes as they were; the others are restored
- *     2 Clash      stripe and marks are as they were
+ *     1 Stuck      some rows are left, with their marks and bytes as they were; the others are restored. Each row that is left can
+ *                  be filled in more than one way at the level reached: bring a module back, clear its marks, mend again
+ *     2 Clash      stripe and marks are as they were. Some unmarked symbol is wrong, and no module that comes back helps before it
+ *                  is found: mark it, mend again. A row of any number of marks is a Clash where nothing fills it
  *     10, 11, 12, 13   refused: the report is as it was too
- * Restored does not say that the unmarked symbols were right, nor Stuck that they agree with a codeword.
+ * Restored does not say that the unmarked symbols were right, nor Stuck that they agree with a codeword: what is wrong may show
+ * only once more is known.
  *
  * The report, 8 bytes:
  *     0     level reached          5  place of a Clash: 0 none, 1 in a row, 2 across rows
  *     1     rows left              6  row of a Clash in a row
  *     2..4  rows restored at       7  level of a Clash
  *           levels 1, 2 and 3
- * After Restored and Stuck bytes 5 to 7 are 0; after a Clash bytes 0 to 4 are, and byte 6 of a Clash across rows. */
+ * After Restored and Stuck bytes 5 to 7 are 0; after a Clash bytes 0 to 4 are, and byte 6 of a Clash across rows.
+ * The wrong symbol of a Clash in a row at level 1 stands in that row. At a higher level the row's sums were learned from the other
+ * rows, so it may stand in any of these too. */
 size_t shelf_mend(size_t plan, uint8_t *stripe, size_t stripe_length, uint32_t *marks, size_t marks_length,
                   uint8_t *report, size_t report_length);
 
@@ -153,10 +158,22 @@ size_t shelf_extract(size_t plan, const uint8_t *stripe, size_t stripe_length, u
 size_t shelf_start(size_t plan, const uint8_t *stripe, size_t stripe_length, const uint32_t *marks, size_t marks_length,
                    uint8_t *bench, size_t bench_length);
 
-/* The row step: 3 Whole, 4 Filled, 5 Tied, 2 Clash; or refused by 11, 10, 15, 12, 13 or 14. Only Filled changes the bench. */
+/* The row step. Only Filled changes the bench.
+ *     3 Whole    the row has no marks, and its sums are the learned ones
+ *     4 Filled   one filling alone gives the learned sums: it is in place, the marks are clear
+ *     5 Tied     several fillings give them. Go on with the other rows and the level step; the row's turn comes again at the next
+ *                level, or once some of its symbols are put in and their marks cleared
+ *     2 Clash    no filling gives them, whatever the number of marks. Stop: some unmarked symbol is wrong
+ *     11, 10, 15, 12, 13, 14   refused */
 size_t shelf_row_step(uint8_t *bench, size_t bench_length, size_t row);
 
-/* The level step: 6 Raised, 7 Blocked, 8 Top, 2 Clash; or refused by 11, 10, 15, 12 or 13. Only Raised changes the bench. */
+/* The level step. Only Raised changes the bench.
+ *     6 Raised    the sums of the next level are learned: step on all rows again
+ *     7 Blocked   sums that make all totals of the next level zero there are, but more than one choice of them: too many rows have
+ *                 marks. Stop until one of these rows has its symbols back. Where the totals fail the answer is never Blocked
+ *     8 Top       there is no further level. Rows that still have marks are stuck
+ *     2 Clash     no sums make them zero. Stop: some unmarked symbol is wrong, in any row
+ *     11, 10, 15, 12, 13   refused */
 size_t shelf_level_step(uint8_t *bench, size_t bench_length);
 
 /* ---- stripe files ---- */

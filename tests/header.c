@@ -78,7 +78,14 @@ static void answers(void) {
     marks[0] = marks[1] = 1;
     hold("a bench again", shelf_start(1, stripe, n, marks, r, bench, SHELF_BENCH), SHELF_DONE);
     hold("a row with one mark", shelf_row_step(bench, SHELF_BENCH, 0), SHELF_FILLED);
-    marks[0] = marks[1] = 0;
+    marks[0] = 0;
+    marks[1] = 0x4b;
+    stripe[9] = 1;
+    hold("a tied row that nothing fills", shelf_mend(1, stripe, n, marks, r, report, SHELF_REPORT), SHELF_CLASH);
+    hold("its row", report[6], 1);
+    hold("its level", report[7], 2);
+    marks[1] = 0;
+    stripe[9] = 0;
     stripe[0] = 1;
     hold("one wrong symbol", shelf_mend(1, stripe, n, marks, r, report, SHELF_REPORT), SHELF_CLASH);
     hold("no codeword", shelf_is_codeword(1, stripe, n), SHELF_NO);

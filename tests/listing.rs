@@ -46,14 +46,16 @@ fn has_sums(row: u8, level: usize, learned: (u8, u8)) -> bool {
     parity(row) == learned.0 && (level < 2 || locations(row) == learned.1)
 }
 
+/// Whether the marked columns are dependent: some of them add up to nothing.
+pub fn dependent(marks: u8, level: usize) -> bool {
+    (1..ROW_VALUES).any(|columns| columns & !marks == 0 && has_sums(columns, level, (0, 0)))
+}
+
 pub fn row_step(row: u8, marks: u8, level: usize, learned: (u8, u8)) -> Step {
-    let dependent = (1..ROW_VALUES).any(|columns| columns & !marks == 0 && has_sums(columns, level, (0, 0)));
-    if dependent {
-        return Step::Tied;
-    }
     let mut fillings = (0..ROW_VALUES).filter(|filling| (filling ^ row) & !marks == 0);
     match fillings.find(|&filling| has_sums(filling, level, learned)) {
         None => Step::Clash,
+        Some(_) if dependent(marks, level) => Step::Tied,
         Some(_) if marks == 0 => Step::Whole,
         Some(filling) => Step::Filled(filling),
     }
@@ -63,13 +65,13 @@ pub fn row_step(row: u8, marks: u8, level: usize, learned: (u8, u8)) -> Step {
 pub fn level_step(rows: [u8; ROWS], marks: [u8; ROWS]) -> Learned {
     let all_coefficients = (1..8u8).map(|n| [n & 1, n >> 1 & 1, n >> 2 & 1]);
     let on_marked_rows = |coefficients: &[u8; ROWS]| (0..ROWS).all(|row| marks[row] != 0 || coefficients[row] == 0);
-    if all_coefficients.filter(on_marked_rows).any(|coefficients| coefficients.iter().fold(0, |sum, c| sum ^ c) == 0) {
-        return Learned::Blocked;
-    }
+    let vanishes = |coefficients: [u8; ROWS]| coefficients.iter().fold(0, |sum, c| sum ^ c) == 0;
+    let dependent = all_coefficients.filter(on_marked_rows).any(vanishes);
     let all_sums = (0..512u16).map(|n| [(n & 7) as u8, (n >> 3 & 7) as u8, (n >> 6 & 7) as u8]);
     let own = |sums: &[u8; ROWS]| (0..ROWS).all(|row| marks[row] != 0 || sums[row] == locations(rows[row]));
     match all_sums.filter(own).find(|sums| sums[0] ^ sums[1] ^ sums[2] == 0) {
         None => Learned::Clash,
+        Some(_) if dependent => Learned::Blocked,
         Some(sums) => Learned::Raised(sums),
     }
 }

@@ -19,6 +19,7 @@ mod stack;
 mod steps;
 mod streams;
 mod throughout;
+mod tied;
 
 use ledger::Ledger;
 
@@ -44,6 +45,9 @@ fn every_group(program: Option<&str>) {
     ledger.group("fewer losses never hurt", fewer::calls);
     ledger.group("steps on fit benches", steps::fit_benches);
     ledger.group("steps on any bytes", steps::any_bytes);
+    ledger.group("tied rows that contradict themselves", tied::contradictions);
+    ledger.group("plan 3: more marks than sums", tied::power_sums);
+    ledger.group("levels whose totals fail", tied::failing_levels);
     ledger.group("orders of steps", orders::calls);
     ledger.group("files and their text", files::calls);
     ledger.group("any bytes as a file", files::any_bytes);

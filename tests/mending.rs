@@ -41,7 +41,7 @@ pub fn calls(ledger: &mut Ledger) {
 
 /// Restored at the last level, Stuck at each, Clash in a row at each, and Clash across rows at each from 2 on. Two of these
 /// can't be: in plan 2, levels 2 and 3 have one total each, so that the step to level 3 is never Blocked; and in plan 3 a
-/// row that is tied at level 1 and not at level 2 has three marks for three checks, so that it always has a filling.
+/// row that is tied at level 1 has three marks or more, for three checks at level 2, so that it always has a filling there.
 fn every_end(plan: &Plan) -> Ends {
     let last = plan.last() as u8;
     let stuck = (1..=last).map(|level| (STUCK, level, 0));

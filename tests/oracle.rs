@@ -9,7 +9,7 @@
 //! - the codeword test, encoding and `stripe::agreeing` take all checks of the stripe at once, as the paper's
 //!   matrix H has them;
 //! - mending takes the checks of all rows up to a level as one system, a level at a time;
-//! - the steps of the bench ask the rank of one row's checks, or of one level's weights.
+//! - the steps of the bench ask whether one row's sums, or one level's totals, can be met, and whether in one way alone.
 //!
 //! The interleaved form of plan 3 alone divides polynomials.
 //!

@@ -1,10 +1,14 @@
-//! Holds the independent decoder itself to account: against the bench sheet, the example file, a listing of plan 1,
-//! the plans' parameters, and what the requirements say of every answer. The library has no part in it.
+//! Holds the independent decoder itself to account: against the bench sheet, the example file, a listing of plan 1, listings
+//! of rows and levels of every plan, the plans' parameters, and what the requirements say of every answer. The library has no
+//! part in it.
 
+mod fillings;
 mod listing;
 
+use fillings::Fillings;
 use listing::{End, Learned, Step};
 use outside::chance::Chance;
+use outside::contradiction;
 use outside::damage::{self, Content, Marks, CONTENTS, MARKS};
 use outside::oracle::answers::*;
 use outside::oracle::binary::Span;
@@ -45,6 +49,9 @@ fn main() {
     tally.group("plan 1 by listing, level steps", listed_level_steps);
     tally.group("plan 1 by listing, mending", listed_mending);
     tally.group("plan 1 by listing, codewords", listed_codewords);
+    tally.group("every plan by listing, fillings of a row", listed_rows);
+    tally.group("every plan by listing, tied rows that contradict themselves", listed_contradictions);
+    tally.group("every plan by listing, sums of lost rows", listed_levels);
     tally.group("encoding and extraction", round_trips);
     tally.group("rounds of steps and mending in one call", rounds);
     tally.group("what each answer says of the codewords", meaning_of_answers);
@@ -138,7 +145,10 @@ fn packed(symbols: &[u8]) -> [u8; 3] {
     [0, 1, 2].map(|row| (0..7).map(|column| symbols[7 * row + column] << column).sum())
 }
 
+/// Where the columns are dependent and nothing fills, the step is Clash; in plan 1 that is so of the seven sets of four columns
+/// whose locations add up to zero, at level 2, with half of all sums.
 fn listed_row_steps(tally: &mut Tally) {
+    let mut contradictions = 0;
     let sums = (0..16u8).map(|n| (n & 1, n >> 1));
     let learned = [1, 2].map(|level| (level, sums.clone().filter(move |&(_, s)| level == 2 || s == 0)));
     for (level, (parity, locations)) in learned.into_iter().flat_map(|(level, all)| all.map(move |sums| (level, sums))) {
@@ -150,7 +160,10 @@ fn listed_row_steps(tally: &mut Tally) {
             let mut expected = bench.clone();
             let number = match listing::row_step(row, marks, level, (parity, locations)) {
                 Step::Tied => TIED,
-                Step::Clash => CLASH,
+                Step::Clash => {
+                    contradictions += listing::dependent(marks, level) as usize;
+                    CLASH
+                }
                 Step::Whole => WHOLE,
                 Step::Filled(filling) => {
                     expected[2..23].copy_from_slice(&symbols([0, filling, 0]));
@@ -164,6 +177,7 @@ fn listed_row_steps(tally: &mut Tally) {
             });
         }
     }
+    tally.check(contradictions == 7 * 128 * 16 / 2, || format!("{contradictions} tied rows contradict themselves"));
 }
 
 fn listed_level_steps(tally: &mut Tally) {
@@ -261,6 +275,118 @@ fn listed_codewords(tally: &mut Tally) {
             }
         }
     }
+}
+
+/// A bench at a level with a row, its marks and its learned sums; the other rows are zero.
+fn bench_with(plan: &Plan, level: usize, at: usize, row: &[u8], word: u32, sums: &[u8]) -> Vec<u8> {
+    let (mut stripe, mut marks) = (vec![0; plan.symbols()], vec![0; plan.rows]);
+    stripe[at * plan.columns..][..plan.columns].copy_from_slice(row);
+    marks[at] = word;
+    let mut bench = vec![0; BENCH_LENGTH];
+    oracle::start(plan.number, &stripe, &marks, &mut bench);
+    bench[1] = level as u8;
+    bench[290 + 16 * at..][..sums.len()].copy_from_slice(sums);
+    bench
+}
+
+/// Holds a row step to the listed fillings.
+fn listed_row(tally: &mut Tally, plan: &Plan, level: usize, row: &[u8], word: u32, sums: &[u8], at: usize) -> Fillings {
+    let listed = fillings::of_row(plan, level, row, word, sums);
+    let number = match listed {
+        Fillings::None => CLASH,
+        Fillings::More => TIED,
+        Fillings::One if word == 0 => WHOLE,
+        Fillings::One => FILLED,
+    };
+    let before = bench_with(plan, level, at, row, word, sums);
+    let mut bench = before.clone();
+    let answer = oracle::row_step(&mut bench, at);
+    let same = answer == number && (answer == FILLED || bench == before);
+    tally.check(same, || format!("plan {}, level {level}, {row:?}, {word:b}, {sums:?}: {answer}, {listed:?}", plan.number));
+    listed
+}
+
+fn listed_rows(tally: &mut Tally) {
+    let mut chance = Chance::seeded(19);
+    for (plan, level) in Plan::all().flat_map(|plan| (1..=plan.last()).map(move |level| (plan, level))) {
+        for _ in 0..1500 {
+            let row = chance.bytes_below(plan.q(), plan.columns);
+            let count = chance.below(12 / plan.width + 1).min(plan.columns);
+            let word = damage::columns(count, plan, &mut chance);
+            let mut sums = damage::row_sums(plan, &row)[..plan.sums_to(level)].to_vec();
+            if chance.one_in(2) {
+                sums = chance.bytes_below(plan.q(), sums.len());
+            }
+            let at = chance.below(plan.rows);
+            listed_row(tally, plan, level, &row, word, &sums, at);
+        }
+    }
+}
+
+/// A row that is tied, and the same with an unmarked symbol changed so that nothing fills; with more marks than sums too.
+fn listed_contradictions(tally: &mut Tally) {
+    let mut chance = Chance::seeded(20);
+    for (number, level, most) in [(1, 2, 7), (2, 1, 12), (2, 2, 13), (2, 3, 17)] {
+        let plan = Plan::numbered(number).expect("a plan");
+        let mut counts = [0; 33];
+        for _ in 0..600 {
+            let Some((word, column)) = contradiction::tied(plan, level, &mut chance) else { continue };
+            let count = word.count_ones() as usize;
+            if count > most || count > 12 && counts[count] == 20 {
+                continue;
+            }
+            counts[count] += 1;
+            let mut row = chance.bytes_below(2, plan.columns);
+            let sums = damage::row_sums(plan, &row)[..plan.sums_to(level)].to_vec();
+            let at = chance.below(plan.rows);
+            let of_true = listed_row(tally, plan, level, &row, word, &sums, at);
+            row[column] ^= 1;
+            let of_wrong = listed_row(tally, plan, level, &row, word, &sums, at);
+            tally.check((of_true, of_wrong) == (Fillings::More, Fillings::None), || {
+                format!("plan {number}, level {level}: {word:b}, {column}: {of_true:?}, {of_wrong:?}")
+            });
+        }
+        let enough = counts.iter().enumerate().any(|(count, &times)| times > 0 && count > plan.sums_to(level));
+        tally.check(enough == (number == 2), || format!("plan {number}, level {level}: {counts:?}"));
+    }
+}
+
+/// Every set of few rows lost, with every kind of stripe.
+fn listed_levels(tally: &mut Tally) {
+    let mut chance = Chance::seeded(21);
+    for (plan, next) in Plan::all().flat_map(|plan| (2..=plan.last()).map(move |level| (plan, level))) {
+        for set in (0..1usize << plan.rows).filter(|set| set.count_ones() as usize * plan.width <= 12) {
+            for content in CONTENTS {
+                let stripe = damage::stripe(plan, content, &mut chance);
+                listed_level(tally, plan, next, &stripe, set);
+            }
+        }
+    }
+}
+
+/// Holds the step to a level to the listed sums of the lost rows, check by check.
+fn listed_level(tally: &mut Tally, plan: &Plan, next: usize, stripe: &[u8], set: usize) {
+    let lost: Vec<usize> = (0..plan.rows).filter(|row| set >> row & 1 == 1).collect();
+    let marks: Vec<u32> = (0..plan.rows).map(|row| (set >> row & 1) as u32).collect();
+    let mut bench = vec![0; BENCH_LENGTH];
+    oracle::start(plan.number, stripe, &marks, &mut bench);
+    bench[1] = next as u8 - 1;
+    let before = bench.clone();
+    let answer = oracle::level_step(&mut bench);
+    let rows: Vec<Vec<u8>> = stripe.chunks(plan.columns).map(|row| damage::row_sums(plan, row)).collect();
+    let across = |check: usize| rows.iter().map(|sums| sums[check]).collect::<Vec<u8>>();
+    let checks = plan.sums_to(next - 1)..plan.sums_to(next);
+    let listed: Vec<Fillings> = checks.map(|check| fillings::of_level(plan, next, &across(check), &lost)).collect();
+    let number = match () {
+        _ if listed.contains(&Fillings::None) => CLASH,
+        _ if listed.contains(&Fillings::More) => BLOCKED,
+        _ => RAISED,
+    };
+    let what = || format!("plan {}, to level {next}, {stripe:?}, lost {lost:?}: {answer}, {listed:?}", plan.number);
+    tally.check(answer == number && (answer == RAISED || bench == before), what);
+    // where the weights are dependent every check has sums
+    let dependent = lost.len() > plan.levels[next - 1].weights.len();
+    tally.check(listed.iter().all(|&of_check| (of_check == Fillings::More) == dependent), what);
 }
 
 fn round_trips(tally: &mut Tally) {

@@ -83,7 +83,7 @@ pub fn cases() -> Vec<Case> {
         ),
         case("plan 1, row 1 marked at 2, 4, 5, 6", 1, &[], &[(1, vec![2, 4, 5, 6])], restored(None, &[0, 1])),
         case("plan 1, row 1 marked at 0, 1, 3, 6", 1, &[], &[(1, vec![0, 1, 3, 6])], stuck(2, 1)),
-        case("plan 1, the same with column 2 set", 1, &[(1, 2)], &[(1, vec![0, 1, 3, 6])], stuck(2, 1)),
+        case("plan 1, the same with column 2 set", 1, &[(1, 2)], &[(1, vec![0, 1, 3, 6])], clash(1, 1, 2)),
         case("plan 1, rows 0 and 1 with two marks each", 1, &[], &[(0, first(2)), (1, first(2))], stuck(1, 2)),
         case("plan 1, everything marked", 1, &[], &[(0, first(7)), (1, first(7)), (2, first(7))], stuck(1, 3)),
         case("plan 1, row 0 is 1000000", 1, &[(0, 0)], &[], clash(1, 0, 1)),

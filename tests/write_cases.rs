@@ -3,6 +3,7 @@
 //!     write_cases FOLDER
 
 use outside::chance::Chance;
+use outside::contradiction;
 use outside::damage::{self, Content, Marks};
 use outside::oracle::text::printed;
 use outside::oracle::{self, Plan};
@@ -24,13 +25,26 @@ fn main() -> std::io::Result<()> {
     let folder = std::env::args().nth(1).expect("a folder");
     let mut chance = Chance::seeded(131);
     let kinds = KINDS.iter().flat_map(|&kind| Plan::all().map(move |plan| (plan, kind)));
-    for (n, (plan, (content, kind))) in kinds.enumerate() {
-        let stripe = damage::stripe(plan, content, &mut chance);
-        let marks = damage::marks(plan, kind, &mut chance);
+    let mut cases: Vec<(&Plan, Vec<u8>, Vec<u32>)> = kinds
+        .map(|(plan, (content, kind))| {
+            (plan, damage::stripe(plan, content, &mut chance), damage::marks(plan, kind, &mut chance))
+        })
+        .collect();
+    cases.extend(Plan::all().filter_map(|plan| contradiction(plan, &mut chance)));
+    for (n, (plan, stripe, marks)) in cases.iter().enumerate() {
         let mut file = vec![0; plan.file_length()];
-        oracle::write_file(plan.number, &stripe, &marks, &mut file);
+        oracle::write_file(plan.number, stripe, marks, &mut file);
         std::fs::write(Path::new(&folder).join(format!("{n}.file")), &file)?;
         std::fs::write(Path::new(&folder).join(format!("{n}.text")), printed(&file))?;
     }
     Ok(())
+}
+
+/// A codeword of a binary plan in which a row is tied at the last level and, a symbol being changed, contradicts itself.
+fn contradiction<'a>(plan: &'a Plan, chance: &mut Chance) -> Option<(&'a Plan, Vec<u8>, Vec<u32>)> {
+    let (word, column) = (plan.width == 1).then(|| contradiction::tied(plan, plan.last(), chance))??;
+    let mut stripe = damage::codeword(plan, chance);
+    stripe[column] ^= 1;
+    let marks = (0..plan.rows).map(|row| if row == 0 { word } else { 0 }).collect();
+    Some((plan, stripe, marks))
 }

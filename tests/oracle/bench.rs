@@ -1,5 +1,6 @@
 //! The bench and its steps, on the 418 bytes that hold it.
-//! A step asks for the rank of one row's checks, or of one level's weights, as vectors of bits.
+//! A step asks whether what is missing of one row's sums, or of one level's totals, is a sum of what the unknown bits add to
+//! them, and whether of one choice of them alone.
 
 use super::answers::*;
 use super::binary::{Bits, Span};
@@ -106,11 +107,11 @@ pub fn row_step(bench: &mut [u8], row: usize) -> usize {
     let unknown = plan.bits_of(|at, column| at == row && marked(word, column));
     let checks = plan.up_to(level);
     let columns = Span::of(unknown.iter().map(|&(row, column, bit)| plan.row_share(row, column, bit).within(checks)));
+    let missing = known_sums(plan, &symbols, row, word).within(checks).plus(learned(bench, plan, level, row));
+    let Some(ones) = columns.reach(missing) else { return CLASH };
     if !columns.independent() {
         return TIED;
     }
-    let missing = known_sums(plan, &symbols, row, word).within(checks).plus(learned(bench, plan, level, row));
-    let Some(ones) = columns.reach(missing) else { return CLASH };
     if word == 0 {
         return WHOLE;
     }
@@ -136,14 +137,14 @@ pub fn level_step(bench: &mut [u8]) -> usize {
     let bits = sum_bits(plan, next);
     let (unknown, known): (Vec<_>, Vec<_>) = bits.into_iter().partition(|&(row, _, _)| marks[row] != 0);
     let weights = Span::of(unknown.iter().map(|&(row, sum, bit)| plan.total_share(next, row, sum, bit)));
-    if !weights.independent() {
-        return BLOCKED;
-    }
     let own: Vec<Bits> = (0..plan.rows).map(|row| known_sums(plan, &symbols, row, 0)).collect();
     let is_set = |row: usize, sum: usize, bit: usize| own[row].has(plan.sum_at(row, first + sum) + bit);
     let ones = known.iter().filter(|&&(row, sum, bit)| is_set(row, sum, bit));
     let total = ones.fold(Bits::default(), |all, &(row, sum, bit)| all.plus(plan.total_share(next, row, sum, bit)));
     let Some(found) = weights.reach(total) else { return CLASH };
+    if !weights.independent() {
+        return BLOCKED;
+    }
     let at = |row: usize, sum: usize| SUMS + SUMS_OF_A_ROW * row + first + sum;
     unknown.iter().chain(&known).for_each(|&(row, sum, _)| bench[at(row, sum)] = 0);
     for &(row, sum, bit) in &known {

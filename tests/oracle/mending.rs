@@ -75,7 +75,7 @@ impl Work<'_> {
     }
 
     /// Fills every row whose marked columns are independent at this level, and says how many had marks;
-    /// or names the first row that has no filling.
+    /// or names the first row that has no filling, be it tied or not.
     fn fill_rows(&mut self) -> Result<u8, usize> {
         let plan = self.plan;
         let unknown = plan.bits_of(|row, column| marked(self.marks[row], column));
@@ -88,7 +88,7 @@ impl Work<'_> {
         let missing = self.known_sums().within(checks).plus(self.sums);
         let block = |row| Bits::range(plan.sum_at(row, 0), plan.sum_at(row + 1, 0));
         let mut ones = Bits::default();
-        for row in (0..plan.rows).filter(|&row| !tied[row]) {
+        for row in 0..plan.rows {
             ones = ones.plus(system.reach(missing.within(block(row))).ok_or(row)?);
         }
         for (n, &(row, column, bit)) in unknown.iter().enumerate().filter(|(_, place)| !tied[place.0]) {
@@ -111,21 +111,21 @@ impl Work<'_> {
         let bits = sum_bits(plan, next);
         let unknown: Vec<_> = bits.iter().filter(|&&(row, _, _)| self.marks[row] != 0).collect();
         let system = Span::of(unknown.iter().map(|&&(row, sum, bit)| plan.total_share(next, row, sum, bit)));
-        if !system.independent() {
-            return BLOCKED;
-        }
         let known = self.known_sums();
-        let mut total = Bits::default();
+        let (mut total, mut sums) = (Bits::default(), self.sums);
         let own = bits.iter().filter(|&&(row, sum, bit)| self.marks[row] == 0 && known.has(at(row, sum) + bit));
         for &(row, sum, bit) in own {
             total = total.plus(plan.total_share(next, row, sum, bit));
-            self.sums = self.sums.plus(Bits::single(at(row, sum) + bit));
+            sums = sums.plus(Bits::single(at(row, sum) + bit));
         }
         let Some(ones) = system.reach(total) else { return CLASH };
-        for (_, &&(row, sum, bit)) in unknown.iter().enumerate().filter(|&(n, _)| ones.has(n)) {
-            self.sums = self.sums.plus(Bits::single(at(row, sum) + bit));
+        if !system.independent() {
+            return BLOCKED;
         }
-        self.level = next;
+        for (_, &&(row, sum, bit)) in unknown.iter().enumerate().filter(|&(n, _)| ones.has(n)) {
+            sums = sums.plus(Bits::single(at(row, sum) + bit));
+        }
+        (self.sums, self.level) = (sums, next);
         RAISED
     }
 }

@@ -12,7 +12,7 @@ use lib.Seq.{sets, length-sets}
 use Rattle.field.specs.Lists.{if_then_else_, upFrom}
 use Rattle.field.proofs.Sum.{bit}
 use Rattle.linear.specs.Lists.{only, beside}
-use Rattle.systems.specs.Words.{bitAt}
+use Rattle.basis.specs.Words.{bitAt}
 use Rattle.linear.specs.Marks.{bitsOf}
 use Rattle.linear.proofs.Marked.{length-bits}
 use Rattle.linear.proofs.Beside.{first-drop}

@@ -20,12 +20,12 @@ use Rattle.linear.specs.Lists.{all, only, vanish, first, rest, beside}
 use Rattle.linear.specs.Marks.{bitsOf}
 use Rattle.linear.proofs.Choices.{Alike, Inside, getD-first, getD-rest, alike-at}
 use Rattle.linear.proofs.Filling.{Independent, independent-of}
+use Rattle.linear.proofs.Weights.{marked, bits-step, marked-bits, agrees-weight, weightless-vanish}
 use Rattle.plans.specs.Plan.{Plan, planOf, rowAt, marksAt, marksOf}
 use Rattle.plans.specs.Refusal.{allBelow, unmarkedBelow}
 use Rattle.plans.proofs.Flat.{flat-length}
 use Rattle.plans.proofs.Rows.{marks-length}
 use Rattle.demands.specs.Words.{Agree}
-use Rattle.demands.proofs.Marked.{marked, bits-step, marked-bits, agrees-weight, weightless-vanish}
 
 -- ---- vectors
 

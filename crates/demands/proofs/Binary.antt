@@ -6,7 +6,7 @@ use native.Mathlib.Nat.{div-one, zero-div, le-trans}
 use native.Mathlib.Numerals.{one-add}
 use native.Mathlib.Omega.{arith}
 use lib.Arith.{bin-ind, lt-one}
-use lib.Dec.{T, eqb, eqb→eq}
+use lib.Dec.{T}
 use lib.ListN.{length}
 use lib.Pow.{shr-shr}
 use Rattle.field.specs.Lists.{upFrom}
@@ -19,21 +19,14 @@ use Rattle.field.proofs.Words.{EachBelow}
 use Rattle.field.proofs.Powers.{power-lt, square-sum}
 use Rattle.linear.specs.Lists.{vanish}
 use Rattle.linear.specs.Fill.{sumsOf}
-use Rattle.linear.proofs.Tests.{In, all-in}
+use Rattle.linear.proofs.Vectors.{sum-zero}
+use Rattle.linear.proofs.Weights.{half-lt}
 use Rattle.plans.specs.Plan.{allOnes, bitChecks}
 use Rattle.demands.proofs.Lists.{in-below, in-flat}
-use Rattle.demands.proofs.Marked.{half-lt}
 
 -- parity, and the bits of the power sums 1, 3, … 2 j - 1
 abbrev pub binaryChecks : Field → List ℕ → ℕ → List (List ℕ)
 binaryChecks L xs j = allOnes (length xs) ∷ flatMap (λ i. bitChecks (L .width) (map (λ x. power L x (suc (i + i))) xs)) (upFrom 0 j)
-
--- ---- sums that vanish
-
--- each sum of a vector whose sums vanish is 0
-pub sum-zero : (F : Field) (checks : List (List ℕ)) (w c : List ℕ) → T (vanish (sumsOf F checks w)) → In c checks → dot F c w ≡ 0
-unfolding sumsOf vanish
-sum-zero F checks w c t m = eqb→eq (dot F c w) 0 (all-in (λ x. eqb x 0) (sumsOf F checks w) t (Memᴰ·map (λ c. dot F c w) m))
 
 -- ---- bits
 

@@ -19,8 +19,9 @@ use Rattle.linear.specs.Lists.{zeros, vanish}
 use Rattle.linear.specs.Fill.{sumsOf}
 use Rattle.linear.proofs.Tests.{In, either, all-append, zeros-vanish}
 use Rattle.linear.proofs.Choices.{areSymbols, agrees-alike, agrees-length, alike-at}
-use Rattle.linear.proofs.Vectors.{sums-append}
+use Rattle.linear.proofs.Vectors.{sums-append, sums-count}
 use Rattle.linear.proofs.Filling.{Filling}
+use Rattle.linear.proofs.Spread.{zeros-symbols}
 use Rattle.plans.specs.Plan.{Plan, Level, planOf, levelOf, checksTo, marksAt}
 use Rattle.plans.specs.Refusal.{allBelow}
 use Rattle.steps.proofs.Levels.{checks-suc}
@@ -28,8 +29,7 @@ use Rattle.steps.proofs.Sound.{agrees-below}
 use Rattle.plans.proofs.Flat.{all-getD}
 use Rattle.plans.proofs.Refusals.{unmarked-below}
 use Rattle.demands.proofs.Lists.{map-in, all-map, append-same}
-use Rattle.demands.proofs.Codewords.{sums-count}
-use Rattle.demands.proofs.Square.{Square, zeros-symbols, zeros-length}
+use Rattle.demands.proofs.Square.{Square, zeros-length}
 use Rattle.demands.proofs.Systems.{mendLevel, pending, row-square, level-square, mend-level-bounds}
 
 -- what is there for each number that passes a test, as a function

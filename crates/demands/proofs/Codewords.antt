@@ -6,7 +6,7 @@ use native.Mathlib.Nat.{suc-inj}
 use native.Mathlib.Numerals.{one-add}
 use native.Mathlib.Omega.{arith}
 use lib.Dec.{T, eqb, ltb, lt→ltb, eqb→eq}
-use lib.ListN.{length, drop, getD, length-map, length-drop}
+use lib.ListN.{length, drop, getD, length-drop}
 use lib.Seq.{getD-drop}
 use Rattle.field.specs.Field.{Field, size, dot}
 use Rattle.field.proofs.Test.{both-left, both-right, both}
@@ -44,10 +44,6 @@ vanish-same (x ∷ a) (y ∷ b) l s t =
 -- ---- sums of rows
 
 module _ (F : Field) where
-  pub sums-count : (cs : List (List ℕ)) (v : List ℕ) → length (sumsOf F cs v) ≡ length cs
-  unfolding sumsOf
-  sums-count cs v = length-map cs (λ c. dot F c v)
-
   pub sums-below : IsField F → (cs : List (List ℕ)) (v : List ℕ) → T (allBelow (size F) (sumsOf F cs v))
   unfolding sumsOf allBelow all
   sums-below K [] v = tt

@@ -17,13 +17,13 @@ use Rattle.linear.specs.Lists.{only}
 use Rattle.linear.specs.Marks.{bitsOf}
 use Rattle.linear.proofs.Tests.{either}
 use Rattle.linear.proofs.Choices.{Inside}
+use Rattle.linear.proofs.Weights.{marked, marked-bits}
 use Rattle.plans.specs.Plan.{Plan, plan1, plan2, plan3, noPlan, planOf, marksAt}
 use Rattle.steps.specs.Steps.{lossy}
 use Rattle.steps.proofs.Fit.{lent-fit}
 use Rattle.plans.proofs.Rows.{marks-length}
 use Rattle.demands.specs.Words.{rowsWith, counts, Within, MeetsCounts, total, distance}
 use Rattle.demands.specs.Second.{CountsSuffice, DistanceSuffices}
-use Rattle.demands.proofs.Marked.{marked, marked-bits}
 use Rattle.demands.proofs.Few.{count, few-independent, weights-independent}
 use Rattle.demands.proofs.Held.{rowTied, levelTied, LevelFree}
 use Rattle.demands.proofs.Left.{lossy-none}

@@ -18,6 +18,9 @@ use Rattle.linear.specs.Marks.{bitsOf}
 use Rattle.linear.specs.Fill.{sumsOf}
 use Rattle.linear.proofs.Tests.{in-all, zeros-vanish}
 use Rattle.linear.proofs.Choices.{agrees-alike}
+use Rattle.linear.proofs.Weights.{marked, marked-bits}
+use Rattle.linear.proofs.Picked.{dot-vanish, sums-vanish}
+use Rattle.linear.proofs.Spread.{symbols-fit}
 use Rattle.plans.specs.Plan.{Plan, Level, known, planOf, levelOf, rowAt, marksAt, across}
 use Rattle.plans.specs.Refusal.{allBelow}
 use Rattle.codewords.specs.Codeword.{rowsHold, totalsHold, isCodeword}
@@ -28,11 +31,10 @@ use Rattle.plans.proofs.Refusals.{unmarked-below}
 use Rattle.demands.specs.Words.{Codeword, Agree, Fit, total, distance}
 use Rattle.demands.specs.Parameters.{Distance}
 use Rattle.demands.proofs.Lists.{all-map}
-use Rattle.demands.proofs.Marked.{marked, marked-bits, wordWith, word-lt, word-bits, support, support-length, support-marked, support-agrees}
+use Rattle.demands.proofs.Marked.{wordWith, word-lt, word-bits, support, support-length, support-marked, support-agrees}
 use Rattle.demands.proofs.Alike.{rows-agree}
 use Rattle.demands.proofs.Codewords.{vanish-same, word-row, word-below}
-use Rattle.demands.proofs.Matrix.{dot-vanish, sums-vanish}
-use Rattle.demands.proofs.Square.{symbols-fit, zeros-length}
+use Rattle.demands.proofs.Square.{zeros-length}
 use Rattle.demands.proofs.Counts.{distance-suffices}
 use Rattle.demands.proofs.Parameters.{known-by-distance}
 

@@ -11,11 +11,11 @@ use Rattle.field.specs.Field.{_⊕_, size, double, times, mul, dot, gf2, gf16}
 use Rattle.field.proofs.Test.{both-right}
 use Rattle.linear.specs.Lists.{any, all, only, same, zeros, vanish, first, rest, beside}
 use Rattle.linear.specs.Marks.{bitsOf}
-use Rattle.linear.specs.Fill.{sumsOf, options, before, choices, loose, dependent, fillings, fillBy, fill, oneOfEach}
+use Rattle.linear.specs.Fill.{sumsOf, options, before, choices, loose, dependent, fillings, fillBy, fill, oneOfEach, isNone, vectorIn}
 use Rattle.linear.proofs.Choices.{alike-at}
 use Rattle.plans.specs.Plan.{allOnes, bitChecks, wordOf, locations1, plan1, plan3, known, planOf, noLevel, levelOf, checksTo, rowAt, marksAt, marksOf, across}
 use Rattle.plans.specs.Refusal.{firstFailed, unasked, inMemory, stripeFits, wordsFit, marksFit, allBelow, unmarkedBelow, symbolsFit, sumsAt, sumsFit, levelFits, lentRefusal, benchRefusal}
-use Rattle.steps.specs.Steps.{fresh, stepped, unlessRefused, rowFill, putRow, rowStepBy, rowStep, lossy, join, joined, levelFill, keepSums, raise, levelStepBy, levelStep}
+use Rattle.steps.specs.Steps.{fresh, stepped, unlessRefused, rowFill, putRow, rowStepBy, rowStep, lossy, checkFill, levelFill, keepSums, raise, levelStepBy, levelStep}
 use Rattle.steps.specs.Rounds.{more, afterRow, afterLevel, takeTurn, goOn, turns}
 use Rattle.repair.specs.Mending.{mended, rowsLeft, endReport, turnReport, turnStripe, turnMarks, mendReport, mendStripe, mendMarks}
 use Rattle.codewords.specs.Codeword.{taken}
@@ -87,7 +87,7 @@ unfolding if_then_else_ upFrom _⊕_ size double times mul dot gf2 flatMap
     any all only same zeros vanish first rest bitsOf sumsOf options before choices loose dependent fillings fillBy fill
     allOnes bitChecks locations1 plan1 known planOf noLevel levelOf checksTo rowAt marksAt marksOf
     firstFailed unasked inMemory stripeFits wordsFit marksFit allBelow unmarkedBelow symbolsFit sumsAt sumsFit levelFits lentRefusal benchRefusal
-    fresh stepped unlessRefused rowFill putRow rowStepBy rowStep lossy across join joined levelFill keepSums raise levelStepBy levelStep
+    fresh stepped unlessRefused rowFill putRow rowStepBy rowStep lossy across checkFill isNone vectorIn levelFill keepSums raise levelStepBy levelStep
     more afterRow afterLevel takeTurn goOn turns mended rowsLeft endReport turnReport turnStripe turnMarks mendReport mendStripe mendMarks
     exampleAfter moreMarks moreStripe backMarks backStripe beside oneOfEach
 fewer-restored = (refl, refl, refl, refl, refl, refl)

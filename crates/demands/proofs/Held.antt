@@ -14,25 +14,26 @@ use Rattle.field.specs.Lists.{if_then_else_, upFrom}
 use Rattle.field.specs.Field.{dot}
 use Rattle.linear.specs.Lists.{vanish, first, rest}
 use Rattle.linear.specs.Marks.{bitsOf}
-use Rattle.linear.specs.Fill.{sumsOf, dependent, Fill, tied, one, fill}
+use Rattle.linear.specs.Fill.{sumsOf, dependent, Fill, none, tied, one, fill, vectorIn}
 use Rattle.linear.proofs.Tests.{In, either}
 use Rattle.linear.proofs.Choices.{Alike}
-use Rattle.linear.proofs.Vectors.{sums-append}
+use Rattle.linear.proofs.Vectors.{sums-append, sums-count}
 use Rattle.linear.proofs.Filling.{fill-true}
 use Rattle.plans.specs.Plan.{Plan, Level, known, planOf, levelOf, checksTo, rowAt, marksAt, across}
 use Rattle.plans.specs.Refusal.{allBelow, sumPlaces, sumsAt}
-use Rattle.steps.specs.Steps.{fresh, stepped, rowFill, putRow, rowStepBy, rowStep, lossy, blocked, learned, join, joined, levelFill, raise, levelStepBy, levelStep}
+use Rattle.steps.specs.Steps.{fresh, stepped, rowFill, putRow, rowStepBy, rowStep, lossy, checkFill, blocked, learned, levelFill, raise, levelStepBy, levelStep}
 use Rattle.plans.specs.declared.Bench.{Bench}
 use Rattle.plans.specs.declared.Stepped.{Stepped}
 use Rattle.plans.specs.declared.Step.the-variants.{Top}
 use Rattle.plans.proofs.Rows.{of-rows, row-end, row-length, marks-length}
 use Rattle.steps.proofs.Levels.{checks-first, checks-suc, checks-le, sums-length}
-use Rattle.plans.proofs.Shape.{shape, some-check, plan-field}
+use Rattle.plans.proofs.Shape.{shape, plan-field}
 use Rattle.steps.proofs.Fit.{if-true, if-false, lent-fit, fresh-mark, fresh-row, fresh-sums}
-use Rattle.steps.proofs.Sound.{Sound, sound-fresh, across-below, totalFill, row-outside, sized-put, sized-raise, row-step, level-step, row-place, put-mark-other, put-row, put-row-other, fit-put, raise-sums, fit-raise}
+use Rattle.steps.proofs.Passing.{Ones, ends, ends-blocked, ones-learned}
+use Rattle.steps.proofs.Sound.{Sound, sound-fresh, across-below, row-outside, sized-put, sized-raise, row-step, level-step, row-place, put-mark-other, put-row, put-row-other, fit-put, raise-sums, fit-raise}
 use Rattle.demands.specs.Words.{Codeword, Agree, Fit, Move, onRow, onLevel, after, walk}
 use Rattle.demands.proofs.Alike.{alike-refl, alike-sym, alike-unmarked, agree-rows, clear-unmarked}
-use Rattle.demands.proofs.Codewords.{vanish-same, sums-count, sums-below, across-row, word-row, word-below, word-sums, word-totals}
+use Rattle.demands.proofs.Codewords.{vanish-same, sums-below, across-row, word-row, word-below, word-sums, word-totals}
 
 -- the stripe Y has the learned sums
 abbrev pub Has : ℕ → Bench → (Y : List ℕ) → Type 0
@@ -99,18 +100,18 @@ module _ (p : ℕ) (X stripe marks : List ℕ) (fit : Fit p stripe marks) (word 
 
 -- ---- what is found for a row and for a level
 
--- fillings that are tied together, or none is
-joined-same : (D : Bool) (f : List ℕ → Fill) (g : List ℕ → List ℕ) (xs : List (List ℕ))
-    → ((x : List ℕ) → In x xs → f x ≡ (if D then tied else one (g x))) → 0 < length xs
-    → joined (map f xs) ≡ (if D then blocked else learned (map g xs))
-unfolding if_then_else_ joined join
-joined-same true f g [] h z = absurd (omega arith)
-joined-same true f g (x ∷ xs) h z = ap (λ a. join a (joined (map f xs))) (h x (List·Memᴰ·head refl))
-joined-same false f g xs h z = ones xs h
+-- where each check has a filling, all are tied or each is filled by one vector
+ends-same : (D : Bool) (f : List ℕ → Fill) (g : List ℕ → List ℕ) (xs : List (List ℕ))
+    → ((x : List ℕ) → In x xs → f x ≡ (if D then tied else one (g x)))
+    → ends f (λ x. vectorIn (f x)) D xs ≡ (if D then blocked else learned (map g xs))
+unfolding if_then_else_ vectorIn
+ends-same true f g xs h =
+    ends-blocked f (λ x. vectorIn (f x)) true xs (λ x m e. let z : _≡_ {A = Fill} tied none = sym (h x m) ∙ e in let z : _≡_ {A = ℕ} 0 1 = cc in omega arith) tt
+ends-same false f g xs h = ones-learned f (λ x. vectorIn (f x)) false tt (λ x v e. ap vectorIn e) xs (map g xs) (ones xs h)
   where
-    ones : (xs : List (List ℕ)) → ((x : List ℕ) → In x xs → f x ≡ one (g x)) → joined (map f xs) ≡ learned (map g xs)
-    ones [] h = refl
-    ones (x ∷ xs) h = ap₂ join (h x (List·Memᴰ·head refl)) (ones xs (λ y m. h y (List·Memᴰ·tail m)))
+    ones : (xs : List (List ℕ)) → ((x : List ℕ) → In x xs → f x ≡ one (g x)) → Ones f xs (map g xs)
+    ones [] h = tt
+    ones (x ∷ xs) h = (h x (List·Memᴰ·head refl), ones xs (λ y m. h y (List·Memᴰ·tail m)))
 
 -- vectors over the rows that agree in each row that passes the test
 pub alike-up : (d : ℕ → Bool) (f g : ℕ → ℕ) (k n : ℕ) → ((r : ℕ) → r < k + n → T (d r) → f r ≡ g r)
@@ -155,13 +156,12 @@ module _ (X : List ℕ) (b : Bench) (h : Held (b .plan) X b) where
   -- and so for the rows' sums under each check of the next level
   own-level-finds : b .level < length (P .levels)
       → levelFill b ≡ (if levelTied (b .plan) (b .level) (b .marks) then blocked else learned (wordSums (b .plan) (b .level) X))
-  unfolding levelFill across lossy allBelow levelOf
+  unfolding levelFill checkFill across lossy allBelow levelOf
   own-level-finds low =
-      joined-same (levelTied (b .plan) (b .level) (b .marks)) (totalFill b L) (across P X) (L .checks) finds
-      (some-check (b .plan) (b .level) low)
+      ends-same (levelTied (b .plan) (b .level) (b .marks)) (checkFill b) (across P X) (L .checks) finds
     where
       finds : (c : List ℕ) → In c (L .checks)
-          → totalFill b L c ≡ (if levelTied (b .plan) (b .level) (b .marks) then tied else one (across P X c))
+          → checkFill b c ≡ (if levelTied (b .plan) (b .level) (b .marks) then tied else one (across P X c))
       finds c m =
           ap (λ target. fill (P .field) (L .weights) target (lossy P (b .marks)) (across P (b .symbols) c))
           (sym (word-totals (b .plan) X (h .codeword) (b .level) (h .sound .fit .level-pos) low m))

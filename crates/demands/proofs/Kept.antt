@@ -14,6 +14,7 @@ use Rattle.linear.specs.Lists.{only}
 use Rattle.linear.specs.Marks.{bitsOf}
 use Rattle.linear.specs.Fill.{Fill, tied, none, one}
 use Rattle.linear.proofs.Tests.{either}
+use Rattle.linear.proofs.Weights.{marked}
 use Rattle.plans.specs.Plan.{Plan, planOf, marksAt, marksOf}
 use Rattle.plans.specs.Refusal.{unasked, lentRefusal, benchRefusal}
 use Rattle.steps.specs.Steps.{fresh, stepped, unlessRefused, rowFill, putRow, rowStepBy, rowStep, Learned, blocked, failing, learned, levelFill, raise, levelStepBy, levelStep}
@@ -27,7 +28,6 @@ use Rattle.steps.proofs.Sound.{filled-row}
 use Rattle.demands.specs.Words.{Fit, Move, onRow, onLevel, after, walk, rounds}
 use Rattle.demands.specs.Leaving.{RowLeft}
 use Rattle.demands.specs.Silence.{StepsKeep, MarkedKeep}
-use Rattle.demands.proofs.Marked.{marked}
 use Rattle.demands.proofs.Alike.{row-at, mark-at, of-places, clear-unmarked}
 use Rattle.demands.proofs.Rounds.{Ended, Out, mended-out}
 use Rattle.demands.proofs.Left.{stripe-turn, marks-turn}

@@ -13,13 +13,13 @@ use lib.Seq.{take-add, take-length, length-take-le, getD-take}
 use Rattle.field.specs.Lists.{if_then_else_, upFrom}
 use Rattle.field.specs.Field.{size}
 use Rattle.field.proofs.Test.{both}
-use Rattle.linear.specs.Lists.{all, only, zeros}
-use Rattle.linear.specs.Fill.{sumsOf, Fill, tied, none, one}
+use Rattle.linear.specs.Lists.{all, only}
+use Rattle.linear.specs.Fill.{sumsOf, dependent}
 use Rattle.linear.proofs.Tests.{all-append}
-use Rattle.linear.proofs.Filling.{Means, no-dependency, fill-means}
-use Rattle.plans.specs.Plan.{Plan, Level, planOf, levelOf, checksTo, rowAt, marksAt, across}
+use Rattle.linear.proofs.Weights.{marked}
+use Rattle.plans.specs.Plan.{Plan, planOf, levelOf, checksTo, rowAt, marksAt}
 use Rattle.plans.specs.Refusal.{allBelow, lentRefusal}
-use Rattle.steps.specs.Steps.{lossy, Learned, blocked, failing, learned, join, joined, levelFill}
+use Rattle.steps.specs.Steps.{lossy}
 use Rattle.steps.specs.Rounds.{Standing, Turn, on, end, clash}
 use Rattle.repair.specs.Mending.{mended, rowsLeft, endReport, bare, turnReport, turnStripe, turnMarks, mendReport, mendStripe, mendMarks}
 use Rattle.codewords.specs.Codeword.{rowsHold, totalsHold, isCodeword}
@@ -31,14 +31,13 @@ use Rattle.plans.specs.declared.Report.{Report}
 use Rattle.plans.proofs.Rows.{row-end, row-length, row-append, rows-ext, marks-length}
 use Rattle.plans.proofs.Shape.{shape}
 use Rattle.steps.proofs.Fit.{if-true, RowFits, lent-fit}
-use Rattle.steps.proofs.Sound.{totalFill}
+use Rattle.steps.proofs.Sound.{blocked-dependent}
 use Rattle.demands.specs.Words.{Codeword, Agree, Fit}
 use Rattle.demands.specs.Second.{IsRestored}
-use Rattle.demands.proofs.Marked.{marked}
 use Rattle.demands.proofs.Alike.{alike-sym, unmarked-all, unmarked-independent, clear-unmarked, rows-agree}
 use Rattle.demands.proofs.Held.{Has, rowTied, held-unmarked}
 use Rattle.demands.proofs.Reached.{reached-level}
-use Rattle.demands.proofs.Rounds.{Ended}
+use Rattle.demands.proofs.Rounds.{settled-tied, Ended}
 
 -- ---- lists
 
@@ -85,21 +84,6 @@ none-lossy marks k zero h = refl
 none-lossy marks k (suc n) h =
     ap (λ w. marked (not (eqb w 0) ∷ map (λ r. not (eqb (getD marks r 0) 0)) (upFrom (suc k) n))) (h k (omega arith))
     ∙ none-lossy marks (suc k) n (λ r l. h r (omega arith))
-
--- a level is Blocked only where a filling is tied
-joined-free : {A : Type 0} (f : A → Fill) → ((x : A) → f x ≡ tied → ⊥) → (xs : List A) → joined (map f xs) ≡ blocked → ⊥
-unfolding joined join
-joined-free f free [] e = let z : _≡_ {A = ℕ} 0 1 = cc in omega arith
-joined-free f free (x ∷ xs) e = go (f x) refl (joined (map f xs)) refl e (joined-free f free xs)
-  where
-    go : (a : Fill) → f x ≡ a → (l : Learned) → joined (map f xs) ≡ l → join a l ≡ blocked → (joined (map f xs) ≡ blocked → ⊥) → ⊥
-    go tied p l q e ih = free x p
-    go none p blocked q e ih = ih q
-    go none p failing q e ih = let z : _≡_ {A = ℕ} 0 1 = cc in omega arith
-    go none p (learned cs) q e ih = let z : _≡_ {A = ℕ} 0 1 = cc in omega arith
-    go (one v) p blocked q e ih = ih q
-    go (one v) p failing q e ih = let z : _≡_ {A = ℕ} 0 1 = cc in omega arith
-    go (one v) p (learned cs) q e ih = let z : _≡_ {A = ℕ} 0 1 = cc in omega arith
 
 -- ---- what is left behind where the rounds end
 
@@ -164,29 +148,22 @@ module _ (p : ℕ) (stripe marks : List ℕ) (fit : Fit p stripe marks) (m : Sta
 
     -- the last level was learned
     at-top : b .level ≡ length (P .levels)
-    unfolding rowsLeft levelFill
+    unfolding rowsLeft
     at-top =
         elim (eq-or-lt-of-le (reached-level p stripe marks b (e .reached))) [
           | inl q ↦ q
-          | inr low ↦ absurd (joined-free (totalFill b L) free (L .checks) (e .stopped low))
+          | inr low ↦
+              let Q = planOf (b .plan) in
+              let W = levelOf Q (suc (b .level)) .weights in
+              let ms = lossy Q (b .marks) in
+              absurd (T-not (dependent (Q .field) W ms) (unmarked-independent (Q .field) W ms none-left) (blocked-dependent b (e .stopped low)))
         ]
-      where
-        L : Level
-        L = levelOf (planOf (b .plan)) (suc (b .level))
-
-        free : (c : List ℕ) → totalFill b L c ≡ tied → ⊥
-        free c q =
-            let F = planOf (b .plan) .field in
-            let ms = lossy (planOf (b .plan)) (b .marks) in
-            let v = across (planOf (b .plan)) (b .symbols) c in
-            let d = subst (Means F (L .weights) (zeros (L .weights)) ms v) q (fill-means F (L .weights) (zeros (L .weights)) ms v) in
-            no-dependency F (L .weights) ms (unmarked-independent F (L .weights) ms none-left) (d .1)
 
     has : Has p b Y
     has r l =
         elim (e .settled r l) [
           | inl t ↦ absurd (T-not (rowTied p (b .level) (b .marks) r)
-              (unmarked-independent (P .field) (checksTo P (b .level)) (marksAt P (b .marks) r) (unmarked r l)) t)
+              (unmarked-independent (P .field) (checksTo P (b .level)) (marksAt P (b .marks) r) (unmarked r l)) (settled-tied p b r t))
           | inr s ↦ s .1 ∙ ap (sumsOf (P .field) (checksTo P (b .level))) (sym (row-left r l))
         ]
 

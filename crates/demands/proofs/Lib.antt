@@ -1,5 +1,5 @@
--- Why the demands hold. The theorems stand in Second, Counts, Encoding, Third, Fewer, Refused, Blind, Silence, Reading, Kept, Leaving, Stopping and
--- Room, the plans' parameters in Parameters and Distance, and samples that meet the premises in Samples (plan 1), Samples3 (plan 3) and FewerSamples.
+-- Why the demands hold. The theorems stand in Second, Counts, Encoding, Third, Fewer, Refused, Blind, Silence, Reading, Kept, Leaving, Stopping, Tied
+-- and Room, the plans' parameters in Parameters and Distance, and samples that meet the premises in Samples (plan 1), Samples3 (plan 3) and FewerSamples.
 pub mod Lists
 pub mod Marked
 pub mod Binary
@@ -34,6 +34,7 @@ pub mod Reading
 pub mod Kept
 pub mod Leaving
 pub mod Stopping
+pub mod Tied
 pub mod Room
 pub mod Samples
 pub mod Samples3

@@ -1,59 +1,20 @@
--- How many places are marked, and what a vector that is zero elsewhere weighs. Assumes nothing.
-use mathlib.Core.Path.{_≡_, refl, sym, ap, ap₂, _∙_, subst, fun-ext}
+-- The word that has given marks, and the places of a vector that are not 0. Assumes nothing.
+use mathlib.Core.Path.{_≡_, refl, ap, ap₂, _∙_}
 use mathlib.Core.Bool.{Bool, true, false, not}
 use mathlib.Core.List.{List, [], _∷_, map}
-use Prim.Native.Nat.{ℕ, zero, suc, _+_, _*_, _/_, _%_, _^_, _≤_, _<_}
-use native.Mathlib.Nat.{div-one, zero-add, le-trans, pow-suc}
-use native.Mathlib.Numerals.{add-one, one-add}
+use Prim.Native.Nat.{ℕ, zero, suc, _+_, _*_, _/_, _%_, _^_, _<_}
+use native.Mathlib.Nat.{pow-suc}
 use native.Mathlib.Omega.{arith}
-use lib.Arith.{lt-one, digits-div, digits-mod}
-use lib.Count.{ones, ones-step}
-use lib.Dec.{T, T-not, eqb, eqb·suc-zero, lit<}
+use lib.Arith.{digits-div, digits-mod}
+use lib.Dec.{eqb, eqb·suc-zero, lit<}
 use lib.ListN.{length, length-map}
-use lib.Pow.{shr-shr, shr-lt}
 use Rattle.field.specs.Lists.{if_then_else_, upFrom, weight}
 use Rattle.field.specs.Field.{Field, size}
-use Rattle.field.proofs.Sum.{of-bits, bit}
-use Rattle.field.proofs.Ring.{size-pos}
 use Rattle.field.proofs.Words.{EachBelow}
-use Rattle.linear.specs.Lists.{all, only, zeros, vanish, first, rest}
+use Rattle.linear.specs.Lists.{only, zeros, first, rest}
 use Rattle.linear.specs.Marks.{bitsOf}
-use Rattle.linear.specs.Fill.{sumsOf}
-use Rattle.linear.proofs.Choices.{Agrees, agrees-length}
-use Rattle.linear.proofs.Filling.{Independent, independent-of}
-
--- how many places are marked
-abbrev pub marked : List Bool → ℕ
-marked ms = length (only (λ m. m) ms)
-
--- ---- the marks of a word
-
-map-up-suc : {A : Type 0} (f : ℕ → A) (k n : ℕ) → map f (upFrom (suc k) n) ≡ map (λ i. f (suc i)) (upFrom k n)
-unfolding upFrom
-map-up-suc f k zero = refl
-map-up-suc f k (suc n) = ap (λ l. f (suc k) ∷ l) (map-up-suc f (suc k) n)
-
--- the last bit, and the bits of the half
-pub bits-step : (n w : ℕ) → bitsOf (suc n) w ≡ eqb (w % 2) 1 ∷ bitsOf n (w / 2)
-unfolding bitsOf upFrom
-bits-step n w =
-    ap₂ _∷_ (ap (λ x. eqb (x % 2) 1) (div-one w))
-    (map-up-suc (λ k. eqb (w / 2 ^ k % 2) 1) 0 n
-    ∙ ap (λ f. map f (upFrom 0 n)) (fun-ext (λ k. ap (λ x. eqb (x % 2) 1) (ap (λ i. w / 2 ^ i) (sym (one-add k)) ∙ sym (shr-shr w 1 k)))))
-
-pub half-lt : (n w : ℕ) → w < 2 ^ suc n → w / 2 < 2 ^ n
-half-lt n w h = shr-lt n 1 (subst (λ i. w < 2 ^ i) (sym (add-one n)) h)
-
--- as many as the word has ones
-pub marked-bits : (n w : ℕ) → w < 2 ^ n → marked (bitsOf n w) ≡ ones w
-unfolding if_then_else_ upFrom only bitsOf ones
-marked-bits zero w h = ap ones (sym (lt-one h))
-marked-bits (suc n) w h =
-    ap marked (bits-step n w) ∙ front (w % 2) (bit w) (bitsOf n (w / 2))
-    ∙ ap (λ k. w % 2 + k) (marked-bits n (w / 2) (half-lt n w h)) ∙ sym (ones-step w)
-  where
-    front : (b : ℕ) → b < 2 → (ms : List Bool) → marked (eqb b 1 ∷ ms) ≡ b + marked ms
-    front b l ms = of-bits (λ b. marked (eqb b 1 ∷ ms) ≡ b + marked ms) (sym (zero-add (marked ms))) (sym (one-add (marked ms))) b l
+use Rattle.linear.proofs.Choices.{Agrees}
+use Rattle.linear.proofs.Weights.{marked, bits-step}
 
 -- the word that has these marks
 unfoldable pub wordWith : List Bool → ℕ
@@ -77,31 +38,6 @@ word-bits [] = refl
 word-bits (true ∷ ms) = bits-step (length ms) (wordWith ms * 2 + 1) ∙ digits 1 (lit< tt) ms (word-bits ms)
 word-bits (false ∷ ms) = bits-step (length ms) (wordWith ms * 2 + 0) ∙ digits 0 (lit< tt) ms (word-bits ms)
 
--- ---- vectors that are zero where unmarked
-
-module _ (F : Field) where
-  pub agrees-fit : (ms : List Bool) (w : List ℕ) → Agrees F ms (zeros ms) w → EachBelow (size F) w
-  unfolding zeros first rest
-  agrees-fit [] w a = rw a tt
-  agrees-fit (m ∷ ms) [] a = tt
-  agrees-fit (true ∷ ms) (y ∷ ys) a = (a .0, agrees-fit ms ys (a .1))
-  agrees-fit (false ∷ ms) (y ∷ ys) a = (rw (a .0) (size-pos F), agrees-fit ms ys (a .1))
-
-  pub agrees-weight : (ms : List Bool) (w : List ℕ) → Agrees F ms (zeros ms) w → weight w ≤ marked ms
-  unfolding if_then_else_ only zeros first rest weight
-  agrees-weight [] w a = rw a (omega arith)
-  agrees-weight (m ∷ ms) [] a = absurd a
-  agrees-weight (true ∷ ms) (zero ∷ ys) a = omega (arith, agrees-weight ms ys (a .1))
-  agrees-weight (true ∷ ms) (suc y ∷ ys) a = omega (arith, agrees-weight ms ys (a .1))
-  agrees-weight (false ∷ ms) (zero ∷ ys) a = agrees-weight ms ys (a .1)
-  agrees-weight (false ∷ ms) (suc y ∷ ys) a = omega (arith, a .0)
-
-pub weightless-vanish : (w : List ℕ) → weight w ≡ 0 → T (vanish w)
-unfolding weight vanish all
-weightless-vanish [] e = tt
-weightless-vanish (zero ∷ w) e = weightless-vanish w e
-weightless-vanish (suc c ∷ w) e = absurd (omega arith)
-
 -- ---- the places that are not 0
 
 unfoldable pub support : List ℕ → List Bool
@@ -122,15 +58,3 @@ unfolding zeros first rest support
 support-agrees F [] h = refl
 support-agrees F (zero ∷ w) h = (refl, support-agrees F w (h .1))
 support-agrees F (suc c ∷ w) h = rw (eqb·suc-zero c) (h .0, support-agrees F w (h .1))
-
--- ---- independent columns
-
--- where only zero vectors among those of weight m or less have zero sums, any m columns are independent
-pub light-independent : (F : Field) (checks : List (List ℕ)) (n m : ℕ)
-    → ((w : List ℕ) → EachBelow (size F) w → T (vanish (sumsOf F checks w)) → length w ≡ n → weight w ≤ m → weight w ≡ 0)
-    → (ms : List Bool) → length ms ≡ n → marked ms ≤ m → Independent F checks ms
-light-independent F checks n m only-zero ms l h =
-    independent-of F checks ms λ w d.
-    T-not (vanish w) (d .nonzero)
-    (weightless-vanish w (only-zero w (agrees-fit F ms w (d .agrees)) (d .vanishes)
-    (agrees-length F ms (zeros ms) w (d .agrees) ∙ l) (le-trans (agrees-weight F ms w (d .agrees)) h)))

@@ -13,6 +13,7 @@ use Rattle.linear.specs.Lists.{all, vanish}
 use Rattle.linear.specs.Fill.{sumsOf}
 use Rattle.linear.proofs.Tests.{either}
 use Rattle.linear.proofs.Filling.{no-dependency}
+use Rattle.linear.proofs.Spread.{symbols-fit}
 use Rattle.plans.specs.Plan.{allOnes, bitChecks, locations1, plan1, locations2, powers2, plan2, locations3, powers3, plan3, known, planOf, levelOf, checksTo, rowAt, across, carried}
 use Rattle.plans.specs.Refusal.{allBelow}
 use Rattle.codewords.specs.Codeword.{rowsHold, totalsHold, isCodeword}
@@ -23,7 +24,6 @@ use Rattle.demands.specs.Words.{Codeword, counts, rowDistance, distance}
 use Rattle.demands.specs.Parameters.{symbolsCarried, CarriedMet, RowWord, RowDistance, RowDistanceMet, DistanceMet}
 use Rattle.demands.proofs.Marked.{support, support-length, support-marked, support-agrees}
 use Rattle.demands.proofs.Few.{count, few-independent}
-use Rattle.demands.proofs.Square.{symbols-fit}
 
 -- ---- symbols carried
 

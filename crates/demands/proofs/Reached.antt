@@ -18,21 +18,21 @@ use Rattle.linear.specs.Fill.{sumsOf, tied, one}
 use Rattle.linear.proofs.Tests.{zeros-vanish, all-append}
 use Rattle.linear.specs.Marks.{bitsOf}
 use Rattle.linear.proofs.Choices.{Alike, Inside, agrees-length, agrees-alike}
-use Rattle.linear.proofs.Vectors.{sums-append}
+use Rattle.linear.proofs.Vectors.{sums-append, sums-count}
 use Rattle.linear.proofs.Filling.{Means, fill-means}
 use Rattle.plans.specs.Plan.{Plan, Level, noLevel, planOf, levelOf, checksTo, rowAt, marksAt, across}
 use Rattle.plans.specs.Refusal.{sumPlaces, sumsAt}
-use Rattle.steps.specs.Steps.{fresh, rowFill, putRow, lossy, blocked, learned, levelFill, newSums, raise}
+use Rattle.steps.specs.Steps.{fresh, rowFill, putRow, lossy, checkFill, blocked, learned, levelFill, newSums, raise}
 use Rattle.codewords.specs.Codeword.{rowsHold, totalsHold}
 use Rattle.plans.specs.declared.Bench.{Bench}
 use Rattle.plans.proofs.Rows.{of-rows, row-end}
 use Rattle.steps.proofs.Levels.{checks-first, checks-suc, checks-le, sums-length}
 use Rattle.plans.proofs.Shape.{shape}
 use Rattle.steps.proofs.Fit.{lent-fit, rows-all, fresh-mark, fresh-row, fresh-sums}
-use Rattle.steps.proofs.Sound.{Ones, Sound, sound-fresh, totalFill, filled-row, put-mark, put-mark-other, put-row, put-row-other, learned-ones, learned-length, raise-sums, sound-put, sound-raise}
+use Rattle.steps.proofs.Passing.{Ones}
+use Rattle.steps.proofs.Sound.{Sound, sound-fresh, filled-row, put-mark, put-mark-other, put-row, put-row-other, learned-ones, learned-length, raise-sums, sound-put, sound-raise}
 use Rattle.demands.specs.Words.{Codeword, Agree, Fit}
 use Rattle.demands.proofs.Alike.{alike-refl, alike-trans, alike-inside, inside-refl, clear-inside}
-use Rattle.demands.proofs.Codewords.{sums-count}
 use Rattle.demands.proofs.Held.{Has, Held, held-fresh, row-finds, level-finds, held-put, held-raise, wordSums, rowTied, levelTied}
 
 -- the stripe Y meets the checks of levels 1 to t
@@ -153,10 +153,10 @@ module _ (stripe marks : List ℕ) (b : Bench) (s : Reached (b .plan) stripe mar
       }
 
   -- what was learned has zero totals, and so has a stripe with those sums
-  totals-of : (Y : List ℕ) (checks cs : List (List ℕ)) → Ones (totalFill b L) checks cs
+  totals-of : (Y : List ℕ) (checks cs : List (List ℕ)) → Ones (checkFill b) checks cs
       → ((r : ℕ) → r < Q .rows → newSums cs r ≡ sumsOf (Q .field) checks (rowAt Q Y r))
       → T (all (λ c. vanish (sumsOf (Q .field) (L .weights) (across Q Y c))) checks)
-  unfolding all sumsOf across lossy
+  unfolding all sumsOf across lossy checkFill
   totals-of Y [] [] o e = tt
   totals-of Y [] (v ∷ cs) o e = absurd o
   totals-of Y (c ∷ checks) [] o e = absurd o
@@ -165,7 +165,7 @@ module _ (stripe marks : List ℕ) (b : Bench) (s : Reached (b .plan) stripe mar
       (zero-totals c v (o .0) (λ r l. ap (λ l. getD l 0 0) (e r l)))
       (totals-of Y checks cs (o .1) (λ r l. ap (drop 1) (e r l)))
     where
-      zero-totals : (c v : List ℕ) → totalFill b L c ≡ one v → ((r : ℕ) → r < Q .rows → getD v r 0 ≡ dot (Q .field) c (rowAt Q Y r))
+      zero-totals : (c v : List ℕ) → checkFill b c ≡ one v → ((r : ℕ) → r < Q .rows → getD v r 0 ≡ dot (Q .field) c (rowAt Q Y r))
           → T (vanish (sumsOf (Q .field) (L .weights) (across Q Y c)))
       zero-totals c v q g =
           let ws = L .weights in

@@ -14,11 +14,11 @@ use Rattle.field.specs.Field.{size, dot}
 use Rattle.field.proofs.Lists.{getD-map-below, map-up-same}
 use Rattle.linear.specs.Lists.{all, zeros}
 use Rattle.linear.specs.Marks.{bitsOf}
-use Rattle.linear.specs.Fill.{Fill, tied, none, one, fill}
+use Rattle.linear.specs.Fill.{dependent, Fill, none, tied, one, fill, vectorIn}
 use Rattle.linear.proofs.Tests.{either}
 use Rattle.plans.specs.Plan.{Plan, Level, known, planOf, levelOf, checksTo, rowAt, marksAt, across}
 use Rattle.plans.specs.Refusal.{sumPlaces, unasked, inMemory, marksFit, allBelow, unmarkedBelow, symbolsFit, sumsAt, sumsFit, levelFits, benchRefusal}
-use Rattle.steps.specs.Steps.{stepped, unlessRefused, rowFill, putRow, rowStepBy, rowStep, lossy, Learned, blocked, failing, learned, joined, levelFill, newSums, raise, levelStepBy, levelStep}
+use Rattle.steps.specs.Steps.{stepped, unlessRefused, rowFill, putRow, rowStepBy, rowStep, lossy, checkFill, Learned, blocked, failing, learned, levelFill, newSums, raise, levelStepBy, levelStep}
 use Rattle.steps.specs.Learned.{benchOf}
 use Rattle.plans.specs.declared.Bench.{Bench}
 use Rattle.plans.specs.declared.Stepped.{Stepped}
@@ -30,6 +30,7 @@ use Rattle.plans.proofs.Parts.{rows-of, rows-front}
 use Rattle.steps.proofs.Levels.{checks-suc, checks-le}
 use Rattle.plans.proofs.Shape.{shape}
 use Rattle.steps.proofs.Fit.{BenchFit, bench-fit}
+use Rattle.steps.proofs.Passing.{ends}
 use Rattle.steps.proofs.Sound.{filled-row, learned-length}
 use Rattle.demands.specs.Words.{onRow, onLevel, after, walk}
 use Rattle.demands.specs.Room.{SameRead, SameReadStep, RowStepReads, LevelStepReads, WalkReads, placesAt, RoomKept, StepsKeepRoom, WalksKeepRoom}
@@ -238,9 +239,11 @@ module _ (b : Bench) (s m u : List ℕ) (h : SameRead b (with b s m u)) where
       (λ r l. ap (dot (Q .field) x) (row-read (0 + r) (omega arith)))
 
   level-fill-read : levelFill b ≡ levelFill c
-  unfolding levelFill
+  unfolding levelFill checkFill
   level-fill-read =
-      ap₂ (λ (ms : List Bool) (f : List ℕ → List ℕ). joined (map (λ x. fill (Q .field) (L .weights) (zeros (L .weights)) ms (f x)) (L .checks)))
+      ap₂ (λ (ms : List Bool) (u : List ℕ → List ℕ).
+      ends (λ x. fill (Q .field) (L .weights) (zeros (L .weights)) ms (u x)) (λ x. vectorIn (fill (Q .field) (L .weights) (zeros (L .weights)) ms (u x)))
+      (dependent (Q .field) (L .weights) ms) (L .checks))
       lossy-read (λ i x. across-read x i)
 
   -- the same row is put

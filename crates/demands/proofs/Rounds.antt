@@ -13,10 +13,11 @@ use lib.ListN.{length, getD, set, replicate}
 use lib.Seq.{set-getD}
 use Rattle.field.specs.Lists.{if_then_else_, upFrom}
 use Rattle.field.specs.Field.{size}
-use Rattle.linear.specs.Fill.{sumsOf, Fill, tied, none, one}
+use Rattle.linear.specs.Fill.{sumsOf, Fill, none, tied, one, fill}
 use Rattle.linear.proofs.Tests.{either}
 use Rattle.linear.proofs.Choices.{alike-agrees}
-use Rattle.linear.proofs.Filling.{Means, dependent-in, in-dependent, fill-means, fill-tied, fill-one}
+use Rattle.linear.proofs.Filling.{Means, in-dependent, fill-means, fill-one}
+use Rattle.linear.proofs.Weights.{marked}
 use Rattle.plans.specs.Plan.{Plan, planOf, checksTo, rowAt, marksAt}
 use Rattle.plans.specs.Refusal.{allBelow, sumsAt}
 use Rattle.steps.specs.Steps.{fresh, stepped, rowFill, putRow, rowStepBy, rowStep, Learned, blocked, failing, learned, levelFill, raise, levelStepBy, levelStep}
@@ -29,7 +30,6 @@ use Rattle.plans.proofs.Rows.{row-length, row-again, marks-length}
 use Rattle.steps.proofs.Fit.{if-true, if-false}
 use Rattle.steps.proofs.Sound.{Sound, row-outside, row-step, level-step, row-place, filled-row, put-mark, put-mark-other, put-row, put-row-other}
 use Rattle.demands.specs.Words.{Codeword, Agree, Fit, Move, onRow, onLevel, walk, Quiet, rounds}
-use Rattle.demands.proofs.Marked.{marked}
 use Rattle.demands.proofs.Alike.{alike-refl, unmarked-all, unmarked-independent, clear-unmarked}
 use Rattle.demands.proofs.Held.{rowTied, levelTied, wordSums, row-finds, level-finds}
 use Rattle.demands.proofs.Reached.{Reached, reached-fresh, reached-level, reached-put, reached-raise}
@@ -73,11 +73,27 @@ quiet-walk (m ∷ ms) b q = ap (walk ms) (q m) ∙ quiet-walk ms b q
 
 -- ---- a row whose turn was
 
--- row r's columns are dependent, or it has no marks and its symbols have the learned sums
+-- the row's fill, by plan p
+abbrev fillBy : ℕ → Bench → ℕ → Fill
+fillBy p b r =
+    let P = planOf p in
+    fill (P .field) (checksTo P (b .level)) (sumsAt P (b .level) (b .sums) r) (marksAt P (b .marks) r) (rowAt P (b .symbols) r)
+
+-- row r is tied, or it has no marks and its symbols have the learned sums
 abbrev pub Settled : ℕ → Bench → ℕ → Type 0
-Settled p b r = T (rowTied p (b .level) (b .marks) r)
+Settled p b r = (fillBy p b r ≡ tied)
     ⊎ ((getD (b .marks) r 0 ≡ 0)
     × (sumsAt (planOf p) (b .level) (b .sums) r ≡ sumsOf (planOf p .field) (checksTo (planOf p) (b .level)) (rowAt (planOf p) (b .symbols) r)))
+
+-- a tied row has dependent columns
+pub settled-tied : (p : ℕ) (b : Bench) (r : ℕ) → fillBy p b r ≡ tied → T (rowTied p (b .level) (b .marks) r)
+settled-tied p b r e =
+    let P = planOf p in
+    let C = checksTo P (b .level) in
+    let target = sumsAt P (b .level) (b .sums) r in
+    let ms = marksAt P (b .marks) r in
+    let v = rowAt P (b .symbols) r in
+    in-dependent (P .field) C ms (subst (Means (P .field) C target ms v) e (fill-means (P .field) C target ms v) .0 .1)
 
 module _ (b : Bench) (s : Sound b) (r : ℕ) (l : r < planOf (b .plan) .rows) where
   abbrev P : Plan
@@ -112,9 +128,7 @@ module _ (b : Bench) (s : Sound b) (r : ℕ) (l : r < planOf (b .plan) .rows) wh
   -- a step on a settled row changes nothing
   settled-row : Settled (b .plan) b r → rowStep b r .bench ≡ b
   unfolding rowFill rowStepBy stepped marksAt allBelow
-  settled-row (inl t) =
-      ap (λ (c : Stepped). c .bench)
-      (row-step b (s .fit) r l ∙ ap (rowStepBy b r) (fill-tied (P .field) C target ms v (dependent-in (P .field) C ms t .1)))
+  settled-row (inl e) = ap (λ (c : Stepped). c .bench) (row-step b (s .fit) r l ∙ ap (rowStepBy b r) e)
   settled-row (inr (z, e)) =
       let clear : marked ms ≡ 0 = rw z (clear-unmarked (P .columns)) in
       ap (λ (c : Stepped). c .bench)
@@ -131,8 +145,7 @@ module _ (b : Bench) (s : Sound b) (r : ℕ) (l : r < planOf (b .plan) .rows) wh
   -- a row that is tied or filled is settled
   tied-settled : rowFill b r ≡ tied → Settled (b .plan) b r
   unfolding rowFill
-  tied-settled e =
-      let m = subst (Means (P .field) C target ms v) e (fill-means (P .field) C target ms v) in inl (in-dependent (P .field) C ms (m .1))
+  tied-settled e = inl e
 
   module _ (row : List ℕ) (e : rowFill b r ≡ one row) where
     wide : length row ≡ P .columns

@@ -11,11 +11,11 @@ use Rattle.field.specs.Lists.{if_then_else_, upFrom, weight}
 use Rattle.field.specs.Field.{_⊕_, size, double, times, mul, dot, gf2}
 use Rattle.linear.specs.Lists.{any, all, only, same, zeros, vanish, first, rest, beside}
 use Rattle.linear.specs.Marks.{bitsOf}
-use Rattle.linear.specs.Fill.{sumsOf, options, before, oneOfEach, choices, loose, dependent, fillings, fillBy, fill}
+use Rattle.linear.specs.Fill.{sumsOf, options, before, oneOfEach, choices, loose, dependent, fillings, fillBy, fill, isNone, vectorIn}
 use Rattle.linear.proofs.Choices.{alike-at}
 use Rattle.plans.specs.Plan.{allOnes, bitChecks, wordOf, locations1, plan1, known, noPlan, planOf, noLevel, levelOf, checksTo, rowAt, marksAt, marksOf, across, checkPlacesOf, carried, marksOffset, symbolsOffset, fileLength}
 use Rattle.plans.specs.Refusal.{firstFailed, unasked, inMemory, inFile, stripeFits, wordsFit, marksFit, allBelow, unmarkedBelow, symbolsFit, sumsAt, sumsFit, levelFits, lentRefusal, benchRefusal}
-use Rattle.steps.specs.Steps.{fresh, empty, stepped, unlessRefused, rowFill, putRow, rowStepBy, rowStep, lossy, join, joined, levelFill, keepSums, raise, levelStepBy, levelStep}
+use Rattle.steps.specs.Steps.{fresh, empty, stepped, unlessRefused, rowFill, putRow, rowStepBy, rowStep, lossy, checkFill, levelFill, keepSums, raise, levelStepBy, levelStep}
 use Rattle.steps.specs.Rounds.{Standing, on, more, afterRow, afterLevel, takeTurn, goOn, turns}
 use Rattle.steps.specs.Walk.{standingOf}
 use Rattle.repair.specs.Mending.{mendReport, mendMarks}
@@ -83,7 +83,7 @@ unfolding if_then_else_ upFrom _⊕_ size double times mul dot gf2 flatMap
     any all only same zeros vanish first rest beside bitsOf sumsOf options before oneOfEach choices loose dependent fillings fillBy fill
     allOnes bitChecks locations1 plan1 known planOf noLevel levelOf checksTo rowAt marksAt
     firstFailed unasked inMemory marksFit allBelow unmarkedBelow symbolsFit sumsAt sumsFit levelFits benchRefusal
-    fresh stepped unlessRefused rowFill putRow rowStepBy rowStep lossy across join joined levelFill keepSums raise levelStepBy levelStep
+    fresh stepped unlessRefused rowFill putRow rowStepBy rowStep lossy across checkFill isNone vectorIn levelFill keepSums raise levelStepBy levelStep
     exampleStripe exampleMarks exampleAfter exampleEnd
 other-ends = refl
 
@@ -145,7 +145,7 @@ unfolding if_then_else_ upFrom _⊕_ size double times mul dot gf2 flatMap
     any all only same zeros vanish first rest bitsOf sumsOf options before choices loose dependent fillings fillBy fill
     allOnes bitChecks locations1 plan1 known planOf noLevel levelOf checksTo rowAt marksAt
     firstFailed unasked inMemory marksFit allBelow unmarkedBelow symbolsFit sumsAt sumsFit levelFits benchRefusal
-    fresh stepped unlessRefused rowFill putRow rowStepBy rowStep lossy across join joined levelFill keepSums raise levelStepBy levelStep
+    fresh stepped unlessRefused rowFill putRow rowStepBy rowStep lossy across checkFill isNone vectorIn levelFill keepSums raise levelStepBy levelStep
     more afterRow afterLevel takeTurn goOn turns exampleStripe exampleMarks exampleAfter exampleEnd exampleRound beside oneOfEach
 goes-on = refl
 

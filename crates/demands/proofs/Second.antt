@@ -23,7 +23,7 @@ use Rattle.demands.specs.Words.{Codeword, Agree, Fit}
 use Rattle.demands.specs.Second.{IsRestored, RestoredMeans, ClashMeans, StuckMeans}
 use Rattle.demands.proofs.Held.{Held, rowTied, levelTied, wordSums, held-level, level-finds}
 use Rattle.demands.proofs.Left.{none-lossy, agrees-left, is-restored, not-refused, report-turn, stripe-turn, marks-turn, clash-turn}
-use Rattle.demands.proofs.Rounds.{Out, mended-out}
+use Rattle.demands.proofs.Rounds.{settled-tied, Out, mended-out}
 
 pub restored-means : RestoredMeans
 unfolding if_then_else_ turnReport endReport bare turnStripe turnMarks
@@ -96,7 +96,7 @@ restores p X stripe marks word fit agree none-tied = go (mended p stripe marks) 
             → (getD (b .marks) r 0 ≡ 0) ⊎ ((getD (b .marks) r 0 ≡ getD marks r 0) × T (rowTied p (b .level) (b .marks) r))
         rows r l =
             elim (h .settled r l) [
-              | inl t ↦ elim (h .reached .words r l) [ inl z ↦ inl z | inr w ↦ inr (w, t) ]
+              | inl t ↦ elim (h .reached .words r l) [ inl z ↦ inl z | inr w ↦ inr (w, settled-tied p b r t) ]
               | inr s ↦ inl (s .0)
             ]
 

@@ -2,7 +2,7 @@
 use mathlib.Core.Path.{_≡_, refl, sym, ap, ap₂, _∙_, subst, subst₂}
 use mathlib.Core.Logic.{inl, inr}
 use mathlib.Core.Bool.{Bool, true, false, _&&_}
-use mathlib.Core.List.{List, [], _∷_, _++_, map}
+use mathlib.Core.List.{List, [], _∷_, _++_}
 use Prim.Native.Nat.{ℕ, zero, suc, _+_, _*_, _-_, _<_, _≤_}
 use native.Mathlib.Nat.{eq-zero-or-pos}
 use native.Mathlib.Omega.{arith}
@@ -13,15 +13,15 @@ use Rattle.field.specs.Lists.{if_then_else_}
 use Rattle.field.specs.Field.{dot}
 use Rattle.linear.specs.Lists.{zeros}
 use Rattle.linear.specs.Marks.{bitsOf}
-use Rattle.linear.specs.Fill.{Fill, tied, none, one}
+use Rattle.linear.specs.Fill.{dependent, Fill, none, tied, one, vectorIn}
 use Rattle.linear.proofs.Choices.{Alike}
 use Rattle.linear.proofs.Filling.{fill-alike}
 use Rattle.plans.specs.Plan.{Plan, Level, known, planOf, levelOf, checksTo, rowAt, marksAt, marksOf, across}
 use Rattle.plans.specs.Answers.{answerNumber, reportValues}
 use Rattle.plans.specs.Refusal.{unasked, inMemory, marksFit, sumsAt, sumsFit, levelFits, lentRefusal, benchRefusal}
-use Rattle.steps.specs.Steps.{fresh, empty, startedBy, started, stepped, unlessRefused, rowFill, putRow, rowStepBy, rowStep, lossy, Learned, blocked, failing, learned, joined, levelFill, raise, levelStepBy, levelStep}
+use Rattle.steps.specs.Steps.{fresh, empty, startedBy, started, stepped, unlessRefused, rowFill, putRow, rowStepBy, rowStep, lossy, checkFill, Learned, failing, blocked, learned, levelFill, raise, levelStepBy, levelStep}
 use Rattle.steps.specs.Rounds.{Standing, Turn, on, end, clash, more, nextRow, afterRow, afterLevel, takeTurn, goOn, turns}
-use Rattle.repair.specs.Mending.{mended, rowsLeft, endReport, turnReport, turnStripe, turnMarks, bare, mendReport, mendStripe, mendMarks}
+use Rattle.repair.specs.Mending.{mended, rowsLeft, endReport, turnReport, turnStripe, turnMarks, bare, mendStripe, mendMarks}
 use Rattle.repair.specs.Text.{item, grid, answerText, mendText}
 use Rattle.steps.specs.Learned.{benchOf}
 use Rattle.steps.specs.Walk.{standingOf}
@@ -34,7 +34,8 @@ use Rattle.plans.specs.declared.Report.{Report}
 use Rattle.plans.specs.declared.Answer.the-variants.{Refused as Unmended}
 use Rattle.plans.proofs.Rows.{of-rows, row-other, marks-length}
 use Rattle.steps.proofs.Fit.{BenchFit, lent-fit, bench-fit, fresh-mark, fresh-row}
-use Rattle.steps.proofs.Sound.{totalFill, filled-row}
+use Rattle.steps.proofs.Passing.{ends}
+use Rattle.steps.proofs.Sound.{filled-row}
 use Rattle.demands.specs.Words.{Fit, onRow, onLevel}
 use Rattle.demands.specs.Silence.{SameUnmarked, SameButMarks, SameStart, SilentStart, SameStep, SilentRowStep, SilentLevelStep, SilentWalk, SameMending, SilentMending, SilentText}
 use Rattle.demands.proofs.Alike.{alike-refl, alike-unmarked, rows-agree, clear-unmarked}
@@ -144,10 +145,10 @@ module _ (b : Bench) (t : List ℕ) (h : SameUnmarked (b .plan) (b .marks) (b .s
       (omega (arith, row-le P t r, marks-length P (b .marks) r)) (rows-alike (b .plan) (b .marks) s t h r l)
 
   level-fill-same : levelFill b ≡ levelFill c
-  unfolding levelFill across lossy
-  level-fill-same = ap (λ f. joined (map f (L .checks))) (λ i x. total x i)
+  unfolding levelFill checkFill across lossy
+  level-fill-same = ap (λ (f : List ℕ → Fill). ends f (λ x. vectorIn (f x)) (dependent (P .field) (L .weights) (lossy P (b .marks))) (L .checks)) (λ i x. total x i)
     where
-      total : (x : List ℕ) → totalFill b L x ≡ totalFill c L x
+      total : (x : List ℕ) → checkFill b x ≡ checkFill c x
       total x =
           fill-alike (P .field) (L .weights) (zeros (L .weights)) (lossy P (b .marks)) (across P s x) (across P t x)
           (alike-up (λ r. eqb (getD (b .marks) r 0) 0) (λ r. dot (P .field) x (rowAt P s r)) (λ r. dot (P .field) x (rowAt P t r)) 0 (P .rows)

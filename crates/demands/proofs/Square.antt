@@ -3,33 +3,20 @@ use mathlib.Core.Path.{_≡_, refl, sym, ap, _∙_, subst}
 use mathlib.Core.Bool.{Bool}
 use mathlib.Core.List.{List, [], _∷_, map}
 use Prim.Native.Nat.{ℕ, suc}
-use lib.Dec.{T, T-not, ltb, ltb→lt, lt→ltb}
+use lib.Dec.{T, T-not}
 use lib.ListN.{length}
 use Rattle.field.specs.Field.{Field, size}
-use Rattle.field.proofs.Laws.{IsField, size-pos}
-use Rattle.field.proofs.Test.{both-left, both-right, both}
+use Rattle.field.proofs.Laws.{IsField}
 use Rattle.field.proofs.Words.{EachBelow}
-use Rattle.linear.specs.Lists.{all, zeros, vanish, plus}
+use Rattle.linear.specs.Lists.{zeros, vanish, plus}
 use Rattle.linear.specs.Fill.{sumsOf}
 use Rattle.linear.proofs.Choices.{areSymbols}
+use Rattle.linear.proofs.Spread.{symbols-fit}
 use Rattle.linear.proofs.Filling.{Dependency, Independent, independent-of, Filling}
-use Rattle.demands.proofs.Marked.{marked, agrees-fit}
-use Rattle.demands.proofs.Codewords.{sums-count}
-use Rattle.demands.proofs.Matrix.{picked, put, product, identity, undone, put-agrees, agrees-put, picked-fit, picked-length, put-vanish}
-use Rattle.demands.proofs.Matrix.{sums-put, sums-picked, sums-vanish, sums-fit, plus-fit, plus-length, plus-undo}
-
--- ---- symbols
-
-pub symbols-fit : (F : Field) (v : List ℕ) → T (areSymbols F v) → EachBelow (size F) v
-unfolding all
-symbols-fit F [] t = tt
-symbols-fit F (x ∷ v) t =
-    (ltb→lt x (size F) (both-left (ltb x (size F)) (areSymbols F v) t), symbols-fit F v (both-right (ltb x (size F)) (areSymbols F v) t))
-
-pub zeros-symbols : (F : Field) → IsField F → {A : Type 0} (l : List A) → T (areSymbols F (zeros l))
-unfolding all zeros
-zeros-symbols F K [] = tt
-zeros-symbols F K (x ∷ l) = both (ltb 0 (size F)) (areSymbols F (zeros l)) (lt→ltb 0 (size F) (size-pos F K)) (zeros-symbols F K l)
+use Rattle.linear.proofs.Vectors.{sums-count, plus-length}
+use Rattle.linear.proofs.Weights.{marked, agrees-fit}
+use Rattle.linear.proofs.Picked.{picked, put, put-agrees, agrees-put, picked-fit, picked-length, put-vanish, sums-put, sums-picked, sums-vanish, sums-fit, plus-fit, plus-undo}
+use Rattle.demands.proofs.Matrix.{product, identity, undone}
 
 pub zeros-length : {A : Type 0} (l : List A) → length (zeros l) ≡ length l
 unfolding zeros

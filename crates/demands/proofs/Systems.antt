@@ -17,11 +17,12 @@ use Rattle.field.proofs.Fields.{gf2-field, gf16-field}
 use Rattle.field.proofs.Words.{Each}
 use Rattle.linear.specs.Lists.{only, first, rest}
 use Rattle.linear.specs.Marks.{bitsOf}
+use Rattle.linear.proofs.Picked.{picked}
 use Rattle.plans.specs.Plan.{Plan, allOnes, bitChecks, wordOf, locations1, plan1, locations2, powers2, plan2, locations3, powers3, plan3}
 use Rattle.plans.specs.Plan.{noPlan, planOf, levelOf, checksTo, marksAt}
 use Rattle.repair.proofs.Samples.{rowOf}
 use Rattle.demands.proofs.Lists.{in-below, each-in}
-use Rattle.demands.proofs.Matrix.{picked, combine, product, identity}
+use Rattle.demands.proofs.Matrix.{combine, product, identity}
 use Rattle.demands.proofs.Square.{Square, Inverts, square}
 
 -- ---- the inverses: a row of symbols for each marked place

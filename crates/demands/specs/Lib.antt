@@ -3,6 +3,7 @@ pub mod Words
 pub mod Second
 pub mod Leaving
 pub mod Stopping
+pub mod Tied
 pub mod Third
 pub mod Fewer
 pub mod Silence

@@ -1,36 +1,33 @@
 -- The gathered system answers `fill`: its solutions are the fillings, and its dependencies those of the marked columns. Assumes nothing.
 use Prim.Native.Nat.{ℕ, _^_, _<_}
 use mathlib.Core.Path.{_≡_, refl, sym, ap, ap₂, _∙_, subst}
-use mathlib.Core.Bool.{Bool, true, false, true≢false}
+use mathlib.Core.Bool.{Bool, true, false}
 use mathlib.Core.Logic.{_≢_}
 use mathlib.Core.List.{List}
-use native.Mathlib.Nat.{le-of-eq, lt-of-lt-of-le}
+use native.Mathlib.Nat.{le-of-eq}
 use native.Mathlib.Decide.{ℕ-discrete}
 use native.Mathlib.Omega.{arith}
-use lib.Count.{ones}
 use lib.Dec.{T, not-T, T-not}
 use lib.ListN.{length}
-use lib.Pow.{pow-mono}
 use lib.Seq.{ext-getD}
-use Rattle.field.specs.Field.{Field, _⊕_, size, mul}
+use Rattle.field.specs.Field.{Field, _⊕_, mul}
 use Rattle.field.proofs.Sum.{⊕-comm, ⊕-undo, zero-⊕}
 use Rattle.field.specs.Ours.{fieldOf}
 use Rattle.field.proofs.Laws.{IsField, mul-zero}
 use Rattle.field.proofs.Fields.{our-field}
 use Rattle.linear.specs.Lists.{same, zeros, vanish}
-use Rattle.linear.specs.Fill.{sumsOf, tied, none, one, fill}
+use Rattle.linear.specs.Fill.{sumsOf, none, tied, one, fill}
 use Rattle.systems.specs.System.{vec, Matrix, ent, inner, Elements, Ker, Solves, Consistency, Dependence}
-use Rattle.systems.specs.Words.{bitAt}
-use Rattle.linear.specs.Marks.{Fillable, rowsOf, bitsOf, fillOf, answerOf, vectorOf, Places, hidden, Gathered, scattered}
+use Rattle.basis.specs.Words.{bitAt}
+use Rattle.linear.specs.Marks.{rowsOf, bitsOf, fillOf, answerOf, vectorOf, Places, hidden, Gathered, scattered}
 use Rattle.linear.specs.declared.FillAnswer.{FillAnswer}
 use Rattle.linear.specs.declared.FillAnswer.the-variants.{Tied, None, One}
 use Rattle.linear.proofs.Tests.{same→eq, same-refl}
-use Rattle.linear.proofs.Filling.{Dependency, Independent, independent-of, Filling, fill-tied, fill-none, fill-one}
+use Rattle.linear.proofs.Filling.{Dependency, Independent, independent-of, Filling, fill-none, fill-tied, fill-one}
 use Rattle.linear.proofs.Choices.{Agrees}
-use Rattle.systems.proofs.Inner.{put, put-same, put-other, inner-same, inner-zero, inner-lt, inner-split}
+use Rattle.systems.proofs.Inner.{inner-same, inner-zero, inner-split}
 use Rattle.linear.proofs.Flat.{length-sums, sums-at, sums-are}
-use Rattle.linear.proofs.Words.{bit-bound, bit-of-none, places-of}
-use Rattle.systems.proofs.Wide.{Loose, wide-loose}
+use Rattle.basis.proofs.Bits.{bit-bound, bit-of-none}
 use Rattle.linear.proofs.Columns.{hidden-marked, hidden-unmarked, length-scattered, scattered-at, scattered-off}
 use Rattle.linear.proofs.Marked.{zeros-at, length-zeros, vanish-at, vanish-of, length-bits, agrees-size, agrees-marked, agrees-unmarked, agrees-bits}
 
@@ -160,14 +157,17 @@ module _ (F : Field) (K : IsField F) (m n : ℕ) (checks target v : List ℕ) (m
 
   -- ---- the answer
 
-  pub answer-tied : (z : ℕ → ℕ) → Dependence F M m k true z → fill F (rowsOf m n checks) target (bitsOf n marks) v ≡ tied
+  pub answer-none : (x : ℕ → ℕ) → Consistency F M m k false x → fill F (rowsOf m n checks) target (bitsOf n marks) v ≡ none
   unfolding ms rows
-  answer-tied z D = let d = D .dependency refl in fill-tied F rows target ms v (ker-dependency z (d .0) (d .1 .0) (d .1 .1) (d .1 .2) (d .2))
+  answer-none x C = fill-none F rows target ms v (λ w f. C .none refl (λ t. vec w (at t)) (filling-solves w f))
 
-  pub answer-none : (x z : ℕ → ℕ) → Dependence F M m k false z → Consistency F M m k false x
-      → fill F (rowsOf m n checks) target (bitsOf n marks) v ≡ none
+  pub answer-tied : (x z : ℕ → ℕ) → Dependence F M m k true z → Consistency F M m k true x
+      → fill F (rowsOf m n checks) target (bitsOf n marks) v ≡ tied
   unfolding ms rows
-  answer-none x z D C = fill-none F rows target ms v (independent z D) (λ w f. C .none refl (λ t. vec w (at t)) (filling-solves w f))
+  answer-tied x z D C =
+      let d = D .dependency refl in
+      let s = C .solution refl in
+      fill-tied F rows target ms v (ker-dependency z (d .0) (d .1 .0) (d .1 .1) (d .1 .2) (d .2)) (solves-filling x (s .0) (s .1))
 
   pub answer-one : (x z : ℕ → ℕ) → Dependence F M m k false z → Consistency F M m k true x
       → fill F (rowsOf m n checks) target (bitsOf n marks) v ≡ one (scattered v at x k)
@@ -182,27 +182,23 @@ Answer q checks target v marks r w = (r ≡ answerOf (fillOf q checks target v m
 
 -- what the two answers of the system say of `fill`, where `filled` has its solution at the marked places
 pub record Outcomes (q : ℕ) (checks target v : List ℕ) (marks : ℕ) (dependent consistent : Bool) (filled : List ℕ) : Type 0 where
-  pub tied : dependent ≡ true → Answer q checks target v marks Tied v
-  pub none : dependent ≡ false → consistent ≡ false → Answer q checks target v marks None v
-  pub one : dependent ≡ false → consistent ≡ true → Answer q checks target v marks One filled
+  pub none : consistent ≡ false → Answer q checks target v marks None v
+  pub tied : consistent ≡ true → dependent ≡ true → Answer q checks target v marks Tied v
+  pub one : consistent ≡ true → dependent ≡ false → Answer q checks target v marks One filled
 
 pub outcomes : (q : ℕ) (checks target v : List ℕ) (marks k : ℕ) (places : List ℕ) (M : Matrix) (dependent consistent : Bool) (x z : ℕ → ℕ)
     → Places marks k (vec places) → marks < 2 ^ length v
     → Gathered (fieldOf q) checks target (hidden marks v) (length v) k (vec places) M (length target)
-    → Dependence (fieldOf q) M (length target) k dependent z → (dependent ≡ false → Consistency (fieldOf q) M (length target) k consistent x)
+    → Dependence (fieldOf q) M (length target) k dependent z → Consistency (fieldOf q) M (length target) k consistent x
     → Outcomes q checks target v marks dependent consistent (scattered v (vec places) x k)
 unfolding fillOf answerOf vectorOf
 outcomes q checks target v marks k places M dependent consistent x z P fit G D C = record {
-  tied = λ d.
-      let e = answer-tied _ (our-field q) _ _ checks target v marks k _ _ M P fit G hole seen refl refl z (rw d at D) in (rw e, rw e);
-  none = λ d c.
-      let e = answer-none _ (our-field q) _ _ checks target v marks k _ _ M P fit G hole seen refl refl x z
-      (rw d at D) (rw c at (C d)) in
-      (rw e, rw e);
-  one = λ d c.
-      let e = answer-one _ (our-field q) _ _ checks target v marks k _ _ M P fit G hole seen refl refl x z
-      (rw d at D) (rw c at (C d)) in
-      (rw e, rw e);
+  none = λ c.
+      let e = answer-none _ (our-field q) _ _ checks target v marks k _ _ M P fit G hole seen refl refl x (rw c at C) in (rw e, rw e);
+  tied = λ c d.
+      let e = answer-tied _ (our-field q) _ _ checks target v marks k _ _ M P fit G hole seen refl refl x z (rw d at D) (rw c at C) in (rw e, rw e);
+  one = λ c d.
+      let e = answer-one _ (our-field q) _ _ checks target v marks k _ _ M P fit G hole seen refl refl x z (rw d at D) (rw c at C) in (rw e, rw e);
 }
   where
     hole : (t : ℕ) → t < k → hidden marks v (vec places t) ≡ 0
@@ -210,44 +206,6 @@ outcomes q checks target v marks k places M dependent consistent x z P fit G D C
 
     seen : (c : ℕ) → c < length v → bitAt marks c ≢ 1 → hidden marks v c ≡ vec v c
     seen c l = hidden-unmarked marks v c
-
--- more marks than target sums: the marked columns are dependent, whatever their coefficients
-module _ (q : ℕ) (checks target v : List ℕ) (marks : ℕ) (fit : Fillable q checks target v marks) (wide : length target < ones marks) where
-  n : ℕ
-  n = length v
-
-  listed : (at : ℕ → ℕ) × Places marks (ones marks) at
-  listed = places-of marks (length v) (fit .within) (lt-of-lt-of-le (fit .within) (pow-mono (fit .narrow)))
-
-  -- the system as it would be gathered
-  system : Matrix
-  system i = put (λ t. ent checks n i (listed .0 t)) (ones marks) (vec target i ⊕ inner (fieldOf q) (ent checks n i) (hidden marks v) n)
-
-  gathered : Gathered (fieldOf q) checks target (hidden marks v) n (ones marks) (listed .0) system (length target)
-  unfolding system
-  gathered = record { coefficient = λ i _ t l. put-other _ (ones marks) _ t (omega arith); remainder = λ i _. put-same _ (ones marks) _ }
-
-  system-lt : (i j : ℕ) → system i j < size (fieldOf q)
-  unfolding system
-  system-lt i j = elim (ℕ-discrete j (ones marks)) [
-    | yes e ↦
-        rw (e, put-same (λ t. ent checks n i (listed .0 t)) (ones marks) (vec target i ⊕ inner (fieldOf q) (ent checks n i) (hidden marks v) n))
-        (our-field q .sum-lt _ _ (fit .sums i) (inner-lt (fieldOf q) (our-field q) _ _ n))
-    | no ne ↦
-        rw (put-other (λ t. ent checks n i (listed .0 t)) (ones marks) (vec target i ⊕ inner (fieldOf q) (ent checks n i) (hidden marks v) n) j ne)
-        (fit .coefficients _)
-  ]
-
-  loose : Loose (fieldOf q) (our-field q) system (length target) (ones marks)
-  loose = wide-loose (fieldOf q) (our-field q) (ones marks) (length target) system wide system-lt
-
-  pub wide-tied : Answer q checks target v marks Tied v
-  unfolding fillOf answerOf vectorOf n
-  wide-tied =
-      let e = answer-tied (fieldOf q) (our-field q) (length target) (length v) checks target v marks (ones marks) (listed .0) (hidden marks v) system
-      (listed .1) (fit .within) gathered (λ t l. hidden-marked marks v _ (listed .1 .marked t l)) (λ c _. hidden-unmarked marks v c) refl refl
-      (loose .0) record { dependency = λ _. (loose .1, loose .2, loose .3); none = λ e. absurd (true≢false e) } in
-      (rw e, rw e)
 
 module _ (q : ℕ) (checks target v : List ℕ) (marks : ℕ) (free : marks ≡ 0) where
   no-bit : (c : ℕ) → bitAt marks c ≢ 1
@@ -278,7 +236,7 @@ module _ (q : ℕ) (checks target v : List ℕ) (marks : ℕ) (free : marks ≡ 
   pub unmarked-none : false ≡ same (sumsOf (fieldOf q) (rowsOf (length target) (length v) checks) v) target → Answer q checks target v marks None v
   unfolding fillOf answerOf vectorOf rows-of bits-of
   unmarked-none e =
-      let f = fill-none (fieldOf q) rows-of target bits-of v no-columns (λ w g.
+      let f = fill-none (fieldOf q) rows-of target bits-of v (λ w g.
       absurd (subst T (sym e) (subst (λ l. T (same (sumsOf (fieldOf q) rows-of l) target)) (only-self w (g .agrees))
       (subst (λ l. T (same (sumsOf (fieldOf q) rows-of w) l)) (g .meets) (same-refl _))))) in
       (rw f, rw f)

@@ -8,7 +8,7 @@ use lib.Dec.{eqb}
 use lib.ListN.{length, getD, take, drop}
 use lib.Seq.{drop-nil, drop-drop, getD-drop}
 use Rattle.field.specs.Lists.{upFrom}
-use Rattle.systems.specs.Words.{bitAt}
+use Rattle.basis.specs.Words.{bitAt}
 use Rattle.linear.specs.Lists.{first, rest, beside}
 use Rattle.linear.specs.Marks.{bitsOf}
 use Rattle.linear.proofs.Choices.{Alike, getD-first, getD-rest}

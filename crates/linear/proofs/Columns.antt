@@ -13,7 +13,7 @@ use lib.Seq.{getD-set-same, getD-set-other}
 use Rattle.field.specs.Lists.{if_then_else_}
 use Rattle.field.specs.Field.{Field, _⊕_, size, mul}
 use Rattle.systems.specs.System.{vec, Matrix, ent, inner}
-use Rattle.systems.specs.Words.{bitAt}
+use Rattle.basis.specs.Words.{bitAt}
 use Rattle.linear.specs.Marks.{Places, hidden, Copied, Gathered, scattered}
 use Rattle.systems.proofs.Rows.{row-fits}
 use Rattle.systems.proofs.Inner.{inner-same}

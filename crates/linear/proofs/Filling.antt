@@ -84,8 +84,8 @@ pub record Filling (F : Field) (checks : List (List ℕ)) (target : List ℕ) (m
 module _ (F : Field) (checks : List (List ℕ)) (target : List ℕ) (ms : List Bool) (v : List ℕ) where
   -- what each answer says
   abbrev pub Means : Fill → Type 0
-  Means tied = (w : List ℕ) × Dependency F checks ms w
-  Means none = Independent F checks ms × ((z : List ℕ) → Filling F checks target ms v z → ⊥)
+  Means none = (z : List ℕ) → Filling F checks target ms v z → ⊥
+  Means tied = ((w : List ℕ) × Dependency F checks ms w) × ((z : List ℕ) × Filling F checks target ms v z)
   Means (one y) =
       Independent F checks ms × Filling F checks target ms v y × ((z : List ℕ) → Filling F checks target ms v z → z ≡ y)
 
@@ -119,39 +119,42 @@ module _ (F : Field) (checks : List (List ℕ)) (target : List ℕ) (ms : List B
   unfolding fill fillBy
   fill-means = go (dependent F checks ms) refl (fillings F checks target ms v) refl
     where
+      listed : (y : List ℕ) (l : List (List ℕ)) → fillings F checks target ms v ≡ y ∷ l → Filling F checks target ms v y
+      listed y l q = fillings-in (subst (λ l. In y l) (sym q) (List·Memᴰ·head refl))
+
+      unlisted : fillings F checks target ms v ≡ [] → (z : List ℕ) → Filling F checks target ms v z → ⊥
+      unlisted q z f = List·Memᴰ·not-nil (subst (λ l. In z l) q (in-fillings f))
+
       go : (b : Bool) → dependent F checks ms ≡ b → (l : List (List ℕ)) → fillings F checks target ms v ≡ l → Means (fillBy b l)
-      go true e l q = dependent-in F checks ms (subst T (sym e) tt)
-      go false e [] q = (
-        subst (λ b. T (not b)) (sym e) tt,
-        λ z f. List·Memᴰ·not-nil (subst (λ l. In z l) q (in-fillings f)),
-      )
+      go true e [] q = unlisted q
+      go false e [] q = unlisted q
+      go true e (y ∷ l) q = (dependent-in F checks ms (subst T (sym e) tt), (y, listed y l q))
       go false e (y ∷ l) q =
           let i : Independent F checks ms = subst (λ b. T (not b)) (sym e) tt in
-          let f = fillings-in (subst (λ l. In y l) (sym q) (List·Memᴰ·head refl)) in
+          let f = listed y l q in
           (i, f, λ z g. at-most-one i g f)
 
   -- at most one answer means what holds
   means-unique : (r s : Fill) → Means r → Means s → r ≡ s
-  means-unique tied tied m n = refl
-  means-unique tied none m n = absurd (no-dependency F checks ms (n .0) (m .1))
-  means-unique tied (one z) m n = absurd (no-dependency F checks ms (n .0) (m .1))
-  means-unique none tied m n = absurd (no-dependency F checks ms (m .0) (n .1))
   means-unique none none m n = refl
-  means-unique none (one z) m n = absurd (m .1 z (n .1))
-  means-unique (one y) tied m n = absurd (no-dependency F checks ms (m .0) (n .1))
-  means-unique (one y) none m n = absurd (n .1 y (m .1))
+  means-unique none tied m n = absurd (m (n .1 .0) (n .1 .1))
+  means-unique none (one z) m n = absurd (m z (n .1))
+  means-unique tied none m n = absurd (n (m .1 .0) (m .1 .1))
+  means-unique tied tied m n = refl
+  means-unique tied (one z) m n = absurd (no-dependency F checks ms (n .0) (m .0 .1))
+  means-unique (one y) none m n = absurd (n y (m .1))
+  means-unique (one y) tied m n = absurd (no-dependency F checks ms (m .0) (n .0 .1))
   means-unique (one y) (one z) m n = ap one (n .2 y (m .1))
 
   -- the answer is whichever says what holds
   pub fill-is : (r : Fill) → Means r → fill F checks target ms v ≡ r
   fill-is r m = means-unique (fill F checks target ms v) r fill-means m
 
-  pub fill-tied : {w : List ℕ} → Dependency F checks ms w → fill F checks target ms v ≡ tied
-  fill-tied {w} d = fill-is tied (w, d)
+  pub fill-none : ((z : List ℕ) → Filling F checks target ms v z → ⊥) → fill F checks target ms v ≡ none
+  fill-none h = fill-is none h
 
-  pub fill-none : Independent F checks ms → ((z : List ℕ) → Filling F checks target ms v z → ⊥)
-      → fill F checks target ms v ≡ none
-  fill-none i h = fill-is none (i, h)
+  pub fill-tied : {w y : List ℕ} → Dependency F checks ms w → Filling F checks target ms v y → fill F checks target ms v ≡ tied
+  fill-tied {w} {y} d f = fill-is tied ((w, d), (y, f))
 
   pub fill-one : {y : List ℕ} → Independent F checks ms → Filling F checks target ms v y → fill F checks target ms v ≡ one y
   fill-one {y} i f = fill-is (one y) (i, f, λ z g. at-most-one i g f)
@@ -169,5 +172,6 @@ pub fill-true : (F : Field) (checks : List (List ℕ)) (ms : List Bool) (v x : L
     → Alike ms v x → length x ≡ length ms → T (areSymbols F x)
     → fill F checks (sumsOf F checks x) ms v ≡ (if dependent F checks ms then tied else one x)
 fill-true F checks ms v x a l t =
-    if-cases (dependent F checks ms) (λ d. fill-tied F checks (sumsOf F checks x) ms v (dependent-in F checks ms d .1))
-    (λ i. fill-one F checks (sumsOf F checks x) ms v i record { agrees = alike-agrees F ms v x a l t; meets = refl })
+    let f : Filling F checks (sumsOf F checks x) ms v x = record { agrees = alike-agrees F ms v x a l t; meets = refl } in
+    if-cases (dependent F checks ms) (λ d. fill-tied F checks (sumsOf F checks x) ms v (dependent-in F checks ms d .1) f)
+    (λ i. fill-one F checks (sumsOf F checks x) ms v i f)

@@ -17,7 +17,7 @@ use Rattle.field.proofs.Test.{both-left, both-right, both}
 use Rattle.field.proofs.Lists.{length-up, getD-map-below}
 use Rattle.linear.specs.Lists.{all, zeros, vanish, rest}
 use Rattle.systems.specs.System.{vec, Elements}
-use Rattle.systems.specs.Words.{bitAt}
+use Rattle.basis.specs.Words.{bitAt}
 use Rattle.linear.specs.Marks.{bitsOf}
 use Rattle.linear.proofs.Choices.{Allowed, Agrees, areSymbols, getD-first, getD-rest, agrees-length}
 

@@ -1,12 +1,12 @@
 -- The sum of two vectors, and the sums of vectors under checks. Assumes nothing.
 use mathlib.Core.Path.{_≡_, refl, sym, ap, ap₂, _∙_, subst}
 use mathlib.Core.Bool.{Bool, true, false}
-use mathlib.Core.List.{List, [], _∷_, _++_, map, map-append}
+use mathlib.Core.List.{List, [], _∷_, _++_, map, map-append, Memᴰ·map}
 use Prim.Native.Nat.{ℕ, zero, suc}
 use native.Mathlib.Nat.{suc-inj}
 use native.Mathlib.Omega.{arith}
 use lib.Dec.{T, eqb, eqb→eq}
-use lib.ListN.{length, getD, replicate}
+use lib.ListN.{length, getD, replicate, length-map}
 use Rattle.field.specs.Field.{_⊕_, Field, size, mul, dot}
 use Rattle.field.proofs.Sum.{⊕-self, ⊕-zero, zero-⊕, ⊕-four, ⊕-cancel, ⊕-lt}
 use Rattle.field.proofs.Test.{both-left, both-right, both}
@@ -14,7 +14,7 @@ use Rattle.field.proofs.Ring.{mul-comm, ⊕-mul}
 use Rattle.field.proofs.Laws.{IsField, zero-mul, mul-zero, mul-⊕}
 use Rattle.linear.specs.Lists.{all, zeros, vanish, first, rest, plus}
 use Rattle.linear.specs.Fill.{sumsOf}
-use Rattle.linear.proofs.Tests.{all-left}
+use Rattle.linear.proofs.Tests.{In, all-in, all-left}
 use Rattle.linear.proofs.Choices.{Allowed, Agrees}
 
 pub plus-length : (a b : List ℕ) → length a ≡ length b → length (plus a b) ≡ length b
@@ -60,6 +60,10 @@ module _ (F : Field) where
       ap₂ _⊕_ (mul-comm F c (y ⊕ z) ∙ ⊕-mul F y z c ∙ ap₂ _⊕_ (mul-comm F y c) (mul-comm F z c)) (dot-plus cs ys zs)
       ∙ ⊕-four (mul F c y) (mul F c z) (dot F cs ys) (dot F cs zs)
 
+  pub sums-count : (cs : List (List ℕ)) (v : List ℕ) → length (sumsOf F cs v) ≡ length cs
+  unfolding sumsOf
+  sums-count cs v = length-map cs (λ c. dot F c v)
+
   pub sums-plus : (checks : List (List ℕ)) (y z : List ℕ) → sumsOf F checks (plus y z) ≡ plus (sumsOf F checks y) (sumsOf F checks z)
   unfolding sumsOf
   sums-plus [] y z = refl
@@ -78,6 +82,11 @@ module _ (F : Field) where
   pub sums-fewer : (cs ds : List (List ℕ)) (w : List ℕ) → T (vanish (sumsOf F (cs ++ ds) w)) → T (vanish (sumsOf F cs w))
   unfolding vanish
   sums-fewer cs ds w t = all-left (λ x. eqb x 0) (sumsOf F cs w) (sumsOf F ds w) (rw (sums-append cs ds w) at t)
+
+  -- each sum of a vector whose sums vanish is 0
+  pub sum-zero : (checks : List (List ℕ)) (w c : List ℕ) → T (vanish (sumsOf F checks w)) → In c checks → dot F c w ≡ 0
+  unfolding sumsOf vanish
+  sum-zero checks w c t m = eqb→eq (dot F c w) 0 (all-in (λ x. eqb x 0) (sumsOf F checks w) t (Memᴰ·map (λ c. dot F c w) m))
 
   plus-allowed : (m : Bool) (x y z : ℕ) → Allowed F m x y → Allowed F m x z → Allowed F m 0 (y ⊕ z)
   unfolding size

@@ -1,75 +1,17 @@
--- The bits of mark words: the lowest set bit, and the loop that lists them all. Assumes nothing.
-use mathlib.Core.Path.{_≡_, refl, sym, ap, _∙_, subst}
+-- The marked columns, as the set bits of a mark word: `list_places`, from each to the next. Assumes nothing.
+use mathlib.Core.Path.{_≡_, sym, ap, _∙_}
 use mathlib.Core.Logic.{_≢_}
-use Prim.Native.Nat.{ℕ, zero, suc, _+_, _-_, _/_, _%_, _^_, _≤_, _<_}
-use native.Mathlib.Nat.{add-zero, zero-add, zero-div, div-one, div-eq-of-lt, lt-of-lt-of-le, lt-of-le-of-lt}
-use native.Mathlib.Numerals.{add-one, one-add}
+use Prim.Native.Nat.{ℕ, _+_, _-_, _/_, _^_, _≤_, _<_}
+use native.Mathlib.Nat.{add-zero, div-one, lt-of-le-of-lt}
 use native.Mathlib.Decide.{ℕ-discrete, decLt}
 use native.Mathlib.Omega.{arith}
 use borrow.Author.Count.{below-more}
-use lib.Arith.{lt-one, le-zero}
-use lib.Count.{ones, ones-step, ones-le, trailingZeros, under}
-use lib.Pow.{pow-mono, shr-shr, shr-lt, shr-le}
-use Rattle.field.proofs.Sum.{of-bits, bit}
-use Rattle.systems.specs.Words.{bitAt}
+use lib.Arith.{le-zero}
+use lib.Count.{ones, ones-le, trailingZeros}
+use lib.Pow.{shr-shr, shr-le}
+use Rattle.basis.specs.Words.{bitAt}
+use Rattle.basis.proofs.Bits.{bit-shifted, bit-bound, bit-of-none, Lowest, lowest}
 use Rattle.linear.specs.Marks.{Places}
-use Rattle.systems.proofs.Inner.{put, put-same, put-other}
-
--- bit d of a word that was shifted by c
-bit-shifted : (w c d : ℕ) → bitAt (w / 2 ^ c) d ≡ bitAt w (c + d)
-bit-shifted w c d = ap (λ x. x % 2) (shr-shr w c d)
-
-pub bit-half : (w d : ℕ) → bitAt (w / 2) d ≡ bitAt w (suc d)
-bit-half w d = bit-shifted w 1 d ∙ ap (bitAt w) (one-add d)
-
-pub bit-zero : (w : ℕ) → bitAt w 0 ≡ w % 2
-bit-zero w = ap (λ x. x % 2) (div-one w)
-
--- a set bit stands below any power of two that the word is below
-pub bit-bound : (n w c : ℕ) → w < 2 ^ n → bitAt w c ≡ 1 → c < n
-bit-bound n w c h e = elim (decLt c n) [
-  | yes l ↦ l
-  | no nl ↦
-      let z : w / 2 ^ c ≡ 0 = div-eq-of-lt (lt-of-lt-of-le h (pow-mono (omega arith))) in
-      absurd (omega (arith, ap (λ x. x % 2) z, e))
-]
-
--- 0 has no set bit
-pub bit-of-none : (d : ℕ) → bitAt 0 d ≡ 0
-bit-of-none d = ap (λ x. x % 2) (zero-div (2 ^ d))
-
--- z is the place of the lowest set bit
-pub record Lowest (w z : ℕ) : Type 0 where
-  pub holds : bitAt w z ≡ 1
-  pub below : (d : ℕ) → d < z → bitAt w d ≡ 0
-  pub count : ones w ≡ suc (ones (w / 2 ^ z / 2))
-
-lowest-odd : (w : ℕ) → w % 2 ≡ 1 → Lowest w 0
-lowest-odd w e = record {
-  holds = bit-zero w ∙ e;
-  below = λ d l. absurd (omega arith);
-  count = ones-step w ∙ rw (e, div-one w) (one-add _);
-}
-
-lowest-even : (w z : ℕ) → w % 2 ≡ 0 → Lowest (w / 2) z → Lowest w (suc z)
-lowest-even w z e L = record {
-  holds = sym (bit-half w z) ∙ L .holds;
-  below = below;
-  count = ones-step w ∙ rw (e, L .count, zero-add) (ap (λ x. suc (ones (x / 2))) (shr-shr w 1 z ∙ ap (λ x. w / 2 ^ x) (one-add z)));
-}
-  where
-    below : (d : ℕ) → d < suc z → bitAt w d ≡ 0
-    below zero l = bit-zero w ∙ e
-    below (suc d) l = sym (bit-half w d) ∙ L .below d (omega arith)
-
-pub lowest : (k w : ℕ) → w < 2 ^ k → w ≢ 0 → Lowest w (trailingZeros k w)
-unfolding trailingZeros
-lowest zero w h nz = absurd (nz (lt-one h))
-lowest (suc k) w h nz =
-    of-bits (λ b. w % 2 ≡ b → Lowest w (under b (trailingZeros k (w / 2))))
-    (λ e. lowest-even w (trailingZeros k (w / 2)) e
-    (lowest k (w / 2) (shr-lt k 1 (subst (λ n. w < 2 ^ n) (sym (add-one k)) h)) (λ g. nz (omega arith))))
-    (lowest-odd w) (w % 2) (bit w) refl
 
 no-ones : ones 0 ≡ 0
 no-ones = le-zero (ones-le 0 0 (omega arith))
@@ -158,18 +100,3 @@ module _ (marks rest n k c t : ℕ) (at : ℕ → ℕ) (P : Placing marks rest n
             let g : c + (d - c) ≡ d = omega arith in
             absurd (omega (arith, ap (λ x. bitAt x (d - c)) none, bit-of-none (d - c), rest-bit (d - c), ap (bitAt marks) g, e))
       ]
-
--- the loop without its code: the set bits can be listed
-list-on : (r marks rest n k c t : ℕ) (at : ℕ → ℕ) → marks < 2 ^ n → marks < 2 ^ 32 → r + t ≡ k → Placing marks rest n k c t at
-    → (to : ℕ → ℕ) × Places marks k to
-list-on zero marks rest n k c t at h h32 e P = (at, placing-end marks rest n k c t at P h32 (omega arith))
-list-on (suc r) marks rest n k c t at h h32 e P =
-    let z = trailingZeros 32 rest in
-    let to = put at t (c + z) in
-    list-on r marks (rest / 2 ^ z / 2) n k (c + z + 1) (t + 1) to h h32 (omega arith)
-    (placing-turn marks rest n k c t at P z to h (omega arith) (placing-next marks rest n k c t at P h32 (omega arith))
-    (λ s b. put-other at t (c + z) s (omega arith)) (put-same at t (c + z)))
-
-pub places-of : (marks n : ℕ) → marks < 2 ^ n → marks < 2 ^ 32 → (at : ℕ → ℕ) × Places marks (ones marks) at
-places-of marks n h h32 =
-    list-on (ones marks) marks marks n (ones marks) 0 0 (λ _. 0) h h32 (add-zero _) (placing-start marks n (λ _. 0))

@@ -41,16 +41,27 @@ dependent F checks ms = any (loose F checks) (choices F ms (zeros ms))
 unfoldable pub fillings : Field → List (List ℕ) → List ℕ → List Bool → List ℕ → List (List ℕ)
 fillings F checks target ms v = only (λ w. same (sumsOf F checks w) target) (choices F ms v)
 
--- the marked columns are dependent; they are not, and nothing fills; or this does
+-- nothing fills; something does, and the marked columns are dependent; or this alone does
 pub data Fill : Type 0 where
-  tied : Fill
   none : Fill
+  tied : Fill
   one : List ℕ → Fill
 
 unfoldable pub fillBy : (dependent : Bool) → (fillings : List (List ℕ)) → Fill
-fillBy true ws = tied
-fillBy false [] = none
+fillBy dependent [] = none
+fillBy true (w ∷ ws) = tied
 fillBy false (w ∷ ws) = one w
 
 unfoldable pub fill : Field → List (List ℕ) → List ℕ → List Bool → List ℕ → Fill
 fill F checks target ms v = fillBy (dependent F checks ms) (fillings F checks target ms v)
+
+unfoldable pub isNone : Fill → Bool
+isNone none = true
+isNone tied = false
+isNone (one w) = false
+
+-- the one vector, where there is one
+unfoldable pub vectorIn : Fill → List ℕ
+vectorIn none = []
+vectorIn tied = []
+vectorIn (one w) = w

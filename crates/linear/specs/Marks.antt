@@ -10,11 +10,11 @@ use lib.ListN.{length, getD, take, drop, set}
 use Rattle.field.specs.Lists.{if_then_else_, upFrom}
 use Rattle.field.specs.Field.{Field, _⊕_}
 use Rattle.field.specs.Ours.{fieldOf}
-use Rattle.linear.specs.Fill.{Fill, tied, none, one, fill}
-use Rattle.systems.specs.Words.{bitAt}
+use Rattle.linear.specs.Fill.{Fill, none, tied, one, fill}
+use Rattle.basis.specs.Words.{bitAt}
 use Rattle.systems.specs.System.{vec, Matrix, ent, inner, Elements}
 use Rattle.linear.specs.declared.FillAnswer.{FillAnswer}
-use Rattle.linear.specs.declared.FillAnswer.the-variants.{Tied, None, One}
+use Rattle.linear.specs.declared.FillAnswer.the-variants.{None, Tied, One}
 
 -- ---- the answer
 
@@ -49,14 +49,14 @@ unfoldable pub fillOf : ℕ → List ℕ → List ℕ → List ℕ → ℕ → F
 fillOf q checks target v marks = fill (fieldOf q) (rowsOf (length target) (length v) checks) target (bitsOf (length v) marks) v
 
 unfoldable pub answerOf : Fill → FillAnswer
-answerOf tied = Tied
 answerOf none = None
+answerOf tied = Tied
 answerOf (one w) = One
 
 -- the vector after the answer: filled, or as it was
 unfoldable pub vectorOf : Fill → List ℕ → List ℕ
-vectorOf tied v = v
 vectorOf none v = v
+vectorOf tied v = v
 vectorOf (one w) v = w
 
 -- ---- the steps

@@ -1,16 +1,15 @@
 // Filling the marked places of a vector so that its sums are the target.
-use systems::binary;
 ghost use mathlib.Core.Path.{_≡_};
 ghost use Prim.Native.Nat.{ℕ, _+_, _*_, _^_, _<_, _≤_};
 ghost use lib.ListN.{length};
 ghost use lib.Count.{ones};
-ghost use Rattle.field.specs.Field.{size};
+ghost use Rattle.field.specs.Field.{_⊕_};
 ghost use Rattle.field.specs.Ours.{fieldOf, products};
 ghost use Rattle.linear.specs.Lists.{same};
 ghost use Rattle.linear.specs.Fill.{sumsOf};
 ghost use Rattle.systems.specs.System.{vec, ent, inner, Elements};
+ghost use Rattle.basis.specs.Words.{bitAt};
 ghost use Rattle.linear.specs.Marks.{Fillable, rowsOf, fillOf, answerOf, vectorOf};
-ghost use Rattle.systems.specs.Words.{bitAt, wordRows};
 ghost use Rattle.linear.specs.Marks.{mostChecks, mostColumns, systemRoom, Places, hidden, Copied, Gathered, scattered};
 
 // How many checks and columns `fill` takes at most, and the room that its system takes.
@@ -20,10 +19,10 @@ pub const COLUMNS: usize = 32;
 
 const ROOM: usize = CHECKS * (COLUMNS + 1);
 
-// The marked columns are dependent; they are not, and nothing fills; or the one vector that does is in place.
+// Nothing fills; something does, and the marked columns are dependent; or the one vector that does is in place.
 pub enum FillAnswer {
-    Tied,
     None,
+    Tied,
     One,
 }
 
@@ -228,75 +227,48 @@ fn fill_marked(
         &mut solution[..],
         &mut dependency[..],
     );
-    if s.dependent {
-        return FillAnswer::Tied;
-    }
     if !s.consistent {
         return FillAnswer::None;
+    }
+    if s.dependent {
+        return FillAnswer::Tied;
     }
     scatter(v, &places[..], k, &solution[..]);
     FillAnswer::One
 }
 
-// The coefficients of check i at the k places as the low bits of a word, and `last` above them.
-fn gather_word(checks: &[u8], n: usize, i: usize, places: &[usize], k: usize, last: u8) -> u32
-    requires { ⌜ (i * n + n ≤ length (now checks)) × (k ≤ length (now places)) × (k ≤ mostChecks) ⌝ }
-    requires { ⌜ ((t : ℕ) → t < k → vec (now places) t < n) ⌝ }
-    requires { ⌜ Elements (fieldOf 2) (vec (now checks)) × (last < size (fieldOf 2)) ⌝ }
-    ensures { λ w. ⌜ ((t : ℕ) → t < k → bitAt w t ≡ ent (now (checks .entry)) n i (vec (now (places .entry)) t)) × (bitAt w k ≡ last) ⌝ }
+// What the symbols of `shown` leave of the target, as a word: bit i is that of check i.
+fn gather_need(table: &[u8; 256], checks: &[u8], target: &[u8], shown: &[u8], n: usize) -> u32
+    requires { ⌜ now table ≡ products ⌝ }
+    requires { ⌜ (length (now target) * n ≤ length (now checks)) × (length (now target) ≤ mostChecks) × (n ≤ length (now shown)) ⌝ }
+    requires { ⌜ Elements (fieldOf 2) (vec (now target)) ⌝ }
+    ensures { λ w. ⌜ ((i : ℕ) → i < length (now (target .entry)) → bitAt w i
+        ≡ vec (now (target .entry)) i ⊕ inner (fieldOf 2) (ent (now (checks .entry)) n i) (vec (now (shown .entry))) n) ⌝ }
 {
-    let r = i * n;
-    let mut word = last as u32;
-    let mut t = k;
-    while 0 < t {
-        t -= 1;
-        let p = places[t];
-        word = word * 2 + checks[r + p] as u32;
+    let mut word = 0u32;
+    let mut i = target.len();
+    while 0 < i {
+        i -= 1;
+        let sum = row_sum(2, table, checks, i, shown, n);
+        word = word * 2 + (target[i] ^ sum) as u32;
     }
     word
 }
 
-// Gathers the system of the k places over GF(2), a row to a word.
-fn gather_words(
-    table: &[u8; 256],
-    checks: &[u8],
-    target: &[u8],
-    shown: &[u8],
-    n: usize,
-    places: &[usize],
-    k: usize,
-    rows: &mut [u32],
-)
-    requires { ⌜ now table ≡ products ⌝ }
-    requires { ⌜ (length (now target) * n ≤ length (now checks)) × (length (now target) ≤ length (now rows)) × (k ≤ mostChecks) ⌝ }
-    requires { ⌜ (n ≤ length (now shown)) × (k ≤ length (now places)) × ((t : ℕ) → t < k → vec (now places) t < n) ⌝ }
-    requires { ⌜ Elements (fieldOf 2) (vec (now checks)) × Elements (fieldOf 2) (vec (now target)) ⌝ }
-    ensures { λ _. ⌜ Gathered (fieldOf 2) (now (checks .entry)) (now (target .entry)) (vec (now (shown .entry))) n k (vec (now (places .entry)))
-        (wordRows (now (rows .exit))) (length (now (target .entry))) ⌝ }
-{
-    let mut i = 0;
-    while i < target.len() {
-        let sum = row_sum(2, table, checks, i, shown, n);
-        let word = gather_word(checks, n, i, places, k, target[i] ^ sum);
-        rows[i] = word;
-        i += 1;
-    }
-}
-
-// Writes bit k of the first k rows to the k places.
-fn scatter_bits(v: &mut [u8], places: &[usize], k: usize, rows: &[u32])
-    requires { ⌜ (k ≤ length (now places)) × (k ≤ length (now rows)) × (k ≤ mostChecks) × ((t : ℕ) → t < k → vec (now places) t < length (now v)) ⌝ }
-    ensures { λ _. ⌜ now (v .exit) ≡ scattered (now (v .entry)) (vec (now (places .entry))) (λ t. wordRows (now (rows .entry)) t k) k ⌝ }
+// Writes bit t of a word to place t, for the first k places.
+fn scatter_word(v: &mut [u8], places: &[usize], k: usize, word: u64)
+    requires { ⌜ (k ≤ length (now places)) × (k ≤ mostColumns) × ((t : ℕ) → t < k → vec (now places) t < length (now v)) ⌝ }
+    ensures { λ _. ⌜ now (v .exit) ≡ scattered (now (v .entry)) (vec (now (places .entry))) (bitAt word) k ⌝ }
 {
     let mut t = 0;
     while t < k {
         let p = places[t];
-        v[p] = ((rows[t] >> k) % 2) as u8;
+        v[p] = ((word >> t) % 2) as u8;
         t += 1;
     }
 }
 
-// Fills the marked places over GF(2), by the system of the marked columns with a row to a word.
+// Fills the marked places over GF(2), where the system of the marked columns has a column to a word.
 fn fill_binary(
     table: &[u8; 256],
     checks: &[u8],
@@ -305,39 +277,31 @@ fn fill_binary(
     marks: u32,
 ) -> FillAnswer
     requires { ⌜ now table ≡ products ⌝ }
-    requires { ⌜ Fillable 2 (now checks) (now target) (now v) marks × (ones marks ≤ length (now target)) ⌝ }
+    requires { ⌜ Fillable 2 (now checks) (now target) (now v) marks ⌝ }
     ensures { λ r. ⌜ r ≡ answerOf (fillOf 2 (now (checks .entry)) (now (target .entry)) (now (v .entry)) marks) ⌝ }
     ensures { λ _. ⌜ now (v .exit) ≡ vectorOf (fillOf 2 (now (checks .entry)) (now (target .entry)) (now (v .entry)) marks) (now (v .entry)) ⌝ }
 {
     let m = target.len();
+    let n = v.len();
     let mut places: [usize; COLUMNS] = [0; COLUMNS];
     let mut shown: [u8; COLUMNS] = [0; COLUMNS];
-    let mut rows: [u32; CHECKS] = [0; CHECKS];
     let k = show(marks, &v[..], &mut places[..], &mut shown[..]);
-    gather_words(
-        table,
-        checks,
-        target,
-        &shown[..],
-        v.len(),
-        &places[..],
-        k,
-        &mut rows[..],
-    );
-    if binary::reduce(&mut rows[..], m, k) < k {
-        return FillAnswer::Tied;
-    }
-    if binary::find_row(&rows[..], m, k) < m {
+    let need = gather_need(table, checks, target, &shown[..], n);
+    let answer = basis::span(checks, m, n, &places[..], k, need);
+    if !answer.consistent {
         return FillAnswer::None;
     }
-    scatter_bits(v, &places[..], k, &rows[..]);
+    if answer.dependent {
+        return FillAnswer::Tied;
+    }
+    scatter_word(v, &places[..], k, answer.solution);
     FillAnswer::One
 }
 
 // Fills the marked places of v, in field `q`, so that its sums are the target: for each sum `checks` has a row of coefficients, as
 // many as v has symbols, and bit c of `marks` marks column c. v changes only where the answer is `One`, and no answer depends on
-// what stands under a mark. More columns than checks are dependent. Where nothing is marked the sums are compared; else the system of
-// the marked columns is solved.
+// what stands under a mark. Where nothing is marked the sums are compared; else the system of the marked columns is solved, over GF(2)
+// with a column to a word.
 pub fn fill(
     q: usize,
     table: &[u8; 256],
@@ -351,9 +315,6 @@ pub fn fill(
     ensures { λ r. ⌜ r ≡ answerOf (fillOf q (now (checks .entry)) (now (target .entry)) (now (v .entry)) marks) ⌝ }
     ensures { λ _. ⌜ now (v .exit) ≡ vectorOf (fillOf q (now (checks .entry)) (now (target .entry)) (now (v .entry)) marks) (now (v .entry)) ⌝ }
 {
-    if target.len() < u32::count_ones(marks) as usize {
-        return FillAnswer::Tied;
-    }
     if marks != 0 {
         if q == 2 {
             return fill_binary(table, checks, target, v, marks);

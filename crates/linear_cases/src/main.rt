@@ -63,8 +63,8 @@ fn write_symbols(x: [u8; 5], end: u8) {
 
 fn outcome(o: linear::FillAnswer) -> u8 {
     match o {
-        linear::FillAnswer::Tied => b't',
         linear::FillAnswer::None => b'n',
+        linear::FillAnswer::Tied => b't',
         linear::FillAnswer::One => b'1',
     }
 }
@@ -140,11 +140,73 @@ fn main() {
         [1, 9, 1, 9, 1],
         10,
     );
-    // more marks than checks
+    // more marks than checks, which are independent
     filling(
         16,
         [1, 1, 1, 1, 1, 0, 1, 2, 3, 4, 0, 1, 4, 5, 3],
         [0, 0, 0],
+        [1, 2, 3, 4, 5],
+        31,
+    );
+    // tied rows that nothing fills: the third check is the sum of the others, and the marks stand in equal columns. No vector has the
+    // sums; some have, but none with these symbols where unmarked
+    filling(
+        2,
+        [1, 1, 1, 1, 1, 0, 1, 0, 1, 0, 1, 0, 1, 0, 1],
+        [0, 1, 0],
+        [1, 9, 1, 9, 1],
+        10,
+    );
+    filling(
+        2,
+        [1, 1, 1, 1, 1, 0, 1, 0, 1, 0, 1, 0, 1, 0, 1],
+        [1, 1, 0],
+        [1, 9, 1, 9, 1],
+        10,
+    );
+    // four marks, over the same checks: something fills; nothing does
+    filling(
+        2,
+        [1, 1, 1, 1, 1, 0, 1, 0, 1, 0, 1, 0, 1, 0, 1],
+        [0, 1, 1],
+        [9, 9, 9, 9, 1],
+        15,
+    );
+    filling(
+        2,
+        [1, 1, 1, 1, 1, 0, 1, 0, 1, 0, 1, 0, 1, 0, 1],
+        [0, 1, 0],
+        [9, 9, 9, 9, 1],
+        15,
+    );
+    // the third check is the second and twice the first, and the last column, marked, is three times the other that is: something
+    // fills; nothing does
+    filling(
+        16,
+        [1, 1, 1, 1, 3, 0, 1, 2, 3, 3, 2, 3, 0, 1, 5],
+        [5, 9, 3],
+        [5, 99, 7, 0, 99],
+        18,
+    );
+    filling(
+        16,
+        [1, 1, 1, 1, 3, 0, 1, 2, 3, 3, 2, 3, 0, 1, 5],
+        [5, 8, 2],
+        [5, 99, 7, 0, 99],
+        18,
+    );
+    // five marks, over the same checks: something fills; nothing does
+    filling(
+        16,
+        [1, 1, 1, 1, 3, 0, 1, 2, 3, 3, 2, 3, 0, 1, 5],
+        [5, 9, 3],
+        [1, 2, 3, 4, 5],
+        31,
+    );
+    filling(
+        16,
+        [1, 1, 1, 1, 3, 0, 1, 2, 3, 3, 2, 3, 0, 1, 5],
+        [5, 9, 2],
         [1, 2, 3, 4, 5],
         31,
     );

@@ -8,6 +8,8 @@ pub mod Sizes
 -- what the proofs of the code and of the demands rest on
 pub mod Rows
 pub mod Shape
+-- which checks and weights leave no target unmet
+pub mod Spread
 -- what is refused, and what is copied
 pub mod Scan
 pub mod Refusals

@@ -1,8 +1,9 @@
 -- What the code's numbers and tables of a plan are.
 use Prim.Native.Nat.{ℕ, _*_, _-_, _^_}
 use mathlib.Core.Path.{_≡_}
-use mathlib.Core.Bool.{Bool, not}
+use mathlib.Core.Bool.{Bool, not, _||_}
 use mathlib.Core.List.{List, _++_, map, flatMap}
+use lib.Dec.{eqb}
 use lib.ListN.{length, take, drop, replicate}
 use Rattle.field.specs.Lists.{upFrom}
 use Rattle.field.specs.Field.{Field, size, dot}
@@ -30,6 +31,10 @@ pub record FactsOf (P : Plan) (f : Facts) : Type 0 where
   pub totals : f .totals ≡ map (λ t. length (levelOf P t .weights)) (upFrom 0 4)
   pub carried : f .carried ≡ Rattle.plans.specs.Plan.carried P
   pub file-length : f .«file_length» ≡ fileLength P
+
+-- whether at level 1 more marks than sums show alone that a row is tied: its checks are power sums, or one parity
+unfoldable pub tiedByCount : Plan → Bool
+tiedByCount P = not (eqb (size (P .field)) 2) || eqb (length (checksTo P 1)) 1
 
 -- ---- tables
 

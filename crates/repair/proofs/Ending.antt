@@ -5,7 +5,7 @@ use mathlib.Core.List.{List, []}
 use Prim.Native.Nat.{ℕ, suc, _+_, _*_, _-_, _<_}
 use native.Mathlib.Nat.{suc-mul}
 use native.Mathlib.Omega.{arith}
-use borrow.Author.Tests.{ltb-true, eq-eqb, ne-eqb}
+use borrow.Author.Tests.{eq-eqb, ne-eqb}
 use lib.Count.{ones}
 use lib.Dec.{eqb}
 use lib.ListN.{length, take, replicate}
@@ -24,11 +24,10 @@ use Rattle.repair.specs.Mending.{roundsOn, mended, rowsLeft, endReport, 
 use Rattle.repair.specs.Ended.{startOf, Ended, clashes}
 use Rattle.plans.specs.declared.Report.{Report}
 use Rattle.plans.specs.declared.Answer.the-variants.{Restored, Stuck, Refused as Unmended}
-use Rattle.plans.proofs.Scan.{up-each}
 use Rattle.plans.proofs.Shape.{shape}
 use Rattle.steps.proofs.Fit.{LentFit, lent-fit, fit-bench, fresh-mark}
 use Rattle.steps.proofs.Sound.{Sound, sound-fresh}
-use Rattle.steps.proofs.Over.{over-ends}
+use Rattle.steps.proofs.Over.{over-each, over-ends}
 
 module _ (p : ℕ) (stripe marks : List ℕ) (n : ℕ) (e : n ≡ lentRefusal p stripe marks) where
   -- what is left behind: the report, the stripe, the marks
@@ -45,7 +44,7 @@ module _ (p : ℕ) (stripe marks : List ℕ) (n : ℕ) (e : n ≡ lentRefusal p 
   unfolding mendReport mendStripe mendMarks if_then_else_
   mends-by z t q r s m er es em = rw (← e, eq-eqb n 0 z, q) (er, (es, em))
 
-  -- ---- every row has more marks than sums
+  -- ---- every row has more marks than sums, where this shows that it is tied
 
   module _ (z : n ≡ 0) (over : overMarked (planOf p) marks ≡ true) where
     abbrev P : Plan
@@ -64,12 +63,12 @@ module _ (p : ℕ) (stripe marks : List ℕ) (n : ℕ) (e : n ≡ lentRefusal p 
         ap (λ k. k * suc (P .rows)) one ∙ suc-mul (length (P .levels) - 1) (suc (P .rows)) ∙ omega arith
 
     ended : mended p stripe marks ≡ end (standingOf (fresh p stripe marks) (P .rows) (replicate 3 0))
-    unfolding mended fresh overMarked
+    unfolding mended fresh
     ended =
+        let told = over-each P marks over in
         ap (λ k. turns k (standingOf (fresh p stripe marks) 0 (replicate 3 0))) enough
-        ∙ over-ends p _ _ _ (sound-fresh p stripe marks (sym e ∙ z))
-        (λ r h. subst (λ w. length (checksTo P 1) < ones w) (sym (fresh-mark p stripe marks lent r h)) (ltb-true _ _ (up-each _ (P .rows) over r h)))
-        rest (replicate 3 0)
+        ∙ over-ends p _ _ _ (sound-fresh p stripe marks (sym e ∙ z)) (told .0)
+        (λ r h. subst (λ w. length (checksTo P 1) < ones w) (sym (fresh-mark p stripe marks lent r h)) (told .1 r h)) rest (replicate 3 0)
 
     same-lossy : lossy P marks ≡ lossy P (fresh p stripe marks .marks)
     unfolding lossy

@@ -6,11 +6,11 @@ use Rattle.field.specs.Field.{_⊕_, size, double, times, mul, dot, gf2, gf16, 
 use Rattle.field.specs.Power.{power}
 use Rattle.linear.specs.Lists.{any, all, only, same, zeros, vanish, first, rest, beside}
 use Rattle.linear.specs.Marks.{bitsOf}
-use Rattle.linear.specs.Fill.{sumsOf, options, before, oneOfEach, choices, loose, dependent, fillings, fillBy, fill}
+use Rattle.linear.specs.Fill.{sumsOf, options, before, oneOfEach, choices, loose, dependent, fillings, fillBy, fill, isNone, vectorIn}
 use Rattle.plans.specs.Plan.{allOnes, bitChecks, wordOf, locations1, plan1, known, planOf, noLevel, levelOf, checksTo, rowAt, marksAt, marksOf, across, checkPlacesOf, carried, marksOffset, symbolsOffset, fileLength}
 use Rattle.plans.specs.Answers.{answerNumber, placeValues, endValues, answerValues, reportValues}
 use Rattle.plans.specs.Refusal.{firstFailed, unasked, inMemory, inFile, stripeFits, wordsFit, marksFit, allBelow, unmarkedBelow, symbolsFit, sumsAt, sumsFit, levelFits, lentRefusal, benchRefusal}
-use Rattle.steps.specs.Steps.{fresh, stepped, unlessRefused, rowFill, putRow, rowStepBy, rowStep, lossy, join, joined, levelFill, keepSums, raise, levelStepBy, levelStep}
+use Rattle.steps.specs.Steps.{fresh, stepped, unlessRefused, rowFill, putRow, rowStepBy, rowStep, lossy, checkFill, levelFill, keepSums, raise, levelStepBy, levelStep}
 use Rattle.steps.specs.Rounds.{more, afterRow, afterLevel, takeTurn, goOn, turns}
 use Rattle.repair.specs.Mending.{mended, rowsLeft, endReport, bare, turnReport, turnStripe, turnMarks, mendReport, mendStripe, mendMarks}
 use Rattle.codewords.specs.Codeword.{placed, encodeRefusal}
@@ -27,7 +27,7 @@ unfolding if_then_else_ upFrom _⊕_ size double times mul dot gf2 gf16 gf32 pow
     allOnes bitChecks wordOf locations1 plan1 known planOf noLevel levelOf checksTo rowAt marksAt marksOf
     answerNumber placeValues endValues answerValues reportValues
     firstFailed unasked inMemory inFile stripeFits wordsFit marksFit allBelow unmarkedBelow symbolsFit sumsAt sumsFit levelFits lentRefusal benchRefusal
-    fresh stepped unlessRefused rowFill putRow rowStepBy rowStep lossy across join joined levelFill keepSums raise levelStepBy levelStep
+    fresh stepped unlessRefused rowFill putRow rowStepBy rowStep lossy across checkFill isNone vectorIn levelFill keepSums raise levelStepBy levelStep
     more afterRow afterLevel takeTurn goOn turns mended rowsLeft endReport bare turnReport turnStripe turnMarks mendReport mendStripe mendMarks
     checkPlacesOf carried placed encoded encodeRefusal encodeStripe
     bytes2 bytes4 marksOffset symbolsOffset fileLength headerOf blanked planIn wordAt marksIn symbolsIn fileRefusal

@@ -5,7 +5,7 @@ use mathlib.Core.Bool.{Bool, true, false}
 use mathlib.Core.List.{List}
 use lib.ListN.{replicate}
 use Rattle.steps.specs.Learned.{benchOf}
-use Rattle.steps.specs.Rounds.{Turn, on, end, clash, turns}
+use Rattle.steps.specs.Rounds.{Turn, on, end, clash}
 use Rattle.repair.specs.Mending.{endReport, bare}
 use Rattle.plans.specs.declared.Bench.{Bench}
 use Rattle.plans.specs.declared.Report.{Report}

@@ -88,8 +88,8 @@ cases =
     ∷ blankRestored (row1 (2 ∷ 4 ∷ 5 ∷ 6 ∷ [])) (restored 0 1)
     -- row 1 marked at 0, 1, 3, 6
     ∷ unchanged blank (row1 (0 ∷ 1 ∷ 3 ∷ 6 ∷ [])) (stuck 2 1)
-    -- the same, with column 2 of row 1 set
-    ∷ unchanged (set blank 9 1) (row1 (0 ∷ 1 ∷ 3 ∷ 6 ∷ [])) (stuck 2 1)
+    -- the same, with column 2 of row 1 set: nothing fills it
+    ∷ unchanged (set blank 9 1) (row1 (0 ∷ 1 ∷ 3 ∷ 6 ∷ [])) (clashed (Row 1 2))
     -- rows 0 and 1 with two marks each
     ∷ unchanged blank (wordOf (0 ∷ 1 ∷ []) ∷ wordOf (0 ∷ 1 ∷ []) ∷ 0 ∷ []) (stuck 1 2)
     -- everything marked

@@ -108,11 +108,11 @@ fn rounds_by(
             break;
         }
         match level::learn(plan, level, table, checks, symbols, marks, &mut sums) {
-            Learning::Blocked => {
-                break;
-            }
             Learning::Failing => {
                 return bare_report(Answer::Clash(Place::Across { level: level + 1 }));
+            }
+            Learning::Blocked => {
+                break;
             }
             Learning::Learned => {
                 level += 1;

@@ -6,7 +6,6 @@ use native.Mathlib.Omega.{arith}
 use lib.Dec.{T}
 use lib.ListN.{length, take, getD, set, replicate, length-replicate, getD-replicate}
 use Rattle.field.specs.Lists.{if_then_else_, upFrom, _to_}
-use Rattle.field.specs.Field.{size}
 use Rattle.linear.specs.Lists.{all, only}
 use Rattle.linear.specs.Marks.{bitsOf}
 use Rattle.plans.specs.Plan.{wordOf, plan1, plan3, known, planOf, rowAt, marksAt}

@@ -11,7 +11,6 @@ use lib.ListN.{length}
 use Rattle.field.specs.Lists.{if_then_else_}
 use Rattle.field.proofs.Test.{both-left, both-right, both}
 use Rattle.linear.specs.Lists.{all}
-use Rattle.linear.specs.Fill.{one}
 use Rattle.plans.specs.Plan.{planOf}
 use Rattle.plans.specs.Answers.{answerValues, reportValues}
 use Rattle.plans.specs.Refusal.{unasked, allBelow, lentRefusal, benchRefusal}

@@ -1,27 +1,31 @@
--- Learning a level: one check's sums filled, and the checks joined. Assumes nothing.
-use mathlib.Core.Path.{_≡_, refl, sym, ap, ap₂, _∙_}
-use mathlib.Core.Bool.{Bool}
-use mathlib.Core.List.{List, [], _∷_, _++_, map}
+-- Learning a level: one check's sums filled, how the level ends, and the checks one after the other. Assumes nothing.
+use mathlib.Core.Path.{_≡_, refl, sym, ap, ap₂, _∙_, subst}
+use mathlib.Core.Bool.{Bool, not}
+use mathlib.Core.List.{List, [], _∷_, _++_, map, Memᴰ·map}
 use Prim.Native.Nat.{ℕ, zero, suc, _+_, _*_, _^_, _≤_, _<_}
 use native.Mathlib.Numerals.{add-one}
 use native.Mathlib.Omega.{arith}
 use borrow.Author.Tests.{le-ltb, lt-ltb}
 use lib.Count.{ones}
-use lib.Dec.{ltb}
-use lib.ListN.{length, getD, take}
+use lib.Dec.{T, ltb}
+use lib.ListN.{length, getD, take, length-map}
 use lib.Seq.{length-take-le}
 use Rattle.field.specs.Lists.{if_then_else_, upFrom}
 use Rattle.field.specs.Field.{size}
 use Rattle.field.specs.Ours.{fieldOf}
 use Rattle.field.proofs.Ring.{size-pos}
+use Rattle.field.proofs.Lists.{length-up}
 use Rattle.linear.specs.Lists.{zeros}
 use Rattle.linear.specs.Marks.{rowsOf, bitsOf, Fillable, fillOf, answerOf, vectorOf}
-use Rattle.linear.specs.Fill.{Fill, tied, none, one, fill}
+use Rattle.linear.specs.Fill.{dependent, Fill, none, tied, one, fill, vectorIn}
 use Rattle.linear.specs.declared.FillAnswer.{FillAnswer}
 use Rattle.linear.specs.declared.FillAnswer.the-variants.{Tied, None, One}
-use Rattle.linear.proofs.Answers.{wide-tied}
-use Rattle.plans.specs.Plan.{planOf, levelOf, checksTo}
-use Rattle.steps.specs.Steps.{lossy, Learned, blocked, failing, learned, levelFill, newSums, keepSums, raise, stepped, unlessRefused, levelStepBy, levelStep}
+use Rattle.linear.proofs.Filling.{in-dependent, Means, fill-means}
+use Rattle.linear.proofs.Spread.{wide-dependency}
+use Rattle.linear.proofs.Weights.{marked, marked-bits}
+use Rattle.linear.proofs.Tests.{In, in-up}
+use Rattle.plans.specs.Plan.{Plan, Level, planOf, levelOf, checksTo, across}
+use Rattle.steps.specs.Steps.{lossy, checkFill, Learned, failing, blocked, learned, levelFill, newSums, keepSums, raise, stepped, unlessRefused, levelStepBy, levelStep}
 use Rattle.plans.specs.Refusal.{unasked, benchRefusal}
 use Rattle.plans.specs.Tables.{padded, checkTable, rowSums}
 use Rattle.steps.specs.Learned.{columnOf, columnFill, benchOf, learningOf, sumsAfter}
@@ -29,15 +33,18 @@ use Rattle.plans.specs.declared.Bench.{Bench}
 use Rattle.plans.specs.declared.Stepped.{Stepped}
 use Rattle.plans.specs.declared.Step.the-variants.{Blocked as StepBlocked, Raised, Top, Clash, Refused}
 use Rattle.steps.specs.declared.level.Learning.{Learning}
-use Rattle.steps.specs.declared.level.Learning.the-variants.{Blocked, Failing, Learned as AllLearned}
+use Rattle.steps.specs.declared.level.Learning.the-variants.{Failing, Blocked, Learned as AllLearned}
+use Rattle.plans.proofs.Flat.{rowIn}
+use Rattle.plans.proofs.Spread.{fields, weights-tied}
 use Rattle.plans.proofs.Shape.{some-check}
 use Rattle.plans.proofs.Parts.{part, rows-front}
 use Rattle.plans.proofs.Plans.{rows-most}
 use Rattle.plans.proofs.Sizes.{totals-most}
-use Rattle.plans.proofs.Tables.{weights-lt, sums-more}
+use Rattle.plans.proofs.Tables.{level-checks-in, weights-lt, sums-more}
 use Rattle.steps.proofs.Keeping.{keep-none, keep-last}
 use Rattle.plans.proofs.Lossy.{lossyFrom}
-use Rattle.steps.proofs.Joining.{none-untied, Joining, joining-starts, joining-one, joining-tied, joining-none, joining-ends, level-fill}
+use Rattle.steps.proofs.Passing.{Ones, ends-failing, ends-blocked, ones-map, Passed, passed-none, passed-one, passed-all, ones-learned}
+use Rattle.steps.proofs.Sound.{tied-weights}
 use Rattle.plans.proofs.Numbers.{Weighing, column-rows, column-is, weights-are, weights-suffice}
 
 -- ---- the weights of level t + 1, as they are lent, and a target of zeros
@@ -93,17 +100,22 @@ module _ {p t q rows n totals : ℕ} {weights : List ℕ} (w : Weighing p t q ro
     unfolding columnOf
     made-is = column-is (w .is) lent (suc t) more symbols e
 
+    long : length (take rows made) ≡ rows
+    long = column-rows (w .is) lent (suc t) more symbols e
+
+    -- the weights as they are lent are the level's
+    lent-are : rowsOf (length (take totals lentZeros)) (length (take rows made)) (take (totals * rows) weights) ≡ levelOf (planOf p) (suc t) .weights
+    lent-are =
+        ap₂ (λ m k. rowsOf m k (take (totals * rows) weights)) target-length long
+        ∙ rows-front totals rows weights ∙ ap₂ (λ m l. rowsOf m rows l) (w .count) (w .weighs) ∙ weights-are (w .is) (suc t)
+
     pub filled-is : (lossy : ℕ) → fillOf q (take (totals * rows) weights) (take totals lentZeros) (take rows made) lossy
         ≡ columnFill (planOf p) t symbols (bitsOf (planOf p .rows) lossy) j
     unfolding fillOf columnFill
     filled-is lossy =
         let P = planOf p in
         let W = levelOf P (suc t) .weights in
-        let long = column-rows (w .is) lent (suc t) more symbols e in
-        ap₂ (λ m k. fill (fieldOf q) (rowsOf m k (take (totals * rows) weights)) (take totals lentZeros) (bitsOf k lossy) (take rows made))
-        target-length long
-        ∙ ap (λ cs. fill (fieldOf q) cs (take totals lentZeros) (bitsOf rows lossy) (take rows made))
-        (rows-front totals rows weights ∙ ap₂ (λ m l. rowsOf m rows l) (w .count) (w .weighs) ∙ weights-are (w .is) (suc t))
+        ap₂ (λ cs k. fill (fieldOf q) cs (take totals lentZeros) (bitsOf k lossy) (take rows made)) lent-are long
         ∙ ap₂ (λ z k. fill (fieldOf q) W z (bitsOf k lossy) (take rows made))
         (ap (λ m. take m lentZeros) (w .count) ∙ zeros-few W (totals-most p (suc t))) (w .is .high)
         ∙ ap₂ (λ F v. fill F W (zeros W) (bitsOf (P .rows) lossy) v) (w .is .field) made-is
@@ -111,7 +123,6 @@ module _ {p t q rows n totals : ℕ} {weights : List ℕ} (w : Weighing p t q ro
     -- what `fill` asks
     pub column-fits : (lossy : ℕ) → lossy < 2 ^ planOf p .rows → Fillable q (take (totals * rows) weights) (take totals lentZeros) (take rows made) lossy
     column-fits lossy small =
-        let long = column-rows (w .is) lent (suc t) more symbols e in
         record {
           few = rw target-length (omega (arith, few-totals));
           narrow = rw (long, w .is .high) (omega (arith, rows-most p));
@@ -120,13 +131,6 @@ module _ {p t q rows n totals : ℕ} {weights : List ℕ} (w : Weighing p t q ro
           coefficients = front-lt;
           sums = target-lt;
         }
-
-    -- more rows with marks than totals
-    pub too-lossy : (lossy : ℕ) → lossy < 2 ^ planOf p .rows → totals < ones lossy
-        → Tied ≡ answerOf (columnFill (planOf p) t symbols (bitsOf (planOf p .rows) lossy) j)
-    too-lossy lossy small many =
-        wide-tied q (take (totals * rows) weights) (take totals lentZeros) (take rows made) lossy (column-fits lossy small) (rw target-length many) .0
-        ∙ ap answerOf (filled-is lossy)
 
 -- ---- the checks of level t + 1, one after the other
 
@@ -137,9 +141,87 @@ pub record LearnedTo (p t rows last word : ℕ) (symbols marks old : List ℕ) (
   pub bits : bitsOf (planOf p .rows) word ≡ lossy (planOf p) marks
   pub small : word < 2 ^ planOf p .rows
   pub columns : List (List ℕ)
-  pub walk : Joining (columnFill (planOf p) t symbols (lossy (planOf p) marks)) (length (checksTo (planOf p) t))
+  pub passed : Passed (columnFill (planOf p) t symbols (lossy (planOf p) marks)) (length (checksTo (planOf p) t))
       (length (levelOf (planOf p) (suc t) .checks)) columns j
   pub written : kept ≡ keepSums (length (checksTo (planOf p) t)) (map (newSums columns) (upFrom 0 (planOf p .rows))) old
+
+-- ---- how the level ends
+
+module _ (b : Bench) where
+  abbrev P : Plan
+  P = planOf (b .plan)
+
+  abbrev L : Level
+  L = levelOf P (suc (b .level))
+
+  -- the weight columns of the rows with marks are dependent
+  abbrev bound : Bool
+  bound = dependent (P .field) (L .weights) (lossy P (b .marks))
+
+  -- the sums of check c, where they are filled
+  abbrev filled : List ℕ → List ℕ
+  filled c = vectorIn (checkFill b c)
+
+  -- dependent weight columns leave each check a filling, and block the level
+  pub level-blocked : T bound → levelFill b ≡ blocked
+  unfolding levelFill checkFill lossy
+  level-blocked d =
+      ends-blocked (checkFill b) filled bound (L .checks) (λ c m e.
+      let z : _≡_ {A = Fill} tied none =
+      sym (weights-tied (b .plan) (suc (b .level)) (lossy P (b .marks)) (across P (b .symbols) c) (length-map (upFrom 0 (P .rows)) _ ∙ length-up 0 (P .rows)) d) ∙ e in
+      let z : _≡_ {A = ℕ} 0 1 = cc in omega arith) d
+
+  -- more rows with marks than totals make them dependent
+  pub lossy-blocked : length (L .weights) < marked (lossy P (b .marks)) → levelFill b ≡ blocked
+  lossy-blocked wide =
+      let ms = lossy P (b .marks) in
+      level-blocked (in-dependent (P .field) (L .weights) ms (wide-dependency (P .field) (fields (b .plan)) (L .weights) ms wide .1))
+
+  -- independent ones, where some check is filled by one vector alone
+  pub free-weights : (cs vs : List (List ℕ)) → 0 < length cs → Ones (checkFill b) cs vs → T (not bound)
+  unfolding checkFill
+  free-weights [] vs pos o = absurd (omega arith)
+  free-weights (c ∷ cs) [] pos o = absurd o
+  free-weights (c ∷ cs) (v ∷ vs) pos o =
+      let W = L .weights in
+      let ms = lossy P (b .marks) in
+      let u = across P (b .symbols) c in
+      subst (Means (P .field) W (zeros W) ms u) (o .0) (fill-means (P .field) W (zeros W) ms u) .0
+
+-- by the checks as they stand in the table, from k on
+module _ (p t : ℕ) (symbols marks old : List ℕ) where
+  abbrev here : Bench
+  here = benchOf p t symbols marks old
+
+  abbrev inTable : ℕ → List ℕ
+  inTable = rowIn (planOf p .columns) (checkTable (planOf p))
+
+  abbrev k : ℕ
+  k = length (checksTo (planOf p) t)
+
+  abbrev m : ℕ
+  m = length (levelOf (planOf p) (suc t) .checks)
+
+  abbrev fillAt : ℕ → Fill
+  fillAt = columnFill (planOf p) t symbols (lossy (planOf p) marks)
+
+  pub level-failing : (j : ℕ) → k ≤ j → j < k + m → fillAt j ≡ none → levelFill here ≡ failing
+  unfolding levelFill checkFill columnOf columnFill
+  level-failing j low high e =
+      ends-failing (checkFill here) (filled here) (bound here) (levelOf (planOf p) (suc t) .checks) (inTable j)
+      (subst (In (inTable j)) (level-checks-in p t) (Memᴰ·map inTable (in-up k m j low high))) e
+
+  pub level-tied : (j : ℕ) → fillAt j ≡ tied → levelFill here ≡ blocked
+  unfolding checkFill columnOf columnFill
+  level-tied j e = level-blocked here (tied-weights here (inTable j) e)
+
+  pub level-learned : t < length (planOf p .levels) → (cs : List (List ℕ)) → Ones fillAt (upFrom k m) cs → levelFill here ≡ learned cs
+  unfolding levelFill checkFill columnOf columnFill vectorIn
+  level-learned low cs o =
+      let checks = levelOf (planOf p) (suc t) .checks in
+      let all : Ones (checkFill here) checks cs = subst (λ xs. Ones (checkFill here) xs cs) (level-checks-in p t) (ones-map (checkFill here) inTable (upFrom k m) cs o) in
+      ones-learned (checkFill here) (filled here) (bound here) (free-weights here checks cs (some-check p t low) all)
+      (λ c v e. ap vectorIn e) checks cs all
 
 -- what learning answers and leaves
 abbrev pub Learns : (p t : ℕ) (symbols marks old : List ℕ) → Learning → List ℕ → Type 0
@@ -179,40 +261,27 @@ learned-starts p t {rows} {first} {last} {word} symbols {marks} old high start e
   bits = ap (λ r. bitsOf r word) (sym high) ∙ told .0 ∙ ap (lossyFrom marks 0) high;
   small = rw high at (told .1);
   columns = [];
-  walk = rw start (joining-starts _ _ _);
+  passed = rw start (passed-none _ _ _);
   written = sym (keep-none _ (upFrom 0 (planOf p .rows)) old);
 }
 
 -- more rows with marks than totals block it
-module _ {p t q rows n totals : ℕ} {weights : List ℕ} (w : Weighing p t q rows n weights totals) (low : t < length (planOf p .levels)) where
-  pub lossy-blocked : (symbols marks old : List ℕ) (word : ℕ) → bitsOf (planOf p .rows) word ≡ lossy (planOf p) marks → word < 2 ^ planOf p .rows
-      → totals < ones word → levelFill (benchOf p t symbols marks old) ≡ blocked
-  lossy-blocked symbols marks old word bits small many =
-      let P = planOf p in
-      let k = length (checksTo P t) in
-      let m = length (levelOf P (suc t) .checks) in
-      let more : k < k + m = omega (arith, some-check p t low) in
-      level-fill p t symbols marks old
-      ∙ joining-tied (columnFill P t symbols (lossy P marks)) k m more
-      (answer-tied _
-      (sym (too-lossy w refl (rw (sums-more P t) more) symbols refl word small many ∙ ap (λ ms. answerOf (columnFill P t symbols ms k)) bits)))
-      (joining-starts (columnFill P t symbols (lossy P marks)) k m)
-
-  -- as the code sees it
+module _ {p t q rows n totals : ℕ} {weights : List ℕ} (w : Weighing p t q rows n weights totals) where
   pub learned-lossy : (symbols marks old : List ℕ) {word : ℕ} → rows ≡ planOf p .rows → (bitsOf rows word ≡ lossyFrom marks 0 rows) × (word < 2 ^ rows)
       → totals < ones word → Learns p t symbols marks old Blocked old
   unfolding lossy learningOf sumsAfter
   learned-lossy symbols marks old {word} high told many =
+      let bits : bitsOf rows word ≡ lossy (planOf p) marks = told .0 ∙ ap (lossyFrom marks 0) high in
       learns-by p t symbols marks old
-      (lossy-blocked symbols marks old word (ap (λ r. bitsOf r word) (sym high) ∙ told .0 ∙ ap (lossyFrom marks 0) high) (rw high at (told .1)) many)
+      (lossy-blocked (benchOf p t symbols marks old) (rw (← w .count, ← bits, marked-bits rows word (told .1)) many))
 
 module _ {p t rows last word j : ℕ} {symbols marks old kept : List ℕ} (s : LearnedTo p t rows last word symbols marks old j kept) where
-  pub learned-ends : last ≤ j → Learns p t symbols marks old AllLearned kept
+  pub learned-ends : t < length (planOf p .levels) → last ≤ j → Learns p t symbols marks old AllLearned kept
   unfolding raise learningOf sumsAfter
-  learned-ends all =
+  learned-ends low all =
       rw (s .written)
       (learns-by p t symbols marks old
-      (level-fill p t symbols marks old ∙ joining-ends _ _ _ (rw (← sums-more (planOf p) t, ← s .end) all) (s .walk)))
+      (level-learned p t symbols marks old low (s .columns) (passed-all _ _ _ (rw (← sums-more (planOf p) t, ← s .end) all) (s .passed))))
 
   module _ (more : j < last) where
     pub learned-here : j < length (checksTo (planOf p) (suc t))
@@ -228,16 +297,13 @@ module _ {p t rows last word j : ℕ} {symbols marks old kept : List ℕ} (s : L
 
       pub learned-blocked : a ≡ Tied → Learns p t symbols marks old Blocked old
       unfolding learningOf sumsAfter
-      learned-blocked e =
-          learns-by p t symbols marks old
-          (level-fill p t symbols marks old ∙ joining-tied _ _ _ within (answer-tied _ (told ∙ e)) (s .walk))
+      learned-blocked e = learns-by p t symbols marks old (level-tied p t symbols marks old j (answer-tied _ (told ∙ e)))
 
       pub learned-failing : a ≡ None → Learns p t symbols marks old Failing old
-      unfolding columnFill learningOf sumsAfter
+      unfolding learningOf sumsAfter
       learned-failing e =
-          let f = answer-none _ (told ∙ e) in
           learns-by p t symbols marks old
-          (level-fill p t symbols marks old ∙ joining-none _ _ _ within f (λ i. none-untied _ _ _ _ _ _ f) (s .walk))
+          (level-failing p t symbols marks old j (omega (arith, s .passed .count)) within (answer-none _ (told ∙ e)))
 
       pub learned-more : (column : List ℕ) {next : List ℕ} → a ≡ One
           → take (planOf p .rows) column ≡ vectorOf (columnFill (planOf p) t symbols (bitsOf (planOf p .rows) word) j) (columnOf (planOf p) symbols j)
@@ -253,12 +319,12 @@ module _ {p t rows last word j : ℕ} {symbols marks old kept : List ℕ} (s : L
             bits = s .bits;
             small = s .small;
             columns = s .columns ++ (c ∷ []);
-            walk = joining-one _ _ _ within
+            passed = passed-one _ _ _ within
                 (answer-one _ (columnOf P symbols j) (told ∙ e)
-                ∙ ap one (ap (λ ms. vectorOf (columnFill P t symbols ms j) (columnOf P symbols j)) (sym (s .bits)) ∙ sym filled)) (s .walk);
+                ∙ ap one (ap (λ ms. vectorOf (columnFill P t symbols ms j) (columnOf P symbols j)) (sym (s .bits)) ∙ sym filled)) (s .passed);
             written =
                 keeps ∙ ap₂ (λ r l. keepSums j (map (newSums (take r column ∷ [])) (upFrom 0 r)) l) (s .high) (s .written)
-                ∙ ap (λ i. keepSums i (map (newSums (c ∷ [])) rs) (keepSums at (map (newSums (s .columns)) rs) old)) (sym (s .walk .count))
+                ∙ ap (λ i. keepSums i (map (newSums (c ∷ [])) rs) (keepSums at (map (newSums (s .columns)) rs) old)) (sym (s .passed .count))
                 ∙ keep-last at (s .columns) c rs old;
           }
 
@@ -266,8 +332,8 @@ module _ {p t rows last word j : ℕ} {symbols marks old kept : List ℕ} (s : L
 
 -- the step of each end of learning, which left the sums l
 unfoldable pub stepFor : Bench → Learning → List ℕ → Stepped
-stepFor b Blocked l = stepped b StepBlocked
 stepFor b Failing l = stepped b Clash
+stepFor b Blocked l = stepped b StepBlocked
 stepFor b AllLearned l = stepped (benchOf (b .plan) (b .level + 1) (b .symbols) (b .marks) l) Raised
 
 pub steps-by : (b : Bench) {r s : Learning} {l : List ℕ} → Learns (b .plan) (b .level) (b .symbols) (b .marks) (b .sums) r l → r ≡ s
@@ -276,8 +342,8 @@ unfolding raise levelStepBy learningOf sumsAfter stepFor
 steps-by b learns e = ap₂ (stepFor b) (sym e ∙ learns .0) (learns .1) ∙ go (levelFill b)
   where
     go : (f : Learned) → stepFor b (learningOf f) (sumsAfter b f) ≡ levelStepBy b f
-    go blocked = refl
     go failing = refl
+    go blocked = refl
     go (learned cs) = ap (λ t. stepped (benchOf (b .plan) t (b .symbols) (b .marks) (raise b cs .sums)) Raised) (add-one (b .level))
 
 -- ---- the level step

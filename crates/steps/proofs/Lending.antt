@@ -1,5 +1,6 @@
 -- A row as it is lent to `fill`: the checks of levels 1 to t, its learned sums and its symbols are parts of the code's arrays. Assumes nothing.
 use mathlib.Core.Path.{_≡_, refl, sym, ap, ap₂, _∙_, subst}
+use mathlib.Core.Logic.{_≢_}
 use mathlib.Core.List.{List, [], _∷_, _++_, map}
 use Prim.Native.Nat.{ℕ, zero, suc, _+_, _*_, _-_, _^_, _<_, _≤_}
 use native.Mathlib.Nat.{le-trans}
@@ -15,7 +16,8 @@ use Rattle.field.proofs.Ring.{size-pos}
 use Rattle.systems.specs.System.{vec, Elements}
 use Rattle.linear.specs.Marks.{rowsOf, bitsOf, Fillable, fillOf, answerOf, vectorOf}
 use Rattle.linear.specs.declared.FillAnswer.the-variants.{Tied}
-use Rattle.linear.proofs.Answers.{wide-tied}
+use Rattle.linear.proofs.Marked.{length-bits}
+use Rattle.linear.proofs.Weights.{marked-bits}
 use Rattle.linear.specs.Fill.{fill}
 use Rattle.plans.specs.Plan.{Plan, planOf, known, checksTo, rowAt}
 use Rattle.plans.specs.Refusal.{sumsAt, allBelow, sumsFit}
@@ -25,6 +27,7 @@ use Rattle.plans.proofs.Flat.{rowIn, all-getD}
 use Rattle.plans.proofs.Tables.{checks-before, checks-in, checks-lt}
 use Rattle.plans.proofs.Rows.{row-length, row-again}
 use Rattle.plans.proofs.Shape.{shape}
+use Rattle.plans.proofs.Spread.{sums-tied}
 use Rattle.steps.proofs.Fit.{sums-fit}
 use Rattle.plans.proofs.Sizes.{checks-room, checks-length}
 use Rattle.steps.proofs.Checks.{row-places}
@@ -145,14 +148,14 @@ module _ {p t : ℕ} {f : Facts} {m : ℕ} {checks sums symbols : List ℕ} {r :
     sums = sums-elements;
   }
 
-  -- more marks than sums: the row is tied, and the symbols are as they were
-  pub too-many : (word : ℕ) → word < 2 ^ P .columns → m < ones word
+  -- in a row of power sums: with more marks than sums it is tied, and the symbols are as they were
+  pub too-many : f .field ≢ 2 → (word : ℕ) → word < 2 ^ P .columns → m < ones word
       → let row = fill (P .field) (checksTo P t) (sumsAt P t sums r) (bitsOf (P .columns) word) (rowAt P symbols r) in
       (Tied ≡ answerOf row) × (symbols ≡ sets symbols (r * P .columns) (vectorOf row (rowAt P symbols r)))
-  too-many word h more =
-      let tied = wide-tied (f .field) lentChecks lentSums lentRow word (fits word h) (rw sums-count more) in
-      let place : r * P .columns + P .columns ≤ length symbols = rw (← is .columns, long) row-end in (
-        tied .0 ∙ ap answerOf (fill-is word),
-        sym (ap (sets symbols (r * P .columns)) (sym (sym row-is ∙ tied .1 ∙ ap₂ vectorOf (fill-is word) row-is))
-            ∙ row-again P r (rowAt P symbols r) symbols (row-length P symbols r place) place refl),
-      )
+  unfolding answerOf vectorOf allBelow
+  too-many ne word h more =
+      let place : r * P .columns + P .columns ≤ length symbols = rw (← is .columns, long) row-end in
+      let e = sums-tied p t (λ q. ne (is .field .its-size ∙ q)) (bitsOf (P .columns) word) (sumsAt P t sums r) (rowAt P symbols r)
+      (length-bits (P .columns) word) (sym (ap length sums-are) ∙ sums-count ∙ count) (sums-fit P t sums small r inside)
+      (rw (marked-bits (P .columns) word h, ← count) more) in
+      rw e (refl, sym (row-again P r (rowAt P symbols r) symbols (row-length P symbols r place) place refl))

@@ -3,6 +3,7 @@
 pub mod Sums
 pub mod Levels
 pub mod Fit
+pub mod Passing
 pub mod Sound
 pub mod Unmarked
 pub mod Turns
@@ -17,7 +18,6 @@ pub mod Arms
 pub mod Stepping
 -- the level step
 pub mod Keeping
-pub mod Joining
 pub mod Learning
 -- marks beyond all rows' sums
 pub mod Over

@@ -19,14 +19,15 @@ use Rattle.linear.proofs.Filling.{Means, fill-means}
 use Rattle.linear.proofs.Vectors.{sums-append}
 use Rattle.plans.specs.Plan.{Plan, Level, planOf, levelOf, checksTo, rowAt, marksAt, across}
 use Rattle.plans.specs.Refusal.{sumsAt}
-use Rattle.steps.specs.Steps.{rowFill, putRow, lossy, learned, levelFill, newSums, raise}
+use Rattle.steps.specs.Steps.{rowFill, putRow, lossy, checkFill, learned, levelFill, newSums, raise}
 use Rattle.steps.specs.Learned.{benchOf}
 use Rattle.steps.specs.Walk.{HasSums, Settled}
 use Rattle.plans.specs.declared.Bench.{Bench}
 use Rattle.plans.proofs.Rows.{row-length, row-again, marks-length}
 use Rattle.steps.proofs.Unmarked.{Clear, bits-clear, clear-untied, clear-filled, clear-one, clear-none}
 use Rattle.steps.proofs.Levels.{checks-suc}
-use Rattle.steps.proofs.Sound.{Sound, Ones, totalFill, filled-row, row-place, put-row, put-row-other, learned-ones, learned-length, raise-sums}
+use Rattle.steps.proofs.Passing.{Ones}
+use Rattle.steps.proofs.Sound.{Sound, filled-row, row-place, put-row, put-row-other, learned-ones, learned-length, raise-sums}
 
 module _ (b : Bench) where
   abbrev P : Plan
@@ -104,8 +105,8 @@ module _ (b : Bench) where
 
     module _ (r : ℕ) (inside : r < P .rows) (z : getD (b .marks) r 0 ≡ 0) where
       -- a row without marks learns its own sum
-      own-sum : (c v : List ℕ) → totalFill b L c ≡ one v → getD v r 0 ≡ dot (P .field) c (rowAt P (b .symbols) r)
-      unfolding lossy across
+      own-sum : (c v : List ℕ) → checkFill b c ≡ one v → getD v r 0 ≡ dot (P .field) c (rowAt P (b .symbols) r)
+      unfolding lossy across checkFill
       own-sum c v q =
           let W = L .weights in
           let ms = lossy P (b .marks) in
@@ -115,7 +116,7 @@ module _ (b : Bench) where
           (getD-map-below (λ r. not (eqb (getD (b .marks) r 0) 0)) (P .rows) r true inside ∙ ap not (eq-eqb (getD (b .marks) r 0) 0 z)))
           ∙ getD-map-below (λ r. dot (P .field) c (rowAt P (b .symbols) r)) (P .rows) r 0 inside
 
-      own-sums : (C vs : List (List ℕ)) → Ones (totalFill b L) C vs → newSums vs r ≡ sumsOf (P .field) C (rowAt P (b .symbols) r)
+      own-sums : (C vs : List (List ℕ)) → Ones (checkFill b) C vs → newSums vs r ≡ sumsOf (P .field) C (rowAt P (b .symbols) r)
       unfolding sumsOf
       own-sums [] [] o = refl
       own-sums [] (v ∷ vs) o = absurd o

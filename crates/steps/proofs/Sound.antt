@@ -17,17 +17,18 @@ use Rattle.field.proofs.Test.{both-left, both-right, both}
 use Rattle.field.proofs.Ring.{size-pos}
 use Rattle.field.proofs.Laws.{IsField, dot-lt}
 use Rattle.linear.specs.Lists.{all, zeros, first, rest, beside}
-use Rattle.linear.specs.Fill.{Fill, tied, none, one, fill}
+use Rattle.linear.specs.Fill.{dependent, Fill, none, tied, one, vectorIn}
 use Rattle.linear.proofs.Tests.{either, all-append}
 use Rattle.linear.proofs.Choices.{Agrees, Allowed, agrees-length}
-use Rattle.linear.proofs.Filling.{Means, fill-means}
+use Rattle.linear.proofs.Filling.{in-dependent, Means, fill-means}
 use Rattle.plans.specs.Plan.{Plan, Level, planOf, levelOf, checksTo, rowAt, marksAt, across}
 use Rattle.plans.specs.Refusal.{unasked, allBelow, unmarkedBelow, sumsAt, lentRefusal, benchRefusal}
-use Rattle.steps.specs.Steps.{fresh, stepped, unlessRefused, rowFill, putRow, rowStepBy, rowStep, lossy, Learned, blocked, failing, learned, join, joined, levelFill, newSums, raise, levelStepBy, levelStep}
+use Rattle.steps.specs.Steps.{fresh, stepped, unlessRefused, rowFill, putRow, rowStepBy, rowStep, lossy, checkFill, Learned, failing, blocked, learned, levelFill, newSums, raise, levelStepBy, levelStep}
 use Rattle.plans.specs.declared.Bench.{Bench}
 use Rattle.plans.specs.declared.Step.the-variants.{Top}
 use Rattle.steps.proofs.Fit.{RowFits, BenchFit, Sized, lent-fit, bench-fit, fit-bench, sized-fresh, fit-fresh}
 use Rattle.plans.proofs.Rows.{of-rows, row-end, row-same, row-other, marks-length}
+use Rattle.steps.proofs.Passing.{Ones, ones-told, blocked-told}
 use Rattle.steps.proofs.Sums.{keep-length}
 use Rattle.steps.proofs.Levels.{checks-le, sums-learned}
 use Rattle.plans.proofs.Shape.{shape, plan-field}
@@ -61,32 +62,9 @@ across-below P K symbols c = go (upFrom 0 (P .rows))
         both (ltb x (size (P .field))) (allBelow (size (P .field)) (map (λ r. dot (P .field) c (rowAt P symbols r)) rs))
         (lt→ltb x (size (P .field)) (dot-lt (P .field) K c (rowAt P symbols r))) (go rs)
 
--- ---- fillings joined
-
--- the vectors are the fillings, one for each
-abbrev pub Ones : {A : Type 0} → (A → Fill) → List A → List (List ℕ) → Type 0
-Ones f [] [] = Unit {0}
-Ones f [] (v ∷ vs) = ⊥
-Ones f (x ∷ xs) [] = ⊥
-Ones f (x ∷ xs) (v ∷ vs) = (f x ≡ one v) × Ones f xs vs
+-- ---- a filling for each check
 
 module _ {A : Type 0} (f : A → Fill) where
-  -- a level that is learned has a filling for each check
-  pub joined-ones : (xs : List A) (vs : List (List ℕ)) → joined (map f xs) ≡ learned vs → Ones f xs vs
-  unfolding joined join
-  joined-ones [] vs e = let q : [] ≡ vs = cc in subst (Ones f []) q tt
-  joined-ones (x ∷ xs) vs e = go (f x) refl (joined (map f xs)) refl e (joined-ones xs)
-    where
-      go : (a : Fill) → f x ≡ a → (l : Learned) → joined (map f xs) ≡ l → join a l ≡ learned vs
-          → ((ws : List (List ℕ)) → joined (map f xs) ≡ learned ws → Ones f xs ws) → Ones f (x ∷ xs) vs
-      go tied p l q e ih = let z : _≡_ {A = ℕ} 0 1 = cc in absurd (omega arith)
-      go none p blocked q e ih = let z : _≡_ {A = ℕ} 0 1 = cc in absurd (omega arith)
-      go none p failing q e ih = let z : _≡_ {A = ℕ} 0 1 = cc in absurd (omega arith)
-      go none p (learned ws) q e ih = let z : _≡_ {A = ℕ} 0 1 = cc in absurd (omega arith)
-      go (one v) p blocked q e ih = let z : _≡_ {A = ℕ} 0 1 = cc in absurd (omega arith)
-      go (one v) p failing q e ih = let z : _≡_ {A = ℕ} 0 1 = cc in absurd (omega arith)
-      go (one v) p (learned ws) q e ih = let z : v ∷ ws ≡ vs = cc in subst (Ones f (x ∷ xs)) z (p, ih ws q)
-
   pub ones-length : (xs : List A) (vs : List (List ℕ)) → Ones f xs vs → length vs ≡ length xs
   ones-length [] [] o = refl
   ones-length [] (v ∷ vs) o = absurd o
@@ -119,11 +97,6 @@ pub sound-fresh : (p : ℕ) (stripe marks : List ℕ) → lentRefusal p stripe m
 sound-fresh p stripe marks e =
     let f = lent-fit p stripe marks e in record { fit = fit-fresh p stripe marks f; sized = sized-fresh p stripe marks f }
 
--- check c's sums of all rows, filled so that all totals are zero
-abbrev pub totalFill : Bench → Level → List ℕ → Fill
-totalFill b L c =
-    let P = planOf (b .plan) in fill (P .field) (L .weights) (zeros (L .weights)) (lossy P (b .marks)) (across P (b .symbols) c)
-
 module _ (b : Bench) where
   abbrev P : Plan
   P = planOf (b .plan)
@@ -147,8 +120,8 @@ module _ (b : Bench) where
   row-keeps r = go (benchRefusal b (ltb r (P .rows))) (rowFill b r)
     where
       go : (n : ℕ) (f : Fill) → let c = unlessRefused n b (rowStepBy b r f) .bench in (c .plan ≡ b .plan) × (c .level ≡ b .level)
-      go zero tied = (refl, refl)
       go zero none = (refl, refl)
+      go zero tied = (refl, refl)
       go zero (one row) = (refl, refl)
       go (suc n) f = (refl, refl)
 
@@ -157,8 +130,8 @@ module _ (b : Bench) where
   level-plan = go (benchRefusal b unasked) (ltb (b .level) (length (P .levels))) (levelFill b)
     where
       go : (n : ℕ) (c : Bool) (l : Learned) → unlessRefused n b (if c then levelStepBy b l else stepped b Top) .bench .plan ≡ b .plan
-      go zero true blocked = refl
       go zero true failing = refl
+      go zero true blocked = refl
       go zero true (learned cs) = refl
       go zero false l = refl
       go (suc n) c l = refl
@@ -178,6 +151,20 @@ module _ (b : Bench) where
     marks = s .marks;
     sums = keep-length (length (checksTo P (b .level))) (map (newSums cs) (upFrom 0 (P .rows))) (b .sums) ∙ s .sums;
   }
+
+  -- ---- dependent weight columns: what a tied check, and a blocked level, tells of
+
+  pub tied-weights : (c : List ℕ) → checkFill b c ≡ tied → T (dependent (P .field) (L .weights) (lossy P (b .marks)))
+  unfolding checkFill
+  tied-weights c e =
+      let W = L .weights in
+      let ms = lossy P (b .marks) in
+      let u = across P (b .symbols) c in
+      in-dependent (P .field) W ms (subst (Means (P .field) W (zeros W) ms u) e (fill-means (P .field) W (zeros W) ms u) .0 .1)
+
+  pub blocked-dependent : levelFill b ≡ blocked → T (dependent (P .field) (L .weights) (lossy P (b .marks)))
+  unfolding levelFill
+  blocked-dependent = blocked-told (checkFill b) (λ c. vectorIn (checkFill b c)) (dependent (P .field) (L .weights) (lossy P (b .marks))) (L .checks)
 
   module _ (f : BenchFit b) where
     -- ---- on a fit bench no step is refused
@@ -252,20 +239,22 @@ module _ (b : Bench) where
 
     -- ---- a learned level
 
-    pub learned-ones : (cs : List (List ℕ)) → levelFill b ≡ learned cs → Ones (totalFill b L) (L .checks) cs
-    unfolding levelFill
-    learned-ones cs e = joined-ones (totalFill b L) (L .checks) cs e
+    pub learned-ones : (cs : List (List ℕ)) → levelFill b ≡ learned cs → Ones (checkFill b) (L .checks) cs
+    unfolding levelFill vectorIn
+    learned-ones cs e =
+        ones-told (checkFill b) (λ c. vectorIn (checkFill b c)) (dependent (P .field) (L .weights) (lossy P (b .marks)))
+        tied-weights (λ c v q. ap vectorIn q) (L .checks) cs e
 
     pub learned-length : (cs : List (List ℕ)) → levelFill b ≡ learned cs → length cs ≡ length (L .checks)
-    learned-length cs e = ones-length (totalFill b L) (L .checks) cs (learned-ones cs e)
+    learned-length cs e = ones-length (checkFill b) (L .checks) cs (learned-ones cs e)
 
     -- the sums that a row learns are symbols
     learned-below : (cs : List (List ℕ)) → levelFill b ≡ learned cs → (r : ℕ) → T (allBelow (size (P .field)) (newSums cs r))
-    unfolding allBelow
+    unfolding allBelow checkFill
     learned-below cs e =
-        ones-below (totalFill b L) (size (P .field)) (size-pos (P .field)) symbols (L .checks) cs (learned-ones cs e)
+        ones-below (checkFill b) (size (P .field)) (size-pos (P .field)) symbols (L .checks) cs (learned-ones cs e)
       where
-        symbols : (c v : List ℕ) → totalFill b L c ≡ one v → T (allBelow (size (P .field)) v)
+        symbols : (c v : List ℕ) → checkFill b c ≡ one v → T (allBelow (size (P .field)) v)
         symbols c v e =
             let ws = L .weights in
             let ms = lossy P (b .marks) in
@@ -319,8 +308,8 @@ module _ (b : Bench) where
         ]
       where
         go : r < P .rows → (a : Fill) → rowFill b r ≡ a → Sound (rowStepBy b r a .bench)
-        go h tied e = s
         go h none e = s
+        go h tied e = s
         go h (one row) e = sound-put r row h e
 
     pub sound-level : Sound (levelStep b .bench)
@@ -331,6 +320,6 @@ module _ (b : Bench) where
         go : (c : Bool) → ltb (b .level) (length (P .levels)) ≡ c → (l : Learned) → levelFill b ≡ l
             → Sound ((if c then levelStepBy b l else stepped b Top) .bench)
         go false q l e = s
-        go true q blocked e = s
         go true q failing e = s
+        go true q blocked e = s
         go true q (learned cs) e = sound-raise cs (ltb-true (b .level) (length (P .levels)) q) e

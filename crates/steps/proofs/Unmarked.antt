@@ -66,7 +66,7 @@ module _ (F : Field) where
     pub clear-untied : fill F checks target ms v ≡ tied → ⊥
     clear-untied e =
         let m = subst (Means F checks target ms v) e (fill-means F checks target ms v) in
-        no-dependency F checks ms (clear-independent checks ms c) (m .1)
+        no-dependency F checks ms (clear-independent checks ms c) (m .0 .1)
 
     module _ (l : length v ≡ length ms) where
       pub clear-one : sumsOf F checks v ≡ target → fill F checks target ms v ≡ one v
@@ -78,5 +78,5 @@ module _ (F : Field) where
 
       pub clear-none : (sumsOf F checks v ≡ target → ⊥) → fill F checks target ms v ≡ none
       clear-none ne =
-          fill-none F checks target ms v (clear-independent checks ms c) (λ z f.
+          fill-none F checks target ms v (λ z f.
           ne (ap (sumsOf F checks) (sym (clear-agrees ms v z c l (f .agrees))) ∙ f .meets))

@@ -6,11 +6,11 @@ use lib.ListN.{take, drop}
 use Rattle.linear.specs.Lists.{zeros}
 use Rattle.linear.specs.Fill.{Fill, fill}
 use Rattle.plans.specs.Plan.{Plan, levelOf, across}
-use Rattle.steps.specs.Steps.{Learned, blocked, failing, learned, raise}
+use Rattle.steps.specs.Steps.{Learned, failing, blocked, learned, raise}
 use Rattle.plans.specs.Tables.{checkTable}
 use Rattle.plans.specs.declared.Bench.{Bench}
 use Rattle.steps.specs.declared.level.Learning.{Learning}
-use Rattle.steps.specs.declared.level.Learning.the-variants.{Blocked, Failing, Learned as AllLearned}
+use Rattle.steps.specs.declared.level.Learning.the-variants.{Failing, Blocked, Learned as AllLearned}
 
 -- the rows' sums under check j of all checks
 unfoldable pub columnOf : Plan → (symbols : List ℕ) → (j : ℕ) → List ℕ
@@ -25,12 +25,12 @@ abbrev pub benchOf : (plan level : ℕ) → (symbols marks sums : List ℕ) → 
 benchOf plan level symbols marks sums = record { plan = plan; level = level; symbols = symbols; marks = marks; sums = sums }
 
 unfoldable pub learningOf : Learned → Learning
-learningOf blocked = Blocked
 learningOf failing = Failing
+learningOf blocked = Blocked
 learningOf (learned cs) = AllLearned
 
 -- the sums afterwards: learned, or as they were
 unfoldable pub sumsAfter : Bench → Learned → List ℕ
-sumsAfter b blocked = b .sums
 sumsAfter b failing = b .sums
+sumsAfter b blocked = b .sums
 sumsAfter b (learned cs) = raise b cs .sums

@@ -6,8 +6,8 @@ use lib.Dec.{eqb, ltb}
 use lib.ListN.{length, take, drop, getD, set, replicate}
 use lib.Seq.{sets}
 use Rattle.field.specs.Lists.{if_then_else_, upFrom}
-use Rattle.linear.specs.Lists.{zeros}
-use Rattle.linear.specs.Fill.{Fill, tied, none, one, fill}
+use Rattle.linear.specs.Lists.{any, zeros}
+use Rattle.linear.specs.Fill.{dependent, Fill, none, tied, one, fill, isNone, vectorIn}
 use Rattle.plans.specs.Plan.{Plan, planOf, levelOf, checksTo, rowAt, marksAt, across}
 use Rattle.plans.specs.Refusal.{sumPlaces, sumsAt, unasked, lentRefusal, benchRefusal}
 use Rattle.plans.specs.declared.Bench.{Bench}
@@ -69,8 +69,8 @@ putRow b r row = record {
 }
 
 unfoldable pub rowStepBy : Bench → ℕ → Fill → Stepped
-rowStepBy b r tied = stepped b Tied
 rowStepBy b r none = stepped b Clash
+rowStepBy b r tied = stepped b Tied
 rowStepBy b r (one row) = stepped (putRow b r row) (if eqb (getD (b .marks) r 0) 0 then Whole else Filled)
 
 unfoldable pub rowStep : Bench → ℕ → Stepped
@@ -82,32 +82,26 @@ rowStep b r = unlessRefused (benchRefusal b (ltb r (planOf (b .plan) .rows))) b 
 unfoldable pub lossy : Plan → List ℕ → List Bool
 lossy P marks = map (λ r. not (eqb (getD marks r 0) 0)) (upFrom 0 (P .rows))
 
--- all rows' sums at a level, a list over the rows for each of its checks
+-- check c of level t + 1: the marked rows' sums are filled so that all totals are zero
+unfoldable pub checkFill : Bench → (check : List ℕ) → Fill
+checkFill b c =
+    let P = planOf (b .plan) in
+    let L = levelOf P (suc (b .level)) in
+    fill (P .field) (L .weights) (zeros (L .weights)) (lossy P (b .marks)) (across P (b .symbols) c)
+
+-- some check has no filling; the weight columns are dependent; or all rows' sums are learned, a list over the rows for each check
 pub data Learned : Type 0 where
-  blocked : Learned
   failing : Learned
+  blocked : Learned
   learned : List (List ℕ) → Learned
 
--- blocked where one is tied; else failing where one has no filling
-unfoldable pub join : Fill → Learned → Learned
-join tied l = blocked
-join none blocked = blocked
-join none failing = failing
-join none (learned cs) = failing
-join (one c) blocked = blocked
-join (one c) failing = failing
-join (one c) (learned cs) = learned (c ∷ cs)
-
-unfoldable pub joined : List Fill → Learned
-joined [] = learned []
-joined (f ∷ fs) = join f (joined fs)
-
--- level t + 1: check by check the marked rows' sums are filled so that all totals are zero
 unfoldable pub levelFill : Bench → Learned
 levelFill b =
     let P = planOf (b .plan) in
     let L = levelOf P (suc (b .level)) in
-    joined (map (λ c. fill (P .field) (L .weights) (zeros (L .weights)) (lossy P (b .marks)) (across P (b .symbols) c)) (L .checks))
+    if any (λ c. isNone (checkFill b c)) (L .checks) then failing
+    else if dependent (P .field) (L .weights) (lossy P (b .marks)) then blocked
+    else learned (map (λ c. vectorIn (checkFill b c)) (L .checks))
 
 -- the new sums of row r, one for each check
 abbrev pub newSums : List (List ℕ) → (r : ℕ) → List ℕ
@@ -131,8 +125,8 @@ raise b cs =
     }
 
 unfoldable pub levelStepBy : Bench → Learned → Stepped
-levelStepBy b blocked = stepped b Blocked
 levelStepBy b failing = stepped b Clash
+levelStepBy b blocked = stepped b Blocked
 levelStepBy b (learned cs) = stepped (raise b cs) Raised
 
 unfoldable pub levelStep : Bench → Stepped

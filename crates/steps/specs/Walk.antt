@@ -1,7 +1,7 @@
 -- What the code of a round's rows says, in terms of the turns.
 use Prim.Native.Nat.{ℕ, pred, _+_, _≤_, _<_}
 use mathlib.Core.Path.{_≡_}
-use mathlib.Core.Bool.{Bool}
+use mathlib.Core.Bool.{Bool, _&&_}
 use mathlib.Core.List.{List}
 use lib.Count.{ones}
 use lib.Dec.{ltb}
@@ -12,6 +12,7 @@ use Rattle.linear.specs.Marks.{bitsOf}
 use Rattle.linear.specs.Fill.{sumsOf, Fill, fill}
 use Rattle.plans.specs.Plan.{Plan, planOf, checksTo, rowAt}
 use Rattle.plans.specs.Refusal.{sumsAt, benchRefusal, unasked}
+use Rattle.plans.specs.Tables.{tiedByCount}
 use Rattle.steps.specs.Rounds.{Standing, clash, more, turns}
 use Rattle.plans.specs.declared.Bench.{Bench}
 use Rattle.plans.specs.declared.Place.the-variants.{Row}
@@ -23,9 +24,9 @@ Arrays b = (length (b .symbols) ≡ 256) × (length (b .marks) ≡ 8) × (length
 abbrev pub standingOf : Bench → (turn : ℕ) → (restored : List ℕ) → Standing
 standingOf b turn restored = record { bench = b; turn = turn; restored = restored }
 
--- every row has more marks than sums at level 1
+-- every row has more marks than sums at level 1, in a plan in which this shows that it is tied
 unfoldable pub overMarked : Plan → (marks : List ℕ) → Bool
-overMarked P marks = all (λ r. ltb (length (checksTo P 1)) (ones (getD marks r 0))) (upFrom 0 (P .rows))
+overMarked P marks = tiedByCount P && all (λ r. ltb (length (checksTo P 1)) (ones (getD marks r 0))) (upFrom 0 (P .rows))
 
 -- the fill of row r, whose marks are `word`, by the checks of levels 1 to t and its learned sums
 abbrev pub fillAt : Plan → (t : ℕ) → (sums : List ℕ) → (word : ℕ) → (symbols : List ℕ) → (r : ℕ) → Fill

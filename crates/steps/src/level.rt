@@ -16,11 +16,11 @@ ghost use Rattle.steps.specs.Steps.{newSums, keepSums, levelFill, levelS
 ghost use Rattle.plans.specs.Tables.{checkTable};
 ghost use Rattle.steps.specs.Learned.{columnOf, columnFill, benchOf, learningOf, sumsAfter};
 
-// How learning a level ends: the weight columns of the rows with marks are dependent; they are not, and no sums make all totals
-// zero; or all rows' sums are learned.
+// How learning a level ends: for some check no sums make all totals zero; for each some do, and the weight columns of the rows with
+// marks are dependent; or all rows' sums are learned.
 pub enum Learning {
-    Blocked,
     Failing,
+    Blocked,
     Learned,
 }
 
@@ -107,7 +107,7 @@ pub fn learn<'a>(
     let first = plan::sums_to(plan, level);
     let last = plan::sums_to(plan, level + 1);
     let lossy = sums::lossy_word(rows, marks);
-    // more columns than totals are dependent, whatever the sums
+    // more columns than totals are dependent, and some sums make all totals zero
     if totals < u32::count_ones(lossy) as usize {
         return Learning::Blocked;
     }
@@ -116,8 +116,9 @@ pub fn learn<'a>(
     for j in first..last {
         let outcome = learn_column(plan, level, table, checks, symbols, lossy, j, &mut column);
         match outcome {
-            linear::FillAnswer::Tied => return Learning::Blocked,
             linear::FillAnswer::None => return Learning::Failing,
+            // dependent columns leave no check without its filling
+            linear::FillAnswer::Tied => return Learning::Blocked,
             linear::FillAnswer::One => keep_column(rows, j, &column, &mut kept),
         }
     }
@@ -165,13 +166,13 @@ pub fn raise(bench: Bench) -> Stepped
     let mut sums = bench.sums;
     let learning = learn_by_plan(plan, level, &bench.symbols, &bench.marks, &mut sums);
     match learning {
-        Learning::Blocked => Stepped {
-            bench: bench,
-            answer: Step::Blocked,
-        },
         Learning::Failing => Stepped {
             bench: bench,
             answer: Step::Clash,
+        },
+        Learning::Blocked => Stepped {
+            bench: bench,
+            answer: Step::Blocked,
         },
         Learning::Learned => {
             let symbols = bench.symbols;

@@ -69,7 +69,8 @@ fn fill_row(
     let q = facts.field;
     let n = facts.columns;
     let m = plan::sums_to(plan, level);
-    if m < u32::count_ones(word) as usize {
+    // in a row of power sums any sums are met by more columns than sums, and by more than one filling
+    if q != 2 && m < u32::count_ones(word) as usize {
         return linear::FillAnswer::Tied;
     }
     let size = m * n;
@@ -87,13 +88,19 @@ fn fill_row(
     )
 }
 
-// Whether every row has more marks than it has sums at level 1: then no step changes anything.
+// Whether every row has more marks than sums at level 1, in a plan in which such a row is tied whatever its symbols: then no step changes
+// anything. Of the rows of bits only those with one parity are so.
 pub fn over_marked(plan: usize, marks: &[u32]) -> bool
     requires { ⌜ planOf plan .rows ≤ length (now marks) ⌝ }
     ensures { λ r. ⌜ r ≡ overMarked (planOf plan) (now (marks .entry)) ⌝ }
 {
-    let rows = plan::rows(plan);
+    let facts = plan::facts_of(plan);
+    let rows = facts.rows;
+    let q = facts.field;
     let sums = plan::sums_to(plan, 1);
+    if q == 2 && sums != 1 {
+        return false;
+    }
     for r in 0..rows {
         if u32::count_ones(marks[r]) as usize <= sums {
             return false;
@@ -155,10 +162,10 @@ pub fn walk_rows(
             }
         } else {
             match fill_row(plan, level, table, checks, symbols, word, sums, row) {
-                linear::FillAnswer::Tied => {}
                 linear::FillAnswer::None => {
                     break 'rows row;
                 }
+                linear::FillAnswer::Tied => {}
                 linear::FillAnswer::One => {
                     marks[row] = 0;
                     filled += 1;
@@ -224,8 +231,8 @@ pub fn step_row(
     }
     let word = marks[row];
     match fill_by_plan(plan, level, symbols, word, sums, row) {
-        linear::FillAnswer::Tied => Step::Tied,
         linear::FillAnswer::None => Step::Clash,
+        linear::FillAnswer::Tied => Step::Tied,
         linear::FillAnswer::One => {
             marks[row] = 0;
             if word == 0 {

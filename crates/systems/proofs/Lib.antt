@@ -4,4 +4,3 @@ pub mod Elimination
 pub mod Rows
 pub mod Turns
 pub mod Wide
-pub mod Packed

@@ -1,3 +1,2 @@
 -- What it is to answer a system of equations.
 pub mod System
-pub mod Words

@@ -2,8 +2,6 @@
 //
 // A system is a flat buffer of m rows of w = k + 1 symbols: the coefficients of k unknowns, then the right-hand side. A field is
 // given by its number `q`, and the table of products is lent. There is one row operation; rows are neither swapped nor scaled.
-pub mod binary;
-
 ghost use mathlib.Core.Path.{_≡_};
 ghost use mathlib.Core.Logic.{_≢_};
 ghost use Prim.Native.Nat.{ℕ, _+_, _*_, _<_, _≤_};

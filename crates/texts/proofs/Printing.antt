@@ -15,7 +15,7 @@ use Rattle.field.proofs.Lists.{length-up}
 use Rattle.field.proofs.Test.{both}
 use Rattle.linear.specs.Lists.{all, only}
 use Rattle.linear.specs.Marks.{bitsOf}
-use Rattle.linear.specs.Fill.{none, one}
+use Rattle.linear.specs.Fill.{none}
 use Rattle.plans.specs.Plan.{Plan, planOf, known, rowAt, marksAt}
 use Rattle.plans.specs.Answers.{answerNumber, placeValues, endValues, answerValues, reportValues}
 use Rattle.plans.specs.Refusal.{unasked, allBelow, unmarkedBelow, symbolsFit, lentRefusal}

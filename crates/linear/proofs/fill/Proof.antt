@@ -1,72 +1,59 @@
 -- `fill` meets its contract. Assumes nothing.
 use mathlib.Core.Path.{refl, sym, _∙_}
-use native.Mathlib.Omega.{arith}
 use borrow.Author.Needs.{needs}
-use lib.Count.{ones-le}
-use Rattle.linear.proofs.Answers.{wide-tied, unmarked-one, unmarked-none}
+use Rattle.linear.proofs.Answers.{unmarked-one, unmarked-none}
 use Rattle.linear.proofs.fill.Statement.{statement}
 use Rattle.linear.proofs.fill.Tie as tie
 
-cast-if1 : tie.Need-cast-if1
-cast-if1 c = let s = c .before .before .before in omega (arith, ones-le _ (s .args .marks) (s .pre .1 .within), s .pre .1 .narrow)
+fill-binary-requires : tie.Need-fill-binary-requires
+fill-binary-requires c κs = let s = c .before .before .before .before .before .before in (s .pre .0, rw (c .before .if2 .taken) at (s .pre .1))
 
 same-length : tie.Need-same-length
 same-length c = search needs
 
 returns : tie.Need-returns
-returns c = let s = c .before .before .before .before in
-    wide-tied (s .args .q) (s .args .checks .now) (s .args .target .now) (s .args .v .now) (s .args .marks) (s .pre .1) (search needs)
-
-fill-binary-requires : tie.Need-fill-binary-requires
-fill-binary-requires c κs =
-    let if1 = c .before .before .before .if1 in
-    let s = c .before .before .before .before .before .before .before in (s .pre .0, (rw (c .before .if3 .taken) at (s .pre .1), if1 .left))
-
-returns-2 : tie.Need-returns-2
-returns-2 c = rw (c .before .before .before .before .if3 .taken) (c .before .before .fill-binary .ensures)
+returns c = rw (c .before .before .before .before .if2 .taken) (c .before .before .fill-binary .ensures)
 
 fill-marked-requires : tie.Need-fill-marked-requires
 fill-marked-requires c κs = search needs
 
-returns-3 : tie.Need-returns-3
-returns-3 c = search needs
+same-length-2 : tie.Need-same-length-2
+same-length-2 c = search needs
+
+returns-2 : tie.Need-returns-2
+returns-2 c = search needs
 
 has-sums-requires : tie.Need-has-sums-requires
 has-sums-requires c κs = search needs
 
-same-length-2 : tie.Need-same-length-2
-same-length-2 c = search needs
-
 same-length-3 : tie.Need-same-length-3
 same-length-3 c = refl
 
-returns-4 : tie.Need-returns-4
-returns-4 c = let s = c .before .before .before .before .before .before .before .before in
+returns-3 : tie.Need-returns-3
+returns-3 c = let s = c .before .before .before .before .before .before .before in
     unmarked-one (s .args .q) (s .args .checks .now) (s .args .target .now) (s .args .v .now) (s .args .marks) (search needs)
-    (sym (c .if4 .taken) ∙ c .before .has-sums .ensures)
+    (sym (c .if3 .taken) ∙ c .before .has-sums .ensures)
 
 same-length-4 : tie.Need-same-length-4
 same-length-4 c = refl
 
-returns-5 : tie.Need-returns-5
-returns-5 c = let s = c .before .before .before .before .before .before .before .before in
+returns-4 : tie.Need-returns-4
+returns-4 c = let s = c .before .before .before .before .before .before .before in
     unmarked-none (s .args .q) (s .args .checks .now) (s .args .target .now) (s .args .v .now) (s .args .marks) (search needs)
-    (sym (c .if4 .left) ∙ c .before .has-sums .ensures)
+    (sym (c .if3 .left) ∙ c .before .has-sums .ensures)
 
 pub fill-spec : {M : Type 1} → statement M
 fill-spec =
     tie.close
     (tie.spec
-    cast-if1
-    returns
     fill-binary-requires
     same-length
-    returns-2
+    returns
     fill-marked-requires
     same-length-2
-    returns-3
+    returns-2
     has-sums-requires
     same-length-3
-    returns-4
+    returns-3
     same-length-4
-    returns-5)
+    returns-4)

@@ -8,7 +8,7 @@ use Rattle.linear.specs.Marks.{scattered}
 use Rattle.systems.specs.System.{vec}
 use Rattle.linear.proofs.Answers.{Outcomes, outcomes}
 use Rattle.systems.proofs.Turns.{zero-elements}
-use Rattle.linear.proofs.Words.{bit-bound}
+use Rattle.basis.proofs.Bits.{bit-bound}
 use Rattle.systems.proofs.Rows.{system-fits}
 use Rattle.linear.proofs.fill_marked.Statement.{statement}
 use Rattle.linear.proofs.fill_marked.Tie as tie
@@ -30,7 +30,7 @@ answers c =
     outcomes (s .args .q) (s .args .checks .now) (s .args .target .now) (s .args .v .now) (s .args .marks) (gathered .result)
     (gathered .last .1 .1 .1 .1 .1 .1 .0) _ _ _ (vec (c .solve .last .1 .1 .1 .1 .1 .1 .0)) _
     (gathered .ensures .0 .1) (s .pre .1 .within) (gathered .ensures .1 .0)
-    (c .solve .ensures .dependence) (λ _. c .solve .ensures .consistency)
+    (c .solve .ensures .dependence) (c .solve .ensures .consistency)
 
 slice-aggregate-gather-marked : tie.Need-slice-aggregate-gather-marked
 slice-aggregate-gather-marked c = refl
@@ -76,13 +76,13 @@ same-length : tie.Need-same-length
 same-length c = refl
 
 returns : tie.Need-returns
-returns c = answers (c .before .before .before .before .before) .tied (c .if1 .taken)
+returns c = answers (c .before .before .before .before .before .before) .none (not-true _ (c .if1 .taken))
 
 same-length-2 : tie.Need-same-length-2
 same-length-2 c = refl
 
 returns-2 : tie.Need-returns-2
-returns-2 c = answers (c .before .before .before .before .before .before .before) .none (c .before .before .if1 .left) (not-true _ (c .if2 .taken))
+returns-2 c = answers (c .before .before .before .before .before .before .before) .tied (not-false _ (c .before .if1 .left)) (c .if2 .taken)
 
 slice-aggregate-scatter : tie.Need-slice-aggregate-scatter
 slice-aggregate-scatter c =
@@ -108,9 +108,9 @@ same-length-3 c = c .before .before .scatter .kept .0
 
 returns-3 : tie.Need-returns-3
 returns-3 c = let solved = c .before .before .before .before .before .before .before .before .before .before .before .before .before in
-    let independent = c .before .before .before .before .before .before .before .before .if1 .left in
-    let consistent = not-false _ (c .before .before .before .before .before .before .if2 .left) in
-    let a = answers solved .one independent consistent in (a .0, c .before .before .scatter .ensures ∙ a .1)
+    let consistent = not-false _ (c .before .before .before .before .before .before .before .if1 .left) in
+    let independent = c .before .before .before .before .before .before .if2 .left in
+    let a = answers solved .one consistent independent in (a .0, c .before .before .scatter .ensures ∙ a .1)
 
 pub fill-marked-spec : {M : Type 1} → statement M
 fill-marked-spec =

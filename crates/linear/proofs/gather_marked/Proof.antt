@@ -3,7 +3,7 @@ use native.Mathlib.Omega.{arith}
 use borrow.Author.Needs.{needs}
 use lib.ListN.{length}
 use Rattle.linear.proofs.Columns.{gathered-same}
-use Rattle.linear.proofs.Words.{bit-bound}
+use Rattle.basis.proofs.Bits.{bit-bound}
 use Rattle.systems.proofs.Rows.{system-fits}
 use Rattle.linear.proofs.gather_marked.Statement.{statement}
 use Rattle.linear.proofs.gather_marked.Tie as tie

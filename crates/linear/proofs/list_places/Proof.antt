@@ -7,7 +7,8 @@ use lib.Seq.{getD-set-same, getD-set-other}
 use lib.ListN.{length-set, length}
 use lib.Count.{ones-le, trailingZeros, trailing-le}
 use Rattle.systems.specs.System.{vec}
-use Rattle.linear.proofs.Words.{Lowest, Placing, placing-start, placing-next, placing-shift, placing-fits, placing-turn, placing-end}
+use Rattle.basis.proofs.Bits.{Lowest}
+use Rattle.linear.proofs.Words.{Placing, placing-start, placing-next, placing-shift, placing-fits, placing-turn, placing-end}
 use Rattle.linear.proofs.list_places.Statement.{statement}
 use Rattle.linear.proofs.list_places.Tie as tie
 

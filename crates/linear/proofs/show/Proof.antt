@@ -5,7 +5,7 @@ use borrow.Author.Needs.{needs}
 use lib.ListN.{getD-replicate}
 use Rattle.systems.specs.System.{vec}
 use Rattle.linear.proofs.Columns.{scattered-hides}
-use Rattle.linear.proofs.Words.{bit-bound}
+use Rattle.basis.proofs.Bits.{bit-bound}
 use Rattle.linear.proofs.show.Statement.{statement}
 use Rattle.linear.proofs.show.Tie as tie
 

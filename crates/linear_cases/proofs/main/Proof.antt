@@ -84,6 +84,38 @@ filling-requires-6 : tie.Need-filling-requires-6
 unfolding size fieldOf gf2 gf16 all if_then_else_
 filling-requires-6 c κs = (lit< tt, tt, tt)
 
+filling-requires-7 : tie.Need-filling-requires-7
+unfolding size fieldOf gf2 gf16 all if_then_else_
+filling-requires-7 c κs = (lit< tt, tt, tt)
+
+filling-requires-8 : tie.Need-filling-requires-8
+unfolding size fieldOf gf2 gf16 all if_then_else_
+filling-requires-8 c κs = (lit< tt, tt, tt)
+
+filling-requires-9 : tie.Need-filling-requires-9
+unfolding size fieldOf gf2 gf16 all if_then_else_
+filling-requires-9 c κs = (lit< tt, tt, tt)
+
+filling-requires-10 : tie.Need-filling-requires-10
+unfolding size fieldOf gf2 gf16 all if_then_else_
+filling-requires-10 c κs = (lit< tt, tt, tt)
+
+filling-requires-11 : tie.Need-filling-requires-11
+unfolding size fieldOf gf2 gf16 all if_then_else_
+filling-requires-11 c κs = (lit< tt, tt, tt)
+
+filling-requires-12 : tie.Need-filling-requires-12
+unfolding size fieldOf gf2 gf16 all if_then_else_
+filling-requires-12 c κs = (lit< tt, tt, tt)
+
+filling-requires-13 : tie.Need-filling-requires-13
+unfolding size fieldOf gf2 gf16 all if_then_else_
+filling-requires-13 c κs = (lit< tt, tt, tt)
+
+filling-requires-14 : tie.Need-filling-requires-14
+unfolding size fieldOf gf2 gf16 all if_then_else_
+filling-requires-14 c κs = (lit< tt, tt, tt)
+
 returns : tie.Need-returns
 returns c = search needs
 
@@ -110,4 +142,12 @@ main-spec =
     filling-requires-4
     filling-requires-5
     filling-requires-6
+    filling-requires-7
+    filling-requires-8
+    filling-requires-9
+    filling-requires-10
+    filling-requires-11
+    filling-requires-12
+    filling-requires-13
+    filling-requires-14
     returns)

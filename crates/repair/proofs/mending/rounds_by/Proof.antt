@@ -112,7 +112,7 @@ returns-2 c =
     let loop = c .before .before .before .before .before .before .before .before .before .before .before .before .before .loop in
     let sized = walk-rows .ensures .sized in (
       rounded-failing _ _ _ _ _ _ _ (loop .inv) _ _ _ _ (walk-rows .ensures) (through here2) (below here) _ _
-          (learn .ensures .0) (learn .ensures .1) (arm-failing _ (match .keys2)) _ (c .bare-report2 .ensures),
+          (learn .ensures .0) (learn .ensures .1) (arm-failing _ (match .keys1)) _ (c .bare-report2 .ensures),
       (sized .0, sized .1),
     )
 
@@ -154,7 +154,7 @@ returns-3 c =
       ⊎-elim
           (λ v. rounded-top _ _ _ _ _ _ _ r _ _ _ _ w h (v .taken ∙ levels .ensures) _ (c .end-report .ensures))
           (λ v. rounded-blocked _ _ _ _ _ _ _ r _ _ _ _ w h (λ e. v .0 .left (e ∙ sym (levels .ensures))) _ _ (v .4 .ensures .0) (v .4 .ensures .1)
-          (arm-blocked _ (v .5 .keys1)) _ (c .end-report .ensures))
+          (arm-blocked _ (v .5 .keys2)) _ (c .end-report .ensures))
           (if2 .came),
       (w .sized .0, w .sized .1),
     )
@@ -177,10 +177,10 @@ rounds-by-spec =
     array-write-restored
     learn-requires
     enum-told
-    enum-told-2
     add-t30
     bare-report-requires-2
     returns-2
+    enum-told-2
     enum-told-3
     add-level
     loop-less

@@ -60,7 +60,7 @@ returns c =
     let here = c .before .before .before .before in
     let facts-of = c .before .before .before .before .before .facts-of in
     let pre = c .before .before .before .before .before .before .before .pre in
-    learned-lossy (weighed here) (pre .1) _ _ _ (facts-of .ensures .rows) (c .before .lossy-word .ensures) (c .if1 .taken)
+    learned-lossy (weighed here) _ _ _ (facts-of .ensures .rows) (c .before .lossy-word .ensures) (c .if1 .taken)
 
 loop-holds : tie.Need-loop-holds Inv-loop μ-loop
 loop-holds c =
@@ -89,7 +89,7 @@ returns-2 c =
     let learn-column = c .before .before .learn-column in
     let loop-test = c .before .before .before .before .before .loop-test in
     let loop = c .before .before .before .before .before .before .loop in
-    learned-blocked (loop .inv) (loop-test .taken) (learn-column .ensures .0) (c .enum-told .given .1)
+    learned-failing (loop .inv) (loop-test .taken) (learn-column .ensures .0) (c .enum-told .given .1)
 
 enum-told-2 : tie.Need-enum-told-2 Inv-loop μ-loop
 enum-told-2 c = search needs
@@ -99,7 +99,7 @@ returns-3 c =
     let learn-column = c .before .before .learn-column in
     let loop-test = c .before .before .before .before .before .loop-test in
     let loop = c .before .before .before .before .before .before .loop in
-    learned-failing (loop .inv) (loop-test .taken) (learn-column .ensures .0) (c .enum-told2 .given .1)
+    learned-blocked (loop .inv) (loop-test .taken) (learn-column .ensures .0) (c .enum-told2 .given .1)
 
 enum-told-3 : tie.Need-enum-told-3 Inv-loop μ-loop
 enum-told-3 c = search needs
@@ -136,7 +136,7 @@ loop-again c =
     (learn-column .ensures .1) (c .keep-column .ensures)
 
 returns-4 : tie.Need-returns-4 Inv-loop μ-loop
-returns-4 c = learned-ends (c .before .loop .inv) (c .loop-test .left)
+returns-4 c = learned-ends (c .before .loop .inv) (c .before .before .before .before .before .before .before .before .before .before .pre .1) (c .loop-test .left)
 
 pub learn-spec : {M : Type 1} → statement M
 learn-spec =

@@ -8,6 +8,7 @@ use Rattle.plans.proofs.Plans.{columns-most}
 use Rattle.steps.proofs.Lending.{Lent, row-is, checks-end, sums-end, row-end, checks-long, fill-is, put-back, fits, too-many}
 use native.Mathlib.Omega.{arith}
 use borrow.Author.Needs.{needs}
+use borrow.Author.Tests.{ltb-true}
 use Rattle.steps.proofs.row.fill_row.Statement.{statement}
 use Rattle.steps.proofs.row.fill_row.Tie as tie
 use Rattle.steps.proofs.row.fill_row.Reads as reads
@@ -37,11 +38,13 @@ facts-of-requires c κs = search needs
 sums-to-requires : tie.Need-sums-to-requires
 sums-to-requires c κs = search needs
 
-cast-if1 : tie.Need-cast-if1
-cast-if1 c = let start = c .before .before .before .before .before in omega (arith, ones-le _ (start .args .word) (start .pre .1 .1 .0 .2), columns-most (start .args .plan))
+cast-if2 : tie.Need-cast-if2
+cast-if2 c = let start = c .before .before .before .before .before .before in omega (arith, ones-le _ (start .args .word) (start .pre .1 .1 .0 .2), columns-most (start .args .plan))
 
 returns : tie.Need-returns
-returns c = too-many (lent (c .before)) _ (c .before .before .before .before .before .before .pre .1 .1 .0 .2) (c .if1 .taken)
+returns c =
+    let start = c .before .before .before .before .before .before .before in
+    too-many (lent (c .before .before)) (c .before .if1 .taken) _ (start .pre .1 .1 .0 .2) (ltb-true _ _ (c .if2 .taken))
 
 mul-size : tie.Need-mul-size
 mul-size c = record { fits = omega (arith, checks-end (lent (c .before))) }
@@ -102,7 +105,7 @@ fill-row-spec =
     (tie.spec
     facts-of-requires
     sums-to-requires
-    cast-if1
+    cast-if2
     returns
     mul-size
     mul-start

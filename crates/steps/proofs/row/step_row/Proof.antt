@@ -108,7 +108,7 @@ returns-3 c =
     let here2 = c .before .before .before .before .before .before in
     let here3 = c .before .before .before .before .before .before .before .before .before .before .before in
     let fill = fill-by-plan .ensures in
-    stepping-tied (bench here3) _ _ (fill .0) _ (place here) (fill .1) (arm-tied _ (c .before .match .keys1)) ∙ taken here2
+    stepping-none (bench here3) _ _ (fill .0) _ (place here) (fill .1) (arm-none _ (c .before .match .keys1)) ∙ taken here2
 
 returns-4 : tie.Need-returns-4
 unfolding rowFill marksAt
@@ -118,7 +118,7 @@ returns-4 c =
     let here2 = c .before .before .before .before .before .before in
     let here3 = c .before .before .before .before .before .before .before .before .before .before .before in
     let fill = fill-by-plan .ensures in
-    stepping-none (bench here3) _ _ (fill .0) _ (place here) (fill .1) (arm-none _ (c .before .match .keys2)) ∙ taken here2
+    stepping-tied (bench here3) _ _ (fill .0) _ (place here) (fill .1) (arm-tied _ (c .before .match .keys2)) ∙ taken here2
 
 returns-5 : tie.Need-returns-5
 unfolding rowFill marksAt

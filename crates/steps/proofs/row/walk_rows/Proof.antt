@@ -144,7 +144,7 @@ rows-again c =
       ⊎-elim
           (λ v. rw (v .3, v .4, v .5) (walking-tested _ _ _ _ _ _ _ _ _ w h tested (v .0 .taken) (λ i l. v .1 .inv .1 i (omega (arith, v .2 .left)))))
           (⊎-elim
-          (λ v. rw (v .7, v .8, v .9) (answered-tied _ _ _ _ _ _ _ _ _ w h _ _ (v .2 .ensures .0) (arm-tied _ (v .5 .keys1)) (v .2 .ensures .1)))
+          (λ v. rw (v .7, v .8, v .9) (answered-tied _ _ _ _ _ _ _ _ _ w h _ _ (v .2 .ensures .0) (arm-tied _ (v .5 .keys2)) (v .2 .ensures .1)))
           (λ v. rw (v .7, v .8, v .9) (answered-one _ _ _ _ _ _ _ _ _ w h _ _ (v .0 .left) (v .2 .ensures .0) (arm-one _ (v .5 .keys3)) (v .2 .ensures .1))))
           (c .if3 .came),
     )
@@ -181,7 +181,7 @@ returns-3 : tie.Need-returns-3 Inv-loop μ-loop Inv-rows μ-rows
 returns-3 c =
     let w = c .before .before .before .before .before .before .before .before .before .rows .inv .1 in
     let fill-row = c .before .before .before .before .fill-row in
-    answered-none _ _ _ _ _ _ _ _ _ w (inside (c .before .before .before .before .before .before .before .before)) _ _ (fill-row .ensures .0) (arm-none _ (c .before .match .keys2)) (fill-row .ensures .1)
+    answered-none _ _ _ _ _ _ _ _ _ w (inside (c .before .before .before .before .before .before .before .before)) _ _ (fill-row .ensures .0) (arm-none _ (c .before .match .keys1)) (fill-row .ensures .1)
 
 pub walk-rows-spec : {M : Type 1} → statement M
 walk-rows-spec =

@@ -1,0 +1,189 @@
+-- `span` meets its contract. Assumes nothing.
+use mathlib.Core.Path.{_≡_, sym, _∙_}
+use mathlib.Core.Logic.{_≢_, ⊎-elim}
+use Prim.Native.Nat.{ℕ, _+_, _%_, _^_, _-_, _≤_, _<_}
+use native.Mathlib.Nat.{mod-eq-of-lt}
+use native.Mathlib.Omega.{arith}
+use lib.Count.{trailingZeros}
+use Rattle.systems.specs.System.{vec}
+use Rattle.basis.specs.Words.{columnOf}
+use Rattle.basis.proofs.Bits.{shifted-one, low-bits, low-fits, low-some, lowest-lt}
+use Rattle.basis.proofs.Wording.{column-lt}
+use Rattle.basis.proofs.Building.{Building, building-start, building-masks, building-some, building-tied, building-more, building-as, building-ends, building-enough}
+use borrow.Author.Needs.{needs}
+use Rattle.basis.proofs.span.Statement.{statement}
+use Rattle.basis.proofs.span.Tie as tie
+
+abbrev Inv-loop : tie.InvT-loop
+Inv-loop checks m n places k need wanted words₀ masks₀ pivots₀ r₀ dependency₀ t₀ words masks pivots r dependency t =
+    (t ≤ k) × Building (λ j. columnOf checks m n (vec places j) % 2 ^ m) t r words masks pivots dependency
+
+abbrev μ-loop : tie.MeasureT-loop
+μ-loop checks m n places k need wanted words₀ masks₀ pivots₀ r₀ dependency₀ t₀ words masks pivots r dependency t = k - t
+
+-- the places before: the start, the loop's head, and the column gathered
+abbrev start : tie.At-loop Inv-loop μ-loop → tie.Start Inv-loop μ-loop
+start c = c .before .before .before
+
+abbrev head : tie.After-reduce Inv-loop μ-loop → tie.At-loop Inv-loop μ-loop
+head c = c .before .before .before .before .before .before .before
+
+abbrev gathered : tie.After-reduce Inv-loop μ-loop → tie.After-gather-column Inv-loop μ-loop
+gathered c = c .before .before .before .before
+
+-- the columns at the places, as words
+abbrev columns : tie.Start Inv-loop μ-loop → ℕ → ℕ
+columns s t = columnOf (s .args .checks .now) (s .args .m) (s .args .n) (vec (s .args .places .now) t)
+
+shl-wanted : tie.Need-shl-wanted Inv-loop μ-loop
+shl-wanted c = search needs
+
+sub-wanted : tie.Need-sub-wanted Inv-loop μ-loop
+sub-wanted c = low-some _ (c .before .before .pre .0 .1)
+
+cast-wanted : tie.Need-cast-wanted Inv-loop μ-loop
+cast-wanted c = record { fits = low-fits _ (c .before .before .pre .0 .1) }
+
+loop-holds : tie.Need-loop-holds Inv-loop μ-loop
+loop-holds c = (search needs, building-start _)
+
+mul-gather-column : tie.Need-mul-gather-column Inv-loop μ-loop
+mul-gather-column c = search needs
+
+shared-slice-read-gather-column : tie.Need-shared-slice-read-gather-column Inv-loop μ-loop
+shared-slice-read-gather-column c = search needs
+
+gather-column-requires : tie.Need-gather-column-requires Inv-loop μ-loop
+gather-column-requires c κs =
+    let s = start (c .before .before) in ((s .pre .0 .0, s .pre .0 .1, s .pre .1 .0 .1 _ (omega arith)), s .pre .1 .1)
+
+shl-reduce : tie.Need-shl-reduce Inv-loop μ-loop
+shl-reduce c = search needs
+
+reduce-requires : tie.Need-reduce-requires Inv-loop μ-loop
+reduce-requires c κs =
+    let D = c .before .before .before .before .before .before .loop .inv .1 in
+    ((omega (arith, D .few), D .spanning .echelon .ordered), (D .small, building-masks D (omega arith)))
+
+reduce-requires-2 : tie.Need-reduce-requires-2 Inv-loop μ-loop
+reduce-requires-2 c κs =
+    let D = head (c .before .before .before .before) .loop .inv .1 in
+    ((omega (arith, D .few), D .spanning .echelon .ordered), (D .small, building-masks D (omega arith)))
+
+-- the word that was reduced is that of column t, which has no bit beyond the checks
+cut : (c : tie.After-reduce Inv-loop μ-loop) → let s = start (head c) in
+    gathered c .gather-column .result ≡ columns s (head c .loop .t) % 2 ^ s .args .m
+cut c =
+    let s = start (head c) in
+    gathered c .gather-column .ensures ∙ sym (mod-eq-of-lt (column-lt (s .args .checks .now) (s .args .n) _ (s .pre .1 .1) (s .args .m)))
+
+-- the echelon with column t, of which nothing is left
+tied-too : (c : tie.Then1 Inv-loop μ-loop) → let at = head (c .before) .loop in let s = start (head (c .before)) in let made = c .before .reduce .result .mask in
+    (made ≢ 0) × Building (λ j. columns s j % 2 ^ s .args .m) (at .t + 1) (at .r) (at .words) (at .masks) (at .pivots) made
+tied-too c =
+    let at = head (c .before) .loop in
+    let one = shifted-one (at .t) (omega arith) in (
+      building-some _ _ _ _ _ _ _ _ _ _ _ (at .inv .1) (c .before .reduce .ensures) (cut (c .before)) one,
+      building-tied _ _ _ _ _ _ _ _ _ _ _ (at .inv .1) (c .before .reduce .ensures) (cut (c .before)) one (c .if1 .taken),
+    )
+
+returns : tie.Need-returns Inv-loop μ-loop
+returns c =
+    let here = c .before .before .before .before .before .before in
+    let s = start (head (here .before)) in
+    let D = tied-too here in
+    building-enough (columns s) _ _ _ _ _ _ _ _ _ _ _ _ (omega arith) (D .0) (D .1) (c .before .before .reduce2 .ensures)
+    (low-bits (s .args .need) (s .args .m) (s .pre .0 .1)) (c .if2 .taken)
+
+-- the place is in the room
+place-lt : (c : tie.Else1 Inv-loop μ-loop) → trailingZeros 32 (c .before .reduce .result .word) < 32
+place-lt c = lowest-lt 32 _ (c .before .reduce .ensures .small) (c .if1 .left)
+
+cast-p : tie.Need-cast-p Inv-loop μ-loop
+cast-p c = omega (arith, place-lt c)
+
+mul-words : tie.Need-mul-words Inv-loop μ-loop
+mul-words c = omega (arith, place-lt c)
+
+array-write-words : tie.Need-array-write-words Inv-loop μ-loop
+array-write-words c = place-lt c
+
+mul-masks : tie.Need-mul-masks Inv-loop μ-loop
+mul-masks c = omega (arith, place-lt c)
+
+array-write-masks : tie.Need-array-write-masks Inv-loop μ-loop
+array-write-masks c = place-lt c
+
+cast-pivots : tie.Need-cast-pivots Inv-loop μ-loop
+cast-pivots c = omega (arith, place-lt c)
+
+array-write-pivots : tie.Need-array-write-pivots Inv-loop μ-loop
+array-write-pivots c = omega (arith, head (c .before) .loop .inv .1 .few)
+
+add-r : tie.Need-add-r Inv-loop μ-loop
+add-r c = omega (arith, head (c .before) .loop .inv .1 .few)
+
+add-t : tie.Need-add-t Inv-loop μ-loop
+add-t c = search needs
+
+loop-less : tie.Need-loop-less Inv-loop μ-loop
+loop-less c = search needs
+
+loop-again : tie.Need-loop-again Inv-loop μ-loop
+loop-again c =
+    let at = head (c .before) .loop in
+    let turned = c .before .reduce in
+    let one = shifted-one (at .t) (omega arith) in (
+      omega arith,
+      ⊎-elim
+          (λ w. building-as _ _ _ _ _ _ _ _ _ _ _ _ (w .7) (w .8) (w .9) (w .10) (w .11)
+          (building-tied _ _ _ _ _ _ _ _ _ _ _ (at .inv .1) (turned .ensures) (cut (c .before)) one (w .0 .taken)))
+          (λ w. building-as _ _ _ _ _ _ _ _ _ _ _ _ (w .1) (w .2) (w .3) (w .4) (w .5)
+          (building-more _ _ _ _ _ _ _ _ _ _ _ (at .inv .1) (turned .ensures) (cut (c .before)) one (w .0 .left) (omega arith)))
+          (c .if1 .came),
+    )
+
+reduce-requires-3 : tie.Need-reduce-requires-3 Inv-loop μ-loop
+reduce-requires-3 c κs =
+    let at = c .before .before .before .before .loop .inv in
+    let D = at .1 in
+    ((omega (arith, D .few, at .0), D .spanning .echelon .ordered), (D .small, building-masks D (omega (arith, at .0))))
+
+returns-2 : tie.Need-returns-2 Inv-loop μ-loop
+returns-2 c =
+    let at = c .before .before .before .before .before .before in
+    let s = start at in
+    let e : at .loop .t ≡ s .args .k = omega (arith, at .loop .inv .0) in
+    building-ends (columns s) _ _ _ _ _ _ _ _ _ _ _
+    (rw e at (at .loop .inv .1)) (c .before .reduce3 .ensures) (low-bits (s .args .need) (s .args .m) (s .pre .0 .1))
+
+pub span-spec : {M : Type 1} → statement M
+span-spec =
+    tie.close
+    (tie.spec
+    Inv-loop
+    μ-loop
+    shl-wanted
+    sub-wanted
+    cast-wanted
+    loop-holds
+    mul-gather-column
+    shared-slice-read-gather-column
+    gather-column-requires
+    shl-reduce
+    reduce-requires
+    reduce-requires-2
+    returns
+    cast-p
+    mul-words
+    array-write-words
+    mul-masks
+    array-write-masks
+    cast-pivots
+    array-write-pivots
+    add-r
+    add-t
+    loop-less
+    loop-again
+    reduce-requires-3
+    returns-2)

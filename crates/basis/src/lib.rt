@@ -1,0 +1,125 @@
+// Systems of equations over GF(2) with a column to a word: which words the columns give together, by an echelon of words.
+ghost use mathlib.Core.Path.{_≡_};
+ghost use Prim.Native.Nat.{ℕ, _*_, _^_, _<_, _≤_};
+ghost use lib.ListN.{length};
+ghost use Rattle.field.specs.Ours.{fieldOf};
+ghost use Rattle.systems.specs.System.{vec, Elements};
+ghost use Rattle.basis.specs.Words.{columnOf};
+ghost use Rattle.basis.specs.Span.{Spans, Ordered, Reduced};
+
+// Every bit of a word, and of a mask.
+const WORD: u32 = 4294967295;
+
+const MASK: u64 = 18446744073709551615;
+
+// The coefficients of the m checks in column p as a word: bit i is that of check i.
+fn gather_column(checks: &[u8], m: usize, n: usize, p: usize) -> u32
+    requires { ⌜ (m * n ≤ length (now checks)) × (m ≤ 32) × (p < n) ⌝ }
+    requires { ⌜ Elements (fieldOf 2) (vec (now checks)) ⌝ }
+    ensures { λ w. ⌜ w ≡ columnOf (now (checks .entry)) m n p ⌝ }
+{
+    let mut word = 0u32;
+    let mut i = m;
+    while 0 < i {
+        i -= 1;
+        word = word * 2 + checks[i * n + p] as u32;
+    }
+    word
+}
+
+// What is left of a word, and the mask that goes with it.
+struct Rest {
+    word: u32,
+    mask: u64,
+}
+
+// Makes a word 0 at the r pivots of the echelon, in the order of their making: adds to it each word whose pivot it has, and that
+// word's mask to its mask.
+fn reduce(
+    words: &[u32; 32],
+    masks: &[u64; 32],
+    pivots: &[u8; 64],
+    r: usize,
+    word: u32,
+    mask: u64,
+) -> Rest
+    requires { ⌜ (r ≤ 64) × Ordered (vec (now words)) (vec (now pivots)) r ⌝ }
+    requires { ⌜ ((p : ℕ) → vec (now words) p < 2 ^ 32) × ((p : ℕ) → vec (now masks) p < 2 ^ 64) ⌝ }
+    ensures { λ s. ⌜ Reduced (vec (now (words .entry))) (vec (now (masks .entry))) (vec (now (pivots .entry))) r word mask (s .word) (s .mask) ⌝ }
+{
+    let mut left = word;
+    let mut made = mask;
+    let mut i = 0;
+    while i < r {
+        let p = pivots[i] as usize;
+        let taken = (left >> p) % 2;
+        left = left ^ (words[p] & taken * WORD);
+        made = made ^ (masks[p] & taken as u64 * MASK);
+        i += 1;
+    }
+    Rest {
+        word: left,
+        mask: made,
+    }
+}
+
+// Whether the columns give what is needed, and whether they are dependent. Bit t of `solution` and of `dependency` says whether
+// column t takes part.
+pub struct Answer {
+    pub consistent: bool,
+    pub dependent: bool,
+    pub solution: u64,
+    pub dependency: u64,
+}
+
+// Answers for the columns of m checks at the first k places, each a word of m bits, whether some of them give the m low bits of `need`,
+// and whether they are dependent. Where some do, `solution` names such columns; where they are dependent, `dependency` names at least
+// one, and those give 0. Both hold of dependent and of independent columns.
+pub fn span(checks: &[u8], m: usize, n: usize, places: &[usize], k: usize, need: u32) -> Answer
+    requires { ⌜ (m * n ≤ length (now checks)) × (m ≤ 32) × (k ≤ 64) ⌝ }
+    requires { ⌜ (k ≤ length (now places)) × ((t : ℕ) → t < k → vec (now places) t < n) ⌝ }
+    requires { ⌜ Elements (fieldOf 2) (vec (now checks)) ⌝ }
+    ensures { λ s. ⌜ Spans (λ t. columnOf (now (checks .entry)) m n (vec (now (places .entry)) t)) k m need
+        (s .consistent) (s .dependent) (s .solution) (s .dependency) ⌝ }
+{
+    let wanted = need & ((1u64 << m) - 1) as u32;
+    let mut words = [0u32; 32];
+    let mut masks = [0u64; 32];
+    let mut pivots = [0u8; 64];
+    let mut r = 0;
+    let mut dependency = 0u64;
+    let mut t = 0;
+    while t < k {
+        let column = gather_column(checks, m, n, places[t]);
+        let rest = reduce(&words, &masks, &pivots, r, column, 1u64 << t);
+        let left = rest.word;
+        let made = rest.mask;
+        if left == 0 {
+            dependency = made;
+            // where need is met already, further columns change nothing
+            let end = reduce(&words, &masks, &pivots, r, wanted, 0);
+            if end.word == 0 {
+                return Answer {
+                    consistent: true,
+                    dependent: true,
+                    solution: end.mask,
+                    dependency: made,
+                };
+            }
+        } else {
+            let p = u32::trailing_zeros(left) as usize;
+            words[p] = left;
+            masks[p] = made;
+            pivots[r] = p as u8;
+            r += 1;
+        }
+        t += 1;
+    }
+    let end = reduce(&words, &masks, &pivots, r, wanted, 0);
+    Answer {
+        consistent: end.word == 0,
+        dependent: dependency != 0,
+        solution: end.mask,
+        dependency: dependency,
+    }
+}
