@@ -1,7 +1,6 @@
 // The codeword test: the rows' level-1 sums and each level's weighted totals. It changes nothing.
 use plans::plan;
 use plans::refusal;
-use plans::sums;
 ghost use mathlib.Core.Path.{_≡_};
 ghost use mathlib.Core.List.{map};
 ghost use Prim.Native.Nat.{suc, _*_, _<_, _≤_};

@@ -18,14 +18,15 @@ use Rattle.linear.proofs.Choices.{alike-at}
 use Rattle.plans.specs.Plan.{Plan, wordOf, plan1, plan2, plan3, known, planOf, levelOf, rowAt, marksAt, marksOf, checkPlacesOf, carried}
 use Rattle.steps.specs.Steps.{lossy}
 use Rattle.plans.specs.Refusal.{unasked, stripeFits, allBelow}
-use Rattle.codewords.specs.Codeword.{isCodeword, placed, encodeRefusal, extracted, extractRefusal, extractData}
+use Rattle.codewords.specs.Codeword.{isCodeword}
+use Rattle.encoding.specs.Data.{placed, encodeRefusal, extracted, extractRefusal, extractData}
 use Rattle.repair.specs.Encoding.{encoded, encodeStripe}
 use Rattle.plans.proofs.Shape.{of-known}
 use Rattle.steps.proofs.Fit.{eq→eqb, Passed, passed, passes, if-true, all-take, all-drop, fit-lent}
 use Rattle.plans.proofs.Refusals.{unmarked-below}
-use Rattle.codewords.proofs.Placing.{rows-length}
-use Rattle.codewords.proofs.Carrying.{words-count}
-use Rattle.codewords.proofs.Data.{placed-length, placed-all, taken-length, taken-all, taken-placed, alike-taken, taken-alike}
+use Rattle.encoding.proofs.Placing.{rows-length}
+use Rattle.encoding.proofs.Carrying.{words-count}
+use Rattle.encoding.proofs.Data.{placed-length, placed-all, taken-length, taken-all, taken-placed, alike-taken, taken-alike}
 use Rattle.demands.specs.Words.{Codeword, Agree, Fit}
 use Rattle.demands.specs.Second.{IsEncoded, EncodingMeans, ExtractionMeans, CodewordsAreEncodings}
 use Rattle.demands.proofs.Alike.{at-alike, inside-refl}

@@ -18,8 +18,8 @@ use Rattle.plans.specs.Refusal.{firstFailed, unasked, inMemory, stripeFits, wor
 use Rattle.steps.specs.Steps.{fresh, stepped, unlessRefused, rowFill, putRow, rowStepBy, rowStep, lossy, checkFill, levelFill, keepSums, raise, levelStepBy, levelStep}
 use Rattle.steps.specs.Rounds.{more, afterRow, afterLevel, takeTurn, goOn, turns}
 use Rattle.repair.specs.Mending.{mended, rowsLeft, endReport, turnReport, turnStripe, turnMarks, mendReport, mendStripe, mendMarks}
-use Rattle.codewords.specs.Codeword.{taken}
-use Rattle.codewords.proofs.Data.{taken-alike}
+use Rattle.encoding.specs.Data.{taken}
+use Rattle.encoding.proofs.Data.{taken-alike}
 use Rattle.plans.specs.declared.Answer.the-variants.{Restored, Stuck}
 use Rattle.repair.specs.Sheet.{exampleAfter}
 use Rattle.demands.specs.Fewer.{FewerLosses}

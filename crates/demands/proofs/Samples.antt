@@ -19,8 +19,9 @@ use Rattle.steps.specs.Steps.{fresh, empty, stepped, unlessRefused, rowFill, pu
 use Rattle.steps.specs.Rounds.{Standing, on, more, afterRow, afterLevel, takeTurn, goOn, turns}
 use Rattle.steps.specs.Walk.{standingOf}
 use Rattle.repair.specs.Mending.{mendReport, mendMarks}
-use Rattle.codewords.specs.Codeword.{rowsHold, totalsHold, isCodeword, taken, encodeRefusal, extractRefusal}
-use Rattle.codewords.proofs.Data.{taken-alike}
+use Rattle.codewords.specs.Codeword.{rowsHold, totalsHold, isCodeword}
+use Rattle.encoding.specs.Data.{taken, encodeRefusal, extractRefusal}
+use Rattle.encoding.proofs.Data.{taken-alike}
 use Rattle.repair.specs.File.{bytes2, headerOf, blanked, writeRefusal, planIn, wordAt, marksIn, symbolsIn, fileRefusal, readRefusal}
 use Rattle.plans.specs.declared.Bench.{Bench}
 use Rattle.plans.specs.declared.Answer.{Answer}

@@ -17,7 +17,8 @@ use Rattle.steps.specs.Steps.{fresh, stepped, unlessRefused, rowFill, putRow, r
 use Rattle.steps.specs.Rounds.{on, more, afterRow, takeTurn, goOn, turns}
 use Rattle.steps.specs.Walk.{standingOf}
 use Rattle.repair.specs.Mending.{mended, bare, turnReport, mendReport}
-use Rattle.codewords.specs.Codeword.{rowsHold, totalsHold, isCodeword, encodeRefusal}
+use Rattle.codewords.specs.Codeword.{rowsHold, totalsHold, isCodeword}
+use Rattle.encoding.specs.Data.{encodeRefusal}
 use Rattle.repair.specs.File.{bytes2, headerOf, blanked, planIn, wordAt, marksIn, symbolsIn, fileRefusal, readRefusal}
 use Rattle.plans.specs.declared.Answer.the-variants.{Clash}
 use Rattle.plans.specs.declared.Place.the-variants.{Row}

@@ -8,7 +8,7 @@ use Rattle.plans.specs.Plan.{planOf}
 use Rattle.plans.specs.Refusal.{unasked, lentRefusal, benchRefusal}
 use Rattle.steps.specs.Steps.{empty, started, stepped, rowStep, levelStep}
 use Rattle.repair.specs.Mending.{bare, mendReport, mendStripe, mendMarks}
-use Rattle.codewords.specs.Codeword.{encodeRefusal, extractRefusal, extractData}
+use Rattle.encoding.specs.Data.{encodeRefusal, extractRefusal, extractData}
 use Rattle.repair.specs.Encoding.{encodeStripe}
 use Rattle.repair.specs.File.{writeRefusal, writeFile, readRefusal, readStripe, readMarks}
 use Rattle.plans.specs.declared.Bench.{Bench}

@@ -6,7 +6,7 @@ use lib.Dec.{T}
 use lib.ListN.{length, replicate}
 use Rattle.plans.specs.Plan.{known, planOf, carried}
 use Rattle.repair.specs.Mending.{mendReport, mendStripe, mendMarks}
-use Rattle.codewords.specs.Codeword.{encodeRefusal, extractRefusal, extractData, extracted}
+use Rattle.encoding.specs.Data.{encodeRefusal, extractRefusal, extractData, extracted}
 use Rattle.repair.specs.Encoding.{encodeStripe}
 use Rattle.plans.specs.declared.Place.{Place}
 use Rattle.plans.specs.declared.Answer.the-variants.{Restored, Stuck, Clash}

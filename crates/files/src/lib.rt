@@ -9,7 +9,7 @@ use plans::refusal;
 use repair::Outcome;
 use repair::plan;
 ghost use mathlib.Core.Path.{_≡_};
-ghost use Rattle.codewords.specs.Codeword.{outcomeOf};
+ghost use Rattle.encoding.specs.Data.{outcomeOf};
 ghost use Rattle.repair.specs.File.{writeRefusal, writeFile, readRefusal, readStripe, readMarks};
 
 // Writes a stripe and its marks as a file, 0 under marks. Where it is refused the file is unchanged.

@@ -8,12 +8,12 @@ use lib.ListN.{length}
 use Rattle.plans.specs.Plan.{planOf, marksOf, checkPlacesOf, carried}
 use Rattle.plans.specs.Refusal.{inMemory, stripeFits}
 use Rattle.repair.specs.Mending.{mendStripe}
-use Rattle.codewords.specs.Codeword.{placed, outcomeOf, encodeRefusal}
+use Rattle.encoding.specs.Data.{placed, outcomeOf, encodeRefusal}
 use Rattle.repair.specs.Encoding.{encoded, encodeStripe}
 use Rattle.plans.specs.declared.Outcome.the-variants.{Done, Refused}
 use Rattle.plans.proofs.Scan.{true-and}
 use Rattle.plans.proofs.Refusals.{passed}
-use Rattle.codewords.proofs.Carrying.{outcome-done, outcome-refused, left-new, left-old}
+use Rattle.encoding.proofs.Carrying.{outcome-done, outcome-refused, left-new, left-old}
 
 module _ (p : ℕ) (ds stripe : List ℕ) {n : ℕ} (e : n ≡ encodeRefusal p ds stripe) where
   pub encode-fits : n ≡ 0 → (length ds ≡ carried (planOf p)) × (length stripe ≡ planOf p .rows * planOf p .columns)

@@ -14,7 +14,8 @@ use Rattle.linear.specs.Marks.{bitsOf}
 use Rattle.linear.specs.Fill.{sumsOf}
 use Rattle.plans.specs.Plan.{allOnes, bitChecks, wordOf, locations1, plan1, locations2, powers2, plan2, locations3, powers3, plan3, known, noPlan, planOf, noLevel, levelOf, checksTo, rowAt, marksAt, marksOf, across, checkPlacesOf, carried, marksOffset, symbolsOffset, fileLength}
 use Rattle.plans.specs.Refusal.{firstFailed, unasked, inMemory, inFile, stripeFits, wordsFit, marksFit, allBelow, unmarkedBelow, symbolsFit, sumsAt, sumsFit, levelFits, lentRefusal, benchRefusal}
-use Rattle.codewords.specs.Codeword.{rowsHold, totalsHold, isCodeword, testRefusal, encodeRefusal, extractRefusal}
+use Rattle.codewords.specs.Codeword.{rowsHold, totalsHold, isCodeword, testRefusal}
+use Rattle.encoding.specs.Data.{encodeRefusal, extractRefusal}
 use Rattle.repair.specs.File.{bytes2, headerOf, blanked, planIn, wordAt, marksIn, symbolsIn, fileRefusal, readRefusal, writeRefusal}
 use Rattle.repair.specs.Sheet.{blank, exampleFile}
 use Rattle.plans.specs.declared.Bench.{Bench}

@@ -13,7 +13,7 @@ use Rattle.plans.specs.Refusal.{firstFailed, unasked, inMemory, inFile, stripeF
 use Rattle.steps.specs.Steps.{fresh, stepped, unlessRefused, rowFill, putRow, rowStepBy, rowStep, lossy, checkFill, levelFill, keepSums, raise, levelStepBy, levelStep}
 use Rattle.steps.specs.Rounds.{more, afterRow, afterLevel, takeTurn, goOn, turns}
 use Rattle.repair.specs.Mending.{mended, rowsLeft, endReport, bare, turnReport, turnStripe, turnMarks, mendReport, mendStripe, mendMarks}
-use Rattle.codewords.specs.Codeword.{placed, encodeRefusal}
+use Rattle.encoding.specs.Data.{placed, encodeRefusal}
 use Rattle.repair.specs.Encoding.{encoded, encodeStripe}
 use Rattle.repair.specs.File.{bytes2, bytes4, headerOf, blanked, planIn, wordAt, marksIn, symbolsIn, fileRefusal}
 use Rattle.repair.specs.Text.{bytes, digitsIn, decimal, hex, item, lineEnd, shown, grid, captioned, endText, placeText, answerText, mendText, printed}

@@ -5,7 +5,7 @@ use lib.Dec.{eqb}
 use Rattle.field.specs.Lists.{if_then_else_}
 use Rattle.plans.specs.Plan.{planOf, checkPlacesOf}
 use Rattle.repair.specs.Mending.{mendStripe}
-use Rattle.codewords.specs.Codeword.{placed, encodeRefusal}
+use Rattle.encoding.specs.Data.{placed, encodeRefusal}
 
 unfoldable pub encoded : ℕ → List ℕ → List ℕ
 encoded p ds = let P = planOf p in mendStripe p (placed (checkPlacesOf P) ds) (P .checkPlaces)

@@ -7,7 +7,7 @@ use Rattle.field.specs.Lists.{_to_}
 use Rattle.field.specs.Field.{mul, gf16, gf32}
 use Rattle.field.specs.Power.{power}
 use Rattle.plans.specs.Plan.{wordOf}
-use Rattle.codewords.specs.Codeword.{encodeRefusal}
+use Rattle.encoding.specs.Data.{encodeRefusal}
 use Rattle.repair.specs.Mending.{mendReport, mendStripe, mendMarks}
 use Rattle.repair.specs.Encoding.{encodeStripe}
 use Rattle.repair.specs.File.{marksIn, symbolsIn}

@@ -1,9 +1,8 @@
 // The repair library: every call that it offers, and what each answers. Mending in one call and encoding stand here.
 mod mending;
 
-use codewords::encoding;
-pub use codewords::extract;
 pub use codewords::is_codeword;
+pub use encoding::extract;
 pub use interleaved::is_interleaved;
 pub use plans::Answer;
 pub use plans::Bench;
@@ -22,7 +21,7 @@ use steps::row;
 pub use steps::row_step;
 pub use steps::start;
 ghost use mathlib.Core.Path.{_≡_};
-ghost use Rattle.codewords.specs.Codeword.{outcomeOf, encodeRefusal};
+ghost use Rattle.encoding.specs.Data.{outcomeOf, encodeRefusal};
 ghost use Rattle.repair.specs.Mending.{mendReport, mendStripe, mendMarks};
 ghost use Rattle.repair.specs.Encoding.{encodeStripe};
 

@@ -7,13 +7,13 @@ use lib.ListN.{length}
 use Rattle.plans.specs.Answers.{stepNumber}
 use Rattle.steps.specs.Steps.{started}
 use Rattle.plans.specs.declared.Bench.{Bench}
-use Rattle.shelf.specs.Layout.{benchSize, benchBytes, benchIn}
+use Rattle.layout.specs.Layout.{benchSize, benchBytes, benchIn}
 use Rattle.shelf.specs.Calls.{startNumber, startBuffer, stepAnswer, stepBuffer}
-use Rattle.shelf.specs.Kept.{OfCode}
 use Rattle.shelf.proofs.Sizing.{sized-fit, sized-unfit}
-use Rattle.shelf.proofs.Kept.{written-is-read, written-long, read-is-written, read-of-code, start-of-code, row-step-of-code, level-step-of-code}
 use Rattle.demands.specs.Words.{Move, onRow, onLevel, after}
+use Rattle.scripts.specs.Kept.{OfCode}
 use Rattle.scripts.specs.Calls.{Call, start, step, stepOf, leaves, answers, run, told, benchAfter, numberOf, benchRun, numbers, StepsAreWalk, Holds, BuffersHold, CallsAreSteps, OtherSizeStays}
+use Rattle.scripts.proofs.Kept.{written-is-read, written-long, read-is-written, read-of-code, start-of-code, row-step-of-code, level-step-of-code}
 
 pub steps-are-walk : StepsAreWalk
 steps-are-walk [] b = refl

@@ -7,7 +7,7 @@ use Rattle.plans.specs.Plan.{planOf}
 use Rattle.steps.specs.Steps.{fresh, startedBy, started}
 use Rattle.repair.specs.Mending.{turnStripe, turnMarks}
 use Rattle.plans.specs.declared.Bench.{Bench}
-use Rattle.shelf.specs.Layout.{benchSize, benchBytes, benchIn}
+use Rattle.layout.specs.Layout.{benchSize, benchBytes, benchIn}
 use Rattle.shelf.specs.Calls.{startBuffer}
 use Rattle.demands.specs.Words.{Move, walk, Quiet, rounds}
 use Rattle.demands.specs.Third.{Premise}

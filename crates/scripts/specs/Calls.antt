@@ -10,10 +10,10 @@ use Rattle.plans.specs.Refusal.{allBelow}
 use Rattle.steps.specs.Steps.{started, rowStep, levelStep}
 use Rattle.plans.specs.declared.Bench.{Bench}
 use Rattle.plans.specs.declared.Stepped.{Stepped}
-use Rattle.shelf.specs.Layout.{benchSize, benchBytes, benchIn}
+use Rattle.layout.specs.Layout.{benchSize, benchBytes, benchIn}
 use Rattle.shelf.specs.Calls.{startNumber, startBuffer, stepAnswer, stepBuffer}
-use Rattle.shelf.specs.Kept.{OfCode}
 use Rattle.demands.specs.Words.{Move, onRow, onLevel, after, walk}
+use Rattle.scripts.specs.Kept.{OfCode}
 
 -- ---- on a buffer
 

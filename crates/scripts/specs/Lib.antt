@@ -1,3 +1,4 @@
 -- What scripts plan on, as statements: each is a type, and the theorem of that type stands in proofs/.
+pub mod Kept
 pub mod Calls
 pub mod Third

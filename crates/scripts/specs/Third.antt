@@ -5,7 +5,7 @@ use mathlib.Core.List.{List, _∷_, map}
 use lib.ListN.{length, take}
 use Rattle.plans.specs.Plan.{planOf}
 use Rattle.repair.specs.Mending.{mendStripe, mendMarks}
-use Rattle.shelf.specs.Layout.{benchSize, benchIn}
+use Rattle.layout.specs.Layout.{benchSize, benchIn}
 use Rattle.demands.specs.Words.{Move, rounds}
 use Rattle.demands.specs.Third.{Premise}
 use Rattle.scripts.specs.Calls.{start, step, leaves, run}

@@ -9,8 +9,9 @@ use Rattle.plans.specs.Plan.{Plan, planOf}
 use Rattle.plans.specs.Answers.{answerNumber}
 use Rattle.repair.specs.Mending.{mendReport, mendStripe, mendMarks}
 use Rattle.plans.specs.declared.Report.{Report}
-use Rattle.shelf.specs.Layout.{reportSize, reportBytes, refuses}
-use Rattle.shelf.specs.Calls.{unfit, reportAfter, mendNumber, mendStripeBuffer, mendMarksBuffer, mendReportBuffer}
+use Rattle.layout.specs.Layout.{reportSize, reportBytes}
+use Rattle.layout.specs.Numbers.{unfit, refuses}
+use Rattle.shelf.specs.Calls.{reportAfter, mendNumber, mendStripeBuffer, mendMarksBuffer, mendReportBuffer}
 use Rattle.shelf.proofs.Sizing.{sized-fit, sized-unfit}
 
 module _ (p : ℕ) (stripe marks report : List ℕ) where

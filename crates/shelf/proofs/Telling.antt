@@ -4,7 +4,7 @@ use mathlib.Core.List.{List}
 use Prim.Native.Nat.{ℕ, zero, suc}
 use lib.ListN.{length}
 use Rattle.plans.specs.Answers.{outcomeNumber}
-use Rattle.codewords.specs.Codeword.{outcomeOf}
+use Rattle.encoding.specs.Data.{outcomeOf}
 use Rattle.repair.specs.File.{bytes2}
 use Rattle.plans.specs.Tables.{padded}
 use Rattle.repair.specs.Text.{printed}

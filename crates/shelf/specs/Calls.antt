@@ -4,7 +4,7 @@ use mathlib.Core.List.{List}
 use lib.Dec.{eqb}
 use lib.ListN.{length}
 use Rattle.field.specs.Lists.{if_then_else_}
-use Rattle.plans.specs.Plan.{Plan, planOf, known}
+use Rattle.plans.specs.Plan.{Plan, planOf}
 use Rattle.plans.specs.Answers.{answerNumber, stepNumber, outcomeNumber}
 use Rattle.steps.specs.Steps.{started}
 use Rattle.repair.specs.File.{bytes2}
@@ -14,11 +14,8 @@ use Rattle.repair.specs.Mending.{mendReport, mendStripe, mendMarks}
 use Rattle.plans.specs.declared.Bench.{Bench}
 use Rattle.plans.specs.declared.Stepped.{Stepped}
 use Rattle.plans.specs.declared.Report.{Report}
-use Rattle.shelf.specs.Layout.{reportSize, reportBytes, refuses, benchSize, benchBytes, benchIn}
-
--- what a buffer of a wrong size is refused by: an unknown plan is named first
-unfoldable pub unfit : ℕ → ℕ
-unfit p = if known p then 11 else 10
+use Rattle.layout.specs.Layout.{reportSize, reportBytes, benchSize, benchBytes, benchIn}
+use Rattle.layout.specs.Numbers.{unfit, refuses}
 
 -- x where the buffer has the size, else y
 unfoldable pub sized : {A : Type 0} → ℕ → List ℕ → A → A → A

@@ -1,10 +1,9 @@
 // The repair library under C names, on numbers and lent buffers. Each function answers for every input by its answer's number.
-mod layout;
-mod numbers;
-
+use layout::numbers;
 ghost use mathlib.Core.Path.{_≡_};
 ghost use Rattle.plans.specs.Answers.{verdictNumber};
-ghost use Rattle.codewords.specs.Codeword.{tested, encodeRefusal, extractRefusal, extractData};
+ghost use Rattle.codewords.specs.Codeword.{tested};
+ghost use Rattle.encoding.specs.Data.{encodeRefusal, extractRefusal, extractData};
 ghost use Rattle.interleaved.specs.Interleaved.{interleaved};
 ghost use Rattle.repair.specs.Encoding.{encodeStripe};
 ghost use Rattle.repair.specs.File.{readRefusal, readStripe, readMarks, writeRefusal, writeFile};

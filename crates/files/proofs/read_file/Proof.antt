@@ -8,7 +8,7 @@ use Rattle.repair.specs.File.{fileRefusal, readRefusal, readStripe, readMarks}
 use Rattle.plans.specs.Refusal.{unasked, stripeFits, wordsFit}
 use Rattle.plans.specs.Plan.{planOf}
 use Rattle.files.proofs.Files.{fit-file, read-fits, read-stripe-long, read-marks-long, stripe-loaded, marks-loaded}
-use Rattle.codewords.proofs.Carrying.{outcome-refused, outcome-done, left-old}
+use Rattle.encoding.proofs.Carrying.{outcome-refused, outcome-done, left-old}
 use Rattle.files.proofs.read_file.Statement.{statement}
 use Rattle.files.proofs.read_file.Tie as tie
 

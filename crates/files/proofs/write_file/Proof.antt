@@ -2,7 +2,7 @@
 use mathlib.Core.Path.{_∙_}
 use borrow.Author.Needs.{needs}
 use Rattle.repair.specs.File.{writeFile}
-use Rattle.codewords.proofs.Carrying.{outcome-refused, outcome-done, left-new, left-old}
+use Rattle.encoding.proofs.Carrying.{outcome-refused, outcome-done, left-new, left-old}
 use Rattle.files.proofs.write_file.Statement.{statement}
 use Rattle.files.proofs.write_file.Tie as tie
 

@@ -1,7 +1,7 @@
 -- `encode` meets its contract. Assumes nothing.
 use mathlib.Core.Path.{sym, _∙_}
 use borrow.Author.Needs.{needs}
-use Rattle.codewords.proofs.Carrying.{lent-room, lent-places, lent-words, lent-count}
+use Rattle.encoding.proofs.Carrying.{lent-room, lent-places, lent-words, lent-count}
 use Rattle.repair.proofs.Encoding.{encode-fits, encode-refused, encode-done}
 use Rattle.repair.proofs.encode.Statement.{statement}
 use Rattle.repair.proofs.encode.Tie as tie

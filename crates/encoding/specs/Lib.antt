@@ -1,0 +1,2 @@
+-- What the crate `encoding` means.
+pub mod Data

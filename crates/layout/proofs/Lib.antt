@@ -1,0 +1,3 @@
+-- What the proofs of the functions cite.
+pub mod Bytes
+pub mod Benches
