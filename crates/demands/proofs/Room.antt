@@ -19,7 +19,7 @@ use Rattle.linear.proofs.Tests.{either}
 use Rattle.plans.specs.Plan.{Plan, Level, known, planOf, levelOf, checksTo, rowAt, marksAt, across}
 use Rattle.plans.specs.Refusal.{sumPlaces, unasked, inMemory, marksFit, allBelow, unmarkedBelow, symbolsFit, sumsAt, sumsFit, levelFits, benchRefusal}
 use Rattle.steps.specs.Steps.{stepped, unlessRefused, rowFill, putRow, rowStepBy, rowStep, lossy, checkFill, Learned, blocked, failing, learned, levelFill, newSums, raise, levelStepBy, levelStep}
-use Rattle.steps.specs.Learned.{benchOf}
+use Rattle.steps.specs.Parts.{benchOf}
 use Rattle.plans.specs.declared.Bench.{Bench}
 use Rattle.plans.specs.declared.Stepped.{Stepped}
 use Rattle.plans.specs.declared.Step.the-variants.{Whole, Filled, Top}

@@ -17,7 +17,7 @@ use Rattle.plans.specs.Plan.{allOnes, bitChecks, wordOf, locations1, plan1, kno
 use Rattle.plans.specs.Refusal.{firstFailed, unasked, inMemory, inFile, stripeFits, wordsFit, marksFit, allBelow, unmarkedBelow, symbolsFit, sumsAt, sumsFit, levelFits, lentRefusal, benchRefusal}
 use Rattle.steps.specs.Steps.{fresh, empty, stepped, unlessRefused, rowFill, putRow, rowStepBy, rowStep, lossy, checkFill, levelFill, keepSums, raise, levelStepBy, levelStep}
 use Rattle.steps.specs.Rounds.{Standing, on, more, afterRow, afterLevel, takeTurn, goOn, turns}
-use Rattle.steps.specs.Walk.{standingOf}
+use Rattle.steps.specs.Parts.{standingOf}
 use Rattle.repair.specs.Mending.{mendReport, mendMarks}
 use Rattle.codewords.specs.Codeword.{rowsHold, totalsHold, isCodeword}
 use Rattle.encoding.specs.Data.{taken, encodeRefusal, extractRefusal}

@@ -15,7 +15,7 @@ use Rattle.plans.specs.Plan.{allOnes, wordOf, locations3, powers3, plan3, known
 use Rattle.plans.specs.Refusal.{firstFailed, unasked, inMemory, inFile, stripeFits, wordsFit, marksFit, allBelow, unmarkedBelow, symbolsFit, sumsAt, sumsFit, levelFits, lentRefusal, benchRefusal}
 use Rattle.steps.specs.Steps.{fresh, stepped, unlessRefused, rowFill, putRow, rowStepBy, rowStep}
 use Rattle.steps.specs.Rounds.{on, more, afterRow, takeTurn, goOn, turns}
-use Rattle.steps.specs.Walk.{standingOf}
+use Rattle.steps.specs.Parts.{standingOf}
 use Rattle.repair.specs.Mending.{mended, bare, turnReport, mendReport}
 use Rattle.codewords.specs.Codeword.{rowsHold, totalsHold, isCodeword}
 use Rattle.encoding.specs.Data.{encodeRefusal}

@@ -23,8 +23,7 @@ use Rattle.steps.specs.Steps.{fresh, empty, startedBy, started, stepped, unless
 use Rattle.steps.specs.Rounds.{Standing, Turn, on, end, clash, more, nextRow, afterRow, afterLevel, takeTurn, goOn, turns}
 use Rattle.repair.specs.Mending.{mended, rowsLeft, endReport, turnReport, turnStripe, turnMarks, bare, mendStripe, mendMarks}
 use Rattle.repair.specs.Text.{item, grid, answerText, mendText}
-use Rattle.steps.specs.Learned.{benchOf}
-use Rattle.steps.specs.Walk.{standingOf}
+use Rattle.steps.specs.Parts.{benchOf, standingOf}
 use Rattle.plans.specs.declared.Bench.{Bench}
 use Rattle.plans.specs.declared.Stepped.{Stepped}
 use Rattle.plans.specs.declared.Step.{Step}

@@ -14,7 +14,7 @@ use Rattle.linear.proofs.Tests.{either}
 use Rattle.plans.specs.Plan.{planOf}
 use Rattle.steps.specs.Steps.{fresh, stepped, rowFill, putRow, rowStepBy, rowStep, Learned, blocked, failing, learned, levelFill, levelStepBy, levelStep}
 use Rattle.steps.specs.Rounds.{Standing, Turn, on, end, clash, afterRow, afterLevel, takeTurn, goOn, turns}
-use Rattle.steps.specs.Walk.{standingOf}
+use Rattle.steps.specs.Parts.{standingOf}
 use Rattle.repair.specs.Mending.{mended}
 use Rattle.plans.specs.declared.Bench.{Bench}
 use Rattle.plans.specs.declared.Stepped.{Stepped}

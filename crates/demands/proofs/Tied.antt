@@ -24,7 +24,7 @@ use Rattle.steps.specs.Steps.{stepped, unlessRefused, rowFill, rowStepBy, rowSt
 use Rattle.plans.specs.declared.Bench.{Bench}
 use Rattle.plans.specs.declared.Step.the-variants.{Whole, Filled, Tied, Top, Clash}
 use Rattle.plans.proofs.Spread.{fields, weights-tied}
-use Rattle.steps.proofs.Learning.{level-blocked}
+use Rattle.steps.proofs.Ends.{level-blocked}
 use Rattle.demands.specs.Tied.{Fills, FillsRow, TiedHasFilling, ClashHasNone, LeftRowsFill, SumsExist, LevelClashIsFree}
 use Rattle.demands.proofs.Rounds.{Ended, Out, mended-out}
 

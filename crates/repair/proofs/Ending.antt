@@ -17,9 +17,9 @@ use Rattle.plans.specs.Plan.{Plan, planOf, checksTo}
 use Rattle.plans.specs.Refusal.{unasked, lentRefusal, benchRefusal}
 use Rattle.plans.specs.Tables.{padded}
 use Rattle.steps.specs.Steps.{fresh, lossy}
-use Rattle.steps.specs.Learned.{benchOf}
+use Rattle.steps.specs.Parts.{benchOf, Arrays, standingOf}
 use Rattle.steps.specs.Rounds.{Turn, on, end, clash, turns}
-use Rattle.steps.specs.Walk.{Arrays, standingOf, overMarked}
+use Rattle.rows.specs.Walk.{overMarked}
 use Rattle.repair.specs.Mending.{roundsOn, mended, rowsLeft, endReport, bare, turnReport, turnStripe, turnMarks, mendReport, mendStripe, mendMarks}
 use Rattle.repair.specs.Ended.{startOf, Ended, clashes}
 use Rattle.plans.specs.declared.Report.{Report}
@@ -27,7 +27,7 @@ use Rattle.plans.specs.declared.Answer.the-variants.{Restored, Stuck, Refused a
 use Rattle.plans.proofs.Shape.{shape}
 use Rattle.steps.proofs.Fit.{LentFit, lent-fit, fit-bench, fresh-mark}
 use Rattle.steps.proofs.Sound.{Sound, sound-fresh}
-use Rattle.steps.proofs.Over.{over-each, over-ends}
+use Rattle.rows.proofs.Over.{over-each, over-ends}
 
 module _ (p : ℕ) (stripe marks : List ℕ) (n : ℕ) (e : n ≡ lentRefusal p stripe marks) where
   -- what is left behind: the report, the stripe, the marks

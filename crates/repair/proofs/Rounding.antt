@@ -15,20 +15,21 @@ use Rattle.plans.specs.Plan.{planOf}
 use Rattle.steps.specs.Steps.{lossy, Learned, blocked, failing, learned, levelFill, raise}
 use Rattle.steps.specs.Rounds.{Turn, end, clash, more, turns}
 use Rattle.repair.specs.Mending.{roundsOn, rowsLeft, endReport, bare}
-use Rattle.steps.specs.Learned.{benchOf, learningOf, sumsAfter}
-use Rattle.steps.specs.Walk.{standingOf, Settled, Walked}
+use Rattle.steps.specs.Parts.{benchOf, standingOf}
+use Rattle.levels.specs.Learned.{learningOf, sumsAfter}
+use Rattle.rows.specs.Walk.{Settled, Walked}
 use Rattle.repair.specs.Ended.{startOf, Ended}
 use Rattle.plans.specs.declared.Report.{Report}
 use Rattle.plans.specs.declared.Place.the-variants.{Row, Across}
 use Rattle.plans.specs.declared.Answer.the-variants.{Restored, Stuck, Clash}
-use Rattle.steps.specs.declared.level.Learning.{Learning}
-use Rattle.steps.specs.declared.level.Learning.the-variants.{Blocked, Failing, Learned as AllLearned}
+use Rattle.levels.specs.declared.Learning.{Learning}
+use Rattle.levels.specs.declared.Learning.the-variants.{Blocked, Failing, Learned as AllLearned}
 use Rattle.plans.proofs.Shape.{shape}
 use Rattle.repair.proofs.Leaving.{lossyAt}
 use Rattle.steps.proofs.Sound.{Sound, sound-raise}
-use Rattle.steps.proofs.Settled.{settled-raise}
+use Rattle.rows.proofs.Settled.{settled-raise}
 use Rattle.steps.proofs.Turns.{turn-top, turn-blocked, turn-failing, turn-learned}
-use Rattle.steps.proofs.Walking.{sound-of}
+use Rattle.rows.proofs.Walking.{sound-of}
 
 -- ---- the report
 

@@ -4,7 +4,7 @@ use mathlib.Core.Path.{_≡_}
 use mathlib.Core.Bool.{Bool, true, false}
 use mathlib.Core.List.{List}
 use lib.ListN.{replicate}
-use Rattle.steps.specs.Learned.{benchOf}
+use Rattle.steps.specs.Parts.{benchOf}
 use Rattle.steps.specs.Rounds.{Turn, on, end, clash}
 use Rattle.repair.specs.Mending.{endReport, bare}
 use Rattle.plans.specs.declared.Bench.{Bench}

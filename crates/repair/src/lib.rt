@@ -4,6 +4,7 @@ mod mending;
 pub use codewords::is_codeword;
 pub use encoding::extract;
 pub use interleaved::is_interleaved;
+pub use levels::level_step;
 pub use plans::Answer;
 pub use plans::Bench;
 pub use plans::Outcome;
@@ -16,9 +17,7 @@ pub use plans::Verdict;
 use plans::copies;
 pub use plans::plan;
 use plans::refusal;
-pub use steps::level_step;
-use steps::row;
-pub use steps::row_step;
+pub use rows::row_step;
 pub use steps::start;
 ghost use mathlib.Core.Path.{_≡_};
 ghost use Rattle.encoding.specs.Data.{outcomeOf, encodeRefusal};
@@ -36,7 +35,7 @@ pub fn mend(plan: usize, stripe: &mut [u8], marks: &mut [u32]) -> Report
     if refused != 0 {
         return mending::bare_report(Answer::Refused(refused));
     }
-    if row::over_marked(plan, &marks[..]) {
+    if rows::over_marked(plan, &marks[..]) {
         return mending::end_report(plan, 1, [0; 3], &marks[..]);
     }
     let mut symbols = copies::symbols_of(&stripe[..]);

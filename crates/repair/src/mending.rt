@@ -1,11 +1,9 @@
 // Mending in one call: rounds on a bench of its own, until they stop.
+use levels::Learning;
 use plans::Answer;
 use plans::Place;
 use plans::Report;
 use plans::plan;
-use steps::level;
-use steps::level::Learning;
-use steps::row;
 ghost use mathlib.Core.Path.{_≡_};
 ghost use mathlib.Core.Bool.{not};
 ghost use mathlib.Core.List.{[], map};
@@ -19,8 +17,7 @@ ghost use Rattle.plans.specs.Plan.{planOf};
 ghost use Rattle.plans.specs.Tables.{checkTable};
 ghost use Rattle.plans.specs.Refusal.{benchRefusal, unasked};
 ghost use Rattle.repair.specs.Mending.{roundsOn, bare, endReport};
-ghost use Rattle.steps.specs.Learned.{benchOf};
-ghost use Rattle.steps.specs.Walk.{Arrays, standingOf};
+ghost use Rattle.steps.specs.Parts.{benchOf, Arrays, standingOf};
 ghost use Rattle.repair.specs.Ended.{startOf, Ended, clashes};
 
 // How many of the rows have marks.
@@ -94,7 +91,7 @@ fn rounds_by(
     let mut restored = [0usize; 3];
     let mut level = 1;
     loop {
-        let walk = row::walk_rows(plan, level, table, checks, symbols, marks, &sums[..]);
+        let walk = rows::walk_rows(plan, level, table, checks, symbols, marks, &sums[..]);
         let row = walk.row;
         if row < rows {
             let place = Place::Row {
@@ -107,7 +104,7 @@ fn rounds_by(
         if level == levels {
             break;
         }
-        match level::learn(plan, level, table, checks, symbols, marks, &mut sums) {
+        match levels::learn(plan, level, table, checks, symbols, marks, &mut sums) {
             Learning::Failing => {
                 return bare_report(Answer::Clash(Place::Across { level: level + 1 }));
             }

@@ -21,7 +21,7 @@ use Rattle.plans.specs.Answers.{stepNumber}
 use Rattle.plans.specs.Refusal.{unasked, allBelow, lentRefusal, benchRefusal}
 use Rattle.repair.specs.File.{bytes4, wordAt}
 use Rattle.steps.specs.Steps.{fresh, empty, startedBy, started, stepped, unlessRefused, rowFill, putRow, rowStepBy, rowStep, Learned, blocked, failing, learned, levelFill, raise, levelStepBy, levelStep}
-use Rattle.steps.specs.Learned.{benchOf}
+use Rattle.steps.specs.Parts.{benchOf}
 use Rattle.plans.specs.declared.Bench.{Bench}
 use Rattle.plans.specs.declared.Stepped.{Stepped}
 use Rattle.plans.specs.declared.Step.the-variants.{Whole, Filled, Top}
@@ -29,7 +29,7 @@ use Rattle.plans.proofs.Rows.{same-or-other}
 use Rattle.plans.proofs.Shape.{shape}
 use Rattle.steps.proofs.Fit.{LentFit, lent-fit, Sized, sized-fresh, fresh-mark, BenchFit, bench-fit}
 use Rattle.steps.proofs.Sound.{Sound, sized-put, sized-raise}
-use Rattle.steps.proofs.Settled.{whole-row, put-whole}
+use Rattle.rows.proofs.Settled.{whole-row, put-whole}
 use Rattle.files.proofs.Laws.{bytes-fit}
 use Rattle.files.proofs.Files.{word-behind, words-bytes, words-at, length-bytes}
 use Rattle.texts.proofs.Texts.{below-at}

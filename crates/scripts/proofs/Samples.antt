@@ -17,7 +17,7 @@ use Rattle.repair.specs.Sheet.{Case, restored, stuck, clashed, unchanged, blank
 use Rattle.repair.proofs.Sheet.{sheet}
 use Rattle.steps.proofs.Fit.{marks-fit, fit-lent}
 use Rattle.plans.proofs.Refusals.{unmarked-below}
-use Rattle.steps.proofs.Settled.{put-whole}
+use Rattle.rows.proofs.Settled.{put-whole}
 use Rattle.layout.specs.Layout.{benchSize, benchIn}
 use Rattle.demands.specs.Words.{Fit, Move, onRow, onLevel, after, walk, Quiet, rounds, counts}
 use Rattle.demands.specs.Third.{Premise}

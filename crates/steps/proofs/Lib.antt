@@ -1,5 +1,4 @@
--- What is shown of start and of the steps.
--- what the proofs of the code and of the demands rest on
+-- What is shown of start and of the steps, for the code of both steps and for the demands.
 pub mod Sums
 pub mod Levels
 pub mod Fit
@@ -7,17 +6,6 @@ pub mod Passing
 pub mod Sound
 pub mod Unmarked
 pub mod Turns
+pub mod Ends
 -- the start
 pub mod Starts
--- the rows of a round, and the row step
-pub mod Settled
-pub mod Checks
-pub mod Lending
-pub mod Walking
-pub mod Arms
-pub mod Stepping
--- the level step
-pub mod Keeping
-pub mod Learning
--- marks beyond all rows' sums
-pub mod Over

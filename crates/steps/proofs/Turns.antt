@@ -13,7 +13,7 @@ use Rattle.linear.specs.Fill.{Fill, tied, none, one}
 use Rattle.plans.specs.Plan.{planOf}
 use Rattle.steps.specs.Steps.{stepped, rowFill, putRow, rowStepBy, Learned, blocked, failing, learned, levelFill, raise, levelStepBy}
 use Rattle.steps.specs.Rounds.{Turn, end, clash, more, afterRow, afterLevel, takeTurn, goOn, turns}
-use Rattle.steps.specs.Walk.{standingOf}
+use Rattle.steps.specs.Parts.{standingOf}
 use Rattle.plans.specs.declared.Bench.{Bench}
 use Rattle.plans.specs.declared.Stepped.{Stepped}
 use Rattle.plans.specs.declared.Step.the-variants.{Whole, Filled, Raised, Blocked, Top, Clash}

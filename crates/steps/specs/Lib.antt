@@ -2,5 +2,4 @@
 pub mod Steps
 pub mod Rounds
 -- what the contracts of inner functions cite
-pub mod Learned
-pub mod Walk
+pub mod Parts

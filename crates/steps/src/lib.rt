@@ -1,17 +1,11 @@
-// A bench started, and its steps.
-pub mod level;
-pub mod row;
-
+// A bench started.
 use plans::Bench;
 use plans::Outcome;
 use plans::Started;
-use plans::Step;
-use plans::Stepped;
 use plans::copies;
-use plans::plan;
 use plans::refusal;
 ghost use mathlib.Core.Path.{_≡_};
-ghost use Rattle.steps.specs.Steps.{started, rowStep, levelStep};
+ghost use Rattle.steps.specs.Steps.{started};
 
 // A bench at level 1 that holds the stripe and the marks as lent, all sums zero; or, where they are refused, a bench of zeros.
 // Stripe and marks stay as they are.
@@ -45,56 +39,4 @@ pub fn start(plan: usize, stripe: &[u8], marks: &[u32]) -> Started
         bench: bench,
         answer: Outcome::Refused(number),
     }
-}
-
-// The row step: a row's marked symbols are filled and its marks cleared, or nothing changes.
-pub fn row_step(bench: Bench, row: usize) -> Stepped
-    ensures { λ r. ⌜ r ≡ rowStep bench row ⌝ }
-{
-    let plan = bench.plan;
-    let level = bench.level;
-    let mut symbols = bench.symbols;
-    let mut marks = bench.marks;
-    let sums = bench.sums;
-    let answer = row::step_row(plan, level, &mut symbols, &mut marks, &sums, row);
-    let after = Bench {
-        plan: plan,
-        level: level,
-        symbols: symbols,
-        marks: marks,
-        sums: sums,
-    };
-    Stepped {
-        bench: after,
-        answer: answer,
-    }
-}
-
-// The level step: all rows' sums of the next level are learned and the level rises by one, or nothing changes.
-pub fn level_step(bench: Bench) -> Stepped
-    ensures { λ r. ⌜ r ≡ levelStep bench ⌝ }
-{
-    let plan = bench.plan;
-    let level = bench.level;
-    let number = refusal::bench_refusal(
-        plan,
-        level,
-        &bench.symbols,
-        &bench.marks,
-        &bench.sums,
-        true,
-    );
-    if number != 0 {
-        return Stepped {
-            bench: bench,
-            answer: Step::Refused(number),
-        };
-    }
-    if plan::levels(plan) <= level {
-        return Stepped {
-            bench: bench,
-            answer: Step::Top,
-        };
-    }
-    level::raise(bench)
 }

@@ -6,7 +6,7 @@ use borrow.Author.Needs.{needs}
 use Rattle.plans.specs.Refusal.{benchRefusal, unasked}
 use Rattle.plans.specs.declared.Report.{Report}
 use Rattle.plans.proofs.Shape.{third}
-use Rattle.steps.proofs.Walking.{sound-of}
+use Rattle.rows.proofs.Walking.{sound-of}
 use Rattle.repair.specs.Mending.{roundsOn}
 use Rattle.repair.specs.Ended.{startOf, Ended}
 use Rattle.repair.proofs.mending.rounds.Statement.{statement}

@@ -7,8 +7,8 @@ use Rattle.plans.specs.Plan.{planOf}
 use Rattle.plans.specs.Refusal.{unasked}
 use Rattle.plans.proofs.Shape.{shape}
 use Rattle.steps.proofs.Fit.{fit-bench}
-use Rattle.steps.proofs.Walking.{sound-of}
-use Rattle.steps.proofs.Arms.{arm-blocked, arm-failing, arm-learned}
+use Rattle.rows.proofs.Walking.{sound-of}
+use Rattle.levels.proofs.Arms.{arm-blocked, arm-failing, arm-learned}
 use Rattle.repair.specs.Mending.{roundsOn}
 use Rattle.repair.specs.Ended.{startOf}
 use Rattle.repair.proofs.Rounding.{Rounding, rounding-starts, rounded-clash, rounded-top, rounded-blocked, rounded-failing, rounding-turns}

@@ -1,0 +1,2 @@
+-- What the contracts of the crate `rows` cite.
+pub mod Walk
