@@ -4,16 +4,17 @@ use mathlib.Core.Logic.{_⊎_, inl, inr}
 use mathlib.Core.Bool.{Bool, true, false, not}
 use mathlib.Core.List.{List, [], _∷_, map}
 use Prim.Native.Nat.{ℕ, zero, suc, pred, _+_, _*_, _^_, _<_, _≤_, zero-le}
-use native.Mathlib.Nat.{eq-or-lt-of-le, not-suc-le-zero, le-of-suc-le-suc, le-trans, suc-mul, zero-mul}
+use native.Mathlib.Nat.{eq-or-lt-of-le, not-suc-le-zero, le-of-suc-le-suc, le-refl, le-trans, mul-le-mul, suc-mul, zero-mul}
 use native.Mathlib.Omega.{arith}
 use borrow.Author.Tests.{leb-true}
 use lib.Count.{ones}
-use lib.Dec.{T, T-not, eqb, leb, nleb→lt}
+use lib.Dec.{T, T-not, eqb, leb, eqb→eq, leb→le, nleb→lt}
 use lib.ListN.{length, take, getD, length-map}
 use lib.Seq.{ext-getD, getD-take, length-take-le}
 use Rattle.field.specs.Lists.{if_then_else_, upFrom}
 use Rattle.field.proofs.Lists.{length-up, getD-map-below}
-use Rattle.linear.specs.Lists.{only}
+use Rattle.field.proofs.Test.{both-left, both-right}
+use Rattle.linear.specs.Lists.{all, only}
 use Rattle.linear.specs.Marks.{bitsOf}
 use Rattle.linear.proofs.Tests.{either}
 use Rattle.linear.proofs.Choices.{Inside}
@@ -21,10 +22,12 @@ use Rattle.linear.proofs.Weights.{marked, marked-bits}
 use Rattle.plans.specs.Plan.{Plan, plan1, plan2, plan3, noPlan, planOf, marksAt}
 use Rattle.steps.specs.Steps.{lossy}
 use Rattle.steps.proofs.Fit.{lent-fit}
+use Rattle.plans.proofs.Plans.{all-beside}
 use Rattle.plans.proofs.Rows.{marks-length}
-use Rattle.demands.specs.Words.{rowsWith, counts, Within, MeetsCounts, total, distance}
+use Rattle.demands.specs.Published.{published, nothing, counts, distance}
+use Rattle.demands.specs.Words.{rowsWith, Within, MeetsCounts, total}
 use Rattle.demands.specs.Second.{CountsSuffice, DistanceSuffices}
-use Rattle.demands.proofs.Few.{count, few-independent, weights-independent}
+use Rattle.demands.proofs.Few.{all-published, count, few-independent, weights-independent}
 use Rattle.demands.proofs.Held.{rowTied, levelTied, LevelFree}
 use Rattle.demands.proofs.Left.{lossy-none}
 use Rattle.demands.proofs.Second.{restores}
@@ -58,14 +61,15 @@ within-at P marks [] w i l = absurd (not-suc-le-zero l)
 within-at P marks (c ∷ cs) w zero l = w .0
 within-at P marks (c ∷ cs) w (suc i) l = within-at P marks cs (w .1) i (le-of-suc-le-suc l)
 
--- one for each level, and none of the last level's rows
-counts-levels : (p : ℕ) → (length (counts p) ≡ length (planOf p .levels)) × (count p (pred (length (planOf p .levels))) .1 ≡ 0)
-unfolding counts plan1 plan2 plan3 noPlan planOf
-counts-levels zero = (refl, refl)
-counts-levels (suc zero) = (refl, refl)
-counts-levels (suc (suc zero)) = (refl, refl)
-counts-levels (suc (suc (suc zero))) = (refl, refl)
-counts-levels (suc (suc (suc (suc p)))) = (refl, refl)
+-- one for each level
+counts-long : (p : ℕ) → length (counts p) ≡ length (planOf p .levels)
+unfolding counts plan1 plan2 plan3 noPlan
+counts-long p = eqb→eq _ _ (all-beside nothing published (λ P B. eqb (length (B .counts)) (length (P .levels))) tt p)
+
+-- and none of the last level's rows
+last-none : (p : ℕ) → count p (pred (length (planOf p .levels))) .1 ≡ 0
+unfolding counts plan1 plan2 plan3 noPlan
+last-none p = eqb→eq _ 0 (all-beside nothing published (λ P B. eqb (getD (B .counts) (pred (length (P .levels))) (0, 0) .1) 0) tt p)
 
 -- ---- marks inside marks
 
@@ -144,7 +148,7 @@ module _ (p : ℕ) (marks : List ℕ) (words : length marks ≡ planOf p .rows)
         le-trans
         (inside-marked (lossy P M) (map enough (upFrom 0 (P .rows))) (lossy-inside M enough 0 (P .rows) (λ r l. many r (omega arith))))
         (subst (λ n. n ≤ count p i .1) (rows-with P marks (count p i .0) words)
-        (within-at P marks (counts p) meets i (omega (arith, counts-levels p .0))))
+        (within-at P marks (counts p) meets i (omega (arith, counts-long p))))
 
     learned : suc i < length (P .levels) → LevelFree p (suc i) M
     unfolding lossy
@@ -153,7 +157,7 @@ module _ (p : ℕ) (marks : List ℕ) (words : length marks ≡ planOf p .rows)
     clear : suc i ≡ length (P .levels) → (r : ℕ) → r < P .rows → getD M r 0 ≡ 0
     unfolding lossy
     clear e r h =
-        let none : count p i .1 ≡ 0 = ap (λ n. count p (pred n) .1) e ∙ counts-levels p .1 in
+        let none : count p i .1 ≡ 0 = ap (λ n. count p (pred n) .1) e ∙ last-none p in
         lossy-none M 0 (P .rows) (omega (arith, few-left (omega arith))) r zero-le (omega arith)
 
   counts-clear : Clears p marks
@@ -192,15 +196,29 @@ with-le : (P : Plan) (marks : List ℕ) (n : ℕ) → rowsWith P marks n * n ≤
 unfolding rowsWith
 with-le P marks n = le-trans (rows-weigh n (take (P .rows) marks)) (total-take (P .rows) marks)
 
+-- one row more than a count allows has at least d marks
+abbrev heavy : ℕ → ℕ × ℕ → Bool
+heavy d c = leb d (suc (c .1) * c .0)
+
+light-within : (P : Plan) (marks : List ℕ) (d : ℕ) → total marks < d → (cs : List (ℕ × ℕ)) → T (all (heavy d) cs) → Within P marks cs
+unfolding all
+light-within P marks d h [] t = tt
+light-within P marks d h (c ∷ cs) t = (few, light-within P marks d h cs (both-right (heavy d c) (all (heavy d) cs) t))
+  where
+    few : rowsWith P marks (c .0) ≤ c .1
+    few =
+        elim (either (leb (rowsWith P marks (c .0)) (c .1))) [
+          | inl s ↦ leb→le _ _ s
+          | inr s ↦
+              let more = mul-le-mul (nleb→lt (rowsWith P marks (c .0)) (c .1) s) (le-refl (c .0)) in
+              let enough = leb→le d (suc (c .1) * c .0) (both-left (heavy d c) (all (heavy d) cs) t) in
+              absurd (omega (arith, with-le P marks (c .0)))
+        ]
+
 light-meets : (p : ℕ) (marks : List ℕ) → total marks < distance p → MeetsCounts p marks
-unfolding counts distance
-light-meets zero marks h = tt
-light-meets (suc zero) marks h = (omega (arith, with-le (planOf 1) marks 2), (omega (arith, with-le (planOf 1) marks 4), tt))
-light-meets (suc (suc zero)) marks h =
-    (omega (arith, with-le (planOf 2) marks 4), (omega (arith, with-le (planOf 2) marks 6), (omega (arith, with-le (planOf 2) marks 8), tt)))
-light-meets (suc (suc (suc zero))) marks h =
-    (omega (arith, with-le (planOf 3) marks 3), (omega (arith, with-le (planOf 3) marks 4), (omega (arith, with-le (planOf 3) marks 8), tt)))
-light-meets (suc (suc (suc (suc p)))) marks h = tt
+unfolding all counts distance
+light-meets p marks h =
+    light-within (planOf p) marks (distance p) h (counts p) (all-published (λ B. all (heavy (B .d)) (B .counts)) tt p)
 
 pub distance-suffices : DistanceSuffices
 distance-suffices p X stripe marks word fit agree light = counts-suffice p X stripe marks word fit agree (light-meets p marks light)

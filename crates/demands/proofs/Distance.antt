@@ -28,7 +28,8 @@ use Rattle.repair.specs.Mending.{mendStripe}
 use Rattle.plans.proofs.Shape.{plan-field}
 use Rattle.steps.proofs.Fit.{rows-all, all-zeros, all-take, all-drop, fit-lent}
 use Rattle.plans.proofs.Refusals.{unmarked-below}
-use Rattle.demands.specs.Words.{Codeword, Agree, Fit, total, distance}
+use Rattle.demands.specs.Published.{distance}
+use Rattle.demands.specs.Words.{Codeword, Agree, Fit, total}
 use Rattle.demands.specs.Parameters.{Distance}
 use Rattle.demands.proofs.Lists.{all-map}
 use Rattle.demands.proofs.Marked.{wordWith, word-lt, word-bits, support, support-length, support-marked, support-agrees}

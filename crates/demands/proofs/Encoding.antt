@@ -12,16 +12,17 @@ use Rattle.field.specs.Lists.{upFrom}
 use Rattle.field.specs.Field.{size}
 use Rattle.field.proofs.Test.{both-left, both, below, at}
 use Rattle.field.proofs.Ring.{size-pos}
+use Rattle.linear.specs.Lists.{all}
 use Rattle.linear.proofs.Tests.{either}
 use Rattle.linear.proofs.Filling.{independent-inside}
 use Rattle.linear.proofs.Choices.{alike-at}
-use Rattle.plans.specs.Plan.{Plan, wordOf, plan1, plan2, plan3, known, planOf, levelOf, rowAt, marksAt, marksOf, checkPlacesOf, carried}
+use Rattle.plans.specs.Plan.{Plan, wordOf, plan1, plan2, plan3, noPlan, known, planOf, levelOf, rowAt, marksAt, marksOf, checkPlacesOf, carried}
 use Rattle.steps.specs.Steps.{lossy}
 use Rattle.plans.specs.Refusal.{unasked, stripeFits, allBelow}
 use Rattle.codewords.specs.Codeword.{isCodeword}
 use Rattle.encoding.specs.Data.{placed, encodeRefusal, extracted, extractRefusal, extractData}
 use Rattle.repair.specs.Encoding.{encoded, encodeStripe}
-use Rattle.plans.proofs.Shape.{of-known}
+use Rattle.plans.proofs.Plans.{all-plans}
 use Rattle.steps.proofs.Fit.{eq→eqb, Passed, passed, passes, if-true, all-take, all-drop, fit-lent}
 use Rattle.plans.proofs.Refusals.{unmarked-below}
 use Rattle.encoding.proofs.Placing.{rows-length}
@@ -40,9 +41,9 @@ use Rattle.demands.proofs.Existence.{codeword-holds}
 -- ---- the check places
 
 -- no mark stands at column N or above
-places-low : (p : ℕ) → T (known p) → T (below (planOf p .rows) (λ r. ltb (getD (planOf p .checkPlaces) r 0) (2 ^ planOf p .columns)))
-unfolding upFrom wordOf plan1 plan2 plan3 planOf
-places-low = of-known (λ p. T (below (planOf p .rows) (λ r. ltb (getD (planOf p .checkPlaces) r 0) (2 ^ planOf p .columns)))) tt tt tt
+places-low : (p : ℕ) → T (below (planOf p .rows) (λ r. ltb (getD (planOf p .checkPlaces) r 0) (2 ^ planOf p .columns)))
+unfolding upFrom all wordOf plan1 plan2 plan3 noPlan
+places-low = all-plans (λ P. below (P .rows) (λ r. ltb (getD (P .checkPlaces) r 0) (2 ^ P .columns))) tt
 
 places-count : (P : Plan) → length (checkPlacesOf P) ≡ P .rows * P .columns
 unfolding marksOf checkPlacesOf
@@ -98,7 +99,7 @@ module _ (p : ℕ) (kn : T (known p)) (ds : List ℕ) (count : length ds ≡ car
     words = words-count p;
     mark-lt = λ r h.
         ltb→lt (getD (P .checkPlaces) r 0) (2 ^ P .columns)
-        (at (P .rows) (λ r. ltb (getD (P .checkPlaces) r 0) (2 ^ P .columns)) (places-low p kn) r h);
+        (at (P .rows) (λ r. ltb (getD (P .checkPlaces) r 0) (2 ^ P .columns)) (places-low p) r h);
     row-fits = λ r h.
         unmarked-below (P .field) (marksAt P (P .checkPlaces) r) (rowAt P D r)
         (all-take (λ x. ltb x (size (P .field))) (P .columns) (drop (r * P .columns) D)

@@ -15,13 +15,16 @@ use Rattle.field.proofs.Test.{both-left, both-right, below, at}
 use Rattle.field.proofs.Laws.{IsField}
 use Rattle.field.proofs.Fields.{gf8-field, gf32-field}
 use Rattle.field.proofs.Words.{fit-le}
+use Rattle.linear.specs.Lists.{all}
 use Rattle.linear.proofs.Tests.{either}
 use Rattle.linear.proofs.Filling.{Independent}
 use Rattle.linear.proofs.Weights.{marked, light-independent}
 use Rattle.plans.specs.Plan.{allOnes, bitChecks, locations1, plan1, locations2, powers2, plan2, locations3, powers3, plan3}
 use Rattle.plans.specs.Plan.{noPlan, planOf, noLevel, levelOf, checksTo}
+use Rattle.plans.proofs.Flat.{all-getD}
+use Rattle.plans.proofs.Plans.{all-beside}
 use Rattle.plans.proofs.Spread.{areLocations, first-powers, zero-word, weights-spread, sums-spread}
-use Rattle.demands.specs.Words.{counts}
+use Rattle.demands.specs.Published.{Published, published, nothing, publishedOf, counts}
 use Rattle.demands.proofs.Binary.{binaryChecks, power-sums-zero}
 
 -- for bits, under parity and the power sums 1 to 2 j - 1, any 2 j + 1 columns are independent
@@ -43,7 +46,12 @@ locations-2 : T (areLocations gf32 locations2)
 unfolding upFrom _⊕_ size double times mul power gf32 locations2
 locations-2 = tt
 
--- ---- our plans
+-- ---- what is published of our plans
+
+-- by one test
+pub all-published : (f : Published → Bool) → T (all f (nothing ∷ published)) → (p : ℕ) → T (f (publishedOf p))
+unfolding all
+all-published f t = all-getD f nothing (both-left (f nothing) (all f published) t) (nothing ∷ published) t
 
 -- entry i of the published counts stands for level i + 1
 abbrev pub count : ℕ → ℕ → ℕ × ℕ
@@ -52,12 +60,9 @@ count p i = getD (counts p) i (0, 0)
 -- fewer marks than the counts name at a level are no more than its sums, and the rows that they allow no more than the totals of the next
 within-sums : (p : ℕ) → T (below (length (counts p)) (λ i.
     leb (count p i .0) (suc (length (checksTo (planOf p) (suc i)))) && leb (count p i .1) (length (levelOf (planOf p) (suc (suc i)) .weights))))
-unfolding flatMap upFrom allOnes bitChecks plan1 locations1 plan2 powers2 locations2 plan3 powers3 locations3 noPlan planOf noLevel levelOf checksTo counts
-within-sums zero = tt
-within-sums (suc zero) = tt
-within-sums (suc (suc zero)) = tt
-within-sums (suc (suc (suc zero))) = tt
-within-sums (suc (suc (suc (suc p)))) = tt
+unfolding flatMap upFrom allOnes bitChecks plan1 locations1 plan2 powers2 locations2 plan3 powers3 locations3 noPlan noLevel levelOf checksTo counts
+within-sums = all-beside nothing published (λ P B. below (length (B .counts)) (λ i.
+    leb (getD (B .counts) i (0, 0) .0) (suc (length (checksTo P (suc i)))) && leb (getD (B .counts) i (0, 0) .1) (length (levelOf P (suc (suc i)) .weights)))) tt
 
 count-bounds : (p i : ℕ) → (count p i .0 ≤ suc (length (checksTo (planOf p) (suc i)))) × (count p i .1 ≤ length (levelOf (planOf p) (suc (suc i)) .weights))
 count-bounds p i = elim (either (ltb i (length (counts p)))) [

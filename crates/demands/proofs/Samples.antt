@@ -31,7 +31,8 @@ use Rattle.repair.specs.Sheet.{Case, restored, stuck, clashed, blank, unchanged
 use Rattle.repair.proofs.Sheet.{sheet}
 use Rattle.repair.proofs.Samples.{noMarks, withByte, withBytes, file-order}
 use Rattle.steps.proofs.Sound.{row-outside}
-use Rattle.demands.specs.Words.{Codeword, Agree, Fit, Move, onRow, onLevel, walk, Quiet, rounds, rowsWith, counts, MeetsCounts, total, rowDistance, distance}
+use Rattle.demands.specs.Published.{counts, rowDistance, distance}
+use Rattle.demands.specs.Words.{Codeword, Agree, Fit, Move, onRow, onLevel, walk, Quiet, rounds, rowsWith, MeetsCounts, total}
 use Rattle.demands.specs.Second.{IsEncoding}
 use Rattle.demands.specs.Third.{Premise}
 use Rattle.demands.specs.Stopping.{begun}

@@ -14,12 +14,13 @@ use Rattle.field.specs.Power.{power}
 use Rattle.field.proofs.Test.{both-left, both-right, below, at}
 use Rattle.field.proofs.Laws.{IsField}
 use Rattle.field.proofs.Fields.{gf2-field, gf16-field}
-use Rattle.field.proofs.Words.{Each}
+use Rattle.field.proofs.Words.{Each, _&_}
 use Rattle.linear.specs.Lists.{only, first, rest}
 use Rattle.linear.specs.Marks.{bitsOf}
 use Rattle.linear.proofs.Picked.{picked}
 use Rattle.plans.specs.Plan.{Plan, allOnes, bitChecks, wordOf, locations1, plan1, locations2, powers2, plan2, locations3, powers3, plan3}
 use Rattle.plans.specs.Plan.{noPlan, planOf, levelOf, checksTo, marksAt}
+use Rattle.plans.proofs.Plans.{all-beside}
 use Rattle.repair.proofs.Samples.{rowOf}
 use Rattle.demands.proofs.Lists.{in-below, each-in}
 use Rattle.demands.proofs.Matrix.{combine, product, identity}
@@ -83,13 +84,12 @@ square-row P K t r = square (P .field) K (checksTo P t) (marksAt P (P .checkPlac
 
 -- ---- the order of encoding
 
--- the level at which each row is mended
+-- the level at which each row is mended, for each plan
+abbrev orders : List (List ℕ)
+orders = (1 ∷ 1 ∷ 2 ∷ []) ∷ (replicate 7 1 ++ (3 ∷ [])) ∷ (replicate 6 1 ++ (2 ∷ 3 ∷ [])) ∷ []
+
 unfoldable pub mendLevels : ℕ → List ℕ
-mendLevels zero = []
-mendLevels (suc zero) = 1 ∷ 1 ∷ 2 ∷ []
-mendLevels (suc (suc zero)) = replicate 7 1 ++ (3 ∷ [])
-mendLevels (suc (suc (suc zero))) = replicate 6 1 ++ (2 ∷ 3 ∷ [])
-mendLevels (suc (suc (suc (suc p)))) = []
+mendLevels p = getD ([] ∷ orders) p []
 
 abbrev pub mendLevel : ℕ → ℕ → ℕ
 mendLevel p r = getD (mendLevels p) r 0
@@ -109,37 +109,16 @@ LevelSquare p t = Square (planOf p .field) (levelOf (planOf p) (suc t) .weights)
 rows-square : (p : ℕ) → Each (RowSquare p) (upFrom 0 (planOf p .rows))
 unfolding upFrom plan1 plan2 plan3 noPlan planOf marksAt mendLevels
 rows-square zero = tt
-rows-square (suc zero) = (low, (low, (square-row plan1 gf2-field 2 2 inverse-1-2 (rows-1 .1), tt)))
+rows-square (suc zero) = low & low & square-row plan1 gf2-field 2 2 inverse-1-2 (rows-1 .1) & tt
   where
     low : RowSquare 1 0
     low = square-row plan1 gf2-field 1 0 inverse-1-1 (rows-1 .0)
-rows-square (suc (suc zero)) =
-    (low, (low, (low, (low, (low, (low, (low, (square-row plan2 gf2-field 3 7 inverse-2-3 (rows-2 .1), tt))))))))
+rows-square (suc (suc zero)) = low & low & low & low & low & low & low & square-row plan2 gf2-field 3 7 inverse-2-3 (rows-2 .1) & tt
   where
     low : RowSquare 2 0
     low = square-row plan2 gf2-field 1 0 inverse-2-1 (rows-2 .0)
-rows-square (suc (suc (suc zero))) = (
-  low,
-  (
-    low,
-    (
-      low,
-      (
-        low,
-        (
-          low,
-          (
-            low,
-            (
-              square-row plan3 gf16-field 2 6 inverse-3-2 (rows-3 .1),
-              (square-row plan3 gf16-field 3 7 inverse-3-3 (rows-3 .2), tt),
-            ),
-          ),
-        ),
-      ),
-    ),
-  ),
-)
+rows-square (suc (suc (suc zero))) =
+    low & low & low & low & low & low & square-row plan3 gf16-field 2 6 inverse-3-2 (rows-3 .1) & square-row plan3 gf16-field 3 7 inverse-3-3 (rows-3 .2) & tt
   where
     low : RowSquare 3 0
     low = square-row plan3 gf16-field 1 0 inverse-3-1 (rows-3 .0)
@@ -166,12 +145,9 @@ level-square (suc (suc (suc (suc p)))) i h = absurd (not-suc-le-zero h)
 -- every row is mended at some level
 mended-somewhere : (p : ℕ)
     → T (below (planOf p .rows) (λ r. ltb 0 (mendLevel p r) && leb (mendLevel p r) (length (planOf p .levels))))
-unfolding plan1 plan2 plan3 noPlan planOf mendLevels
-mended-somewhere zero = tt
-mended-somewhere (suc zero) = tt
-mended-somewhere (suc (suc zero)) = tt
-mended-somewhere (suc (suc (suc zero))) = tt
-mended-somewhere (suc (suc (suc (suc p)))) = tt
+unfolding plan1 plan2 plan3 noPlan mendLevels
+mended-somewhere =
+    all-beside [] orders (λ P ts. below (P .rows) (λ r. ltb 0 (getD ts r 0) && leb (getD ts r 0) (length (P .levels)))) tt
 
 pub mend-level-bounds : (p r : ℕ) → r < planOf p .rows → (0 < mendLevel p r) × (mendLevel p r ≤ length (planOf p .levels))
 mend-level-bounds p r h =

@@ -1,4 +1,5 @@
 -- What the customer plans on, as statements: each is a type, and the theorem of that type stands in proofs/.
+pub mod Published
 pub mod Words
 pub mod Second
 pub mod Leaving

@@ -1,5 +1,5 @@
 -- The plans' parameters: the symbols carried, the distance of a row code and of the whole code.
-use Prim.Native.Nat.{ℕ, zero, suc, _<_}
+use Prim.Native.Nat.{ℕ, _<_}
 use mathlib.Core.Path.{_≡_}
 use mathlib.Core.List.{List}
 use lib.Dec.{T}
@@ -10,16 +10,10 @@ use Rattle.linear.specs.Lists.{vanish}
 use Rattle.linear.specs.Fill.{sumsOf}
 use Rattle.plans.specs.Plan.{known, planOf, levelOf, carried}
 use Rattle.plans.specs.Refusal.{allBelow}
-use Rattle.demands.specs.Words.{Codeword, rowDistance, distance}
+use Rattle.demands.specs.Published.{symbolsCarried, rowDistance, distance}
+use Rattle.demands.specs.Words.{Codeword}
 
--- k: the symbols that a plan carries
-unfoldable pub symbolsCarried : ℕ → ℕ
-symbolsCarried zero = 0
-symbolsCarried (suc zero) = 15
-symbolsCarried (suc (suc zero)) = 198
-symbolsCarried (suc (suc (suc zero))) = 98
-symbolsCarried (suc (suc (suc (suc p)))) = 0
-
+-- a stripe carries k symbols
 abbrev pub CarriedMet : Type 0
 CarriedMet = (p : ℕ) → T (known p) → carried (planOf p) ≡ symbolsCarried p
 

@@ -10,7 +10,8 @@ use Rattle.encoding.specs.Data.{encodeRefusal, extractRefusal, extractData, ext
 use Rattle.repair.specs.Encoding.{encodeStripe}
 use Rattle.plans.specs.declared.Place.{Place}
 use Rattle.plans.specs.declared.Answer.the-variants.{Restored, Stuck, Clash}
-use Rattle.demands.specs.Words.{Codeword, Agree, Fit, MeetsCounts, total, distance}
+use Rattle.demands.specs.Published.{distance}
+use Rattle.demands.specs.Words.{Codeword, Agree, Fit, MeetsCounts, total}
 
 -- Restored: a codeword is left behind, it agrees with every unmarked symbol, no other does, and no mark is left
 pub record IsRestored (p : ℕ) (stripe marks : List ℕ) : Type 0 where

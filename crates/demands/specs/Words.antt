@@ -14,6 +14,7 @@ use Rattle.plans.specs.Refusal.{allBelow, lentRefusal}
 use Rattle.steps.specs.Steps.{rowStep, levelStep}
 use Rattle.codewords.specs.Codeword.{isCodeword}
 use Rattle.plans.specs.declared.Bench.{Bench}
+use Rattle.demands.specs.Published.{counts}
 
 -- X is a codeword of plan p
 pub record Codeword (p : ℕ) (X : List ℕ) : Type 0 where
@@ -59,14 +60,6 @@ rounds P (suc n) = map onRow (upFrom 0 (P .rows)) ++ (onLevel ∷ rounds P n)
 unfoldable pub rowsWith : Plan → (marks : List ℕ) → (n : ℕ) → ℕ
 rowsWith P marks n = length (only (λ w. leb n (ones w)) (take (P .rows) marks))
 
--- with at least this many marks, at most so many rows
-unfoldable pub counts : ℕ → List (ℕ × ℕ)
-counts zero = []
-counts (suc zero) = (2, 1) ∷ (4, 0) ∷ []
-counts (suc (suc zero)) = (4, 1) ∷ (6, 1) ∷ (8, 0) ∷ []
-counts (suc (suc (suc zero))) = (3, 2) ∷ (4, 1) ∷ (8, 0) ∷ []
-counts (suc (suc (suc (suc p)))) = []
-
 abbrev pub Within : Plan → (marks : List ℕ) → List (ℕ × ℕ) → Type 0
 Within P marks [] = Unit {0}
 Within P marks (c ∷ cs) = (rowsWith P marks (c .0) ≤ c .1) × Within P marks cs
@@ -79,18 +72,3 @@ MeetsCounts p marks = Within (planOf p) marks (counts p)
 unfoldable pub total : List ℕ → ℕ
 total [] = 0
 total (w ∷ ws) = ones w + total ws
-
--- the published distances: of a row code, and of the whole code
-unfoldable pub rowDistance : ℕ → ℕ
-rowDistance zero = 0
-rowDistance (suc zero) = 2
-rowDistance (suc (suc zero)) = 4
-rowDistance (suc (suc (suc zero))) = 3
-rowDistance (suc (suc (suc (suc p)))) = 0
-
-unfoldable pub distance : ℕ → ℕ
-distance zero = 0
-distance (suc zero) = 4
-distance (suc (suc zero)) = 8
-distance (suc (suc (suc zero))) = 8
-distance (suc (suc (suc (suc p)))) = 0

@@ -4,15 +4,17 @@ use mathlib.Core.List.{List}
 use Prim.Native.Nat.{ℕ, zero, suc, _*_, _≤_}
 use native.Mathlib.Omega.{arith}
 use borrow.Author.Tests.{eqb-true, eq-eqb, ne-eqb}
-use lib.Dec.{eqb, lit≤}
+use lib.Dec.{eqb, leb, eqb→eq, leb→le}
 use lib.ListN.{length, take}
 use Rattle.field.specs.Lists.{if_then_else_, upFrom}
+use Rattle.field.proofs.Words.{_&_}
+use Rattle.linear.specs.Lists.{all}
 use Rattle.plans.specs.Plan.{Plan, wordOf, plan1, plan2, plan3, noPlan, planOf, marksOf, checkPlacesOf, carried}
 use Rattle.plans.specs.Refusal.{inMemory, stripeFits}
 use Rattle.encoding.specs.Data.{taken, outcomeOf, extracted, extractRefusal, extractData}
 use Rattle.plans.specs.Tables.{padded, placeTable, unmarked}
 use Rattle.plans.specs.declared.Outcome.the-variants.{Done, Refused}
-use Rattle.plans.proofs.Plans.{of-plans}
+use Rattle.plans.proofs.Plans.{of-plans, all-plans}
 use Rattle.plans.proofs.Scan.{true-and}
 use Rattle.plans.proofs.Refusals.{passed}
 
@@ -25,15 +27,15 @@ module _ (p : ℕ) where
   -- the first words of the code's table are the plan's check places
   places-are : take (P .rows) (placeTable P) ≡ P .checkPlaces
   unfolding upFrom wordOf plan1 plan2 plan3 noPlan padded placeTable
-  places-are = of-plans (λ P. take (P .rows) (placeTable P) ≡ P .checkPlaces) refl refl refl refl p
+  places-are = of-plans (λ P. take (P .rows) (placeTable P) ≡ P .checkPlaces) refl (refl & refl & refl & tt) p
 
   pub words-count : length (P .checkPlaces) ≡ P .rows
-  unfolding wordOf plan1 plan2 plan3 noPlan
-  words-count = of-plans (λ P. length (P .checkPlaces) ≡ P .rows) refl refl refl refl p
+  unfolding upFrom all wordOf plan1 plan2 plan3 noPlan
+  words-count = eqb→eq _ _ (all-plans (λ P. eqb (length (P .checkPlaces)) (P .rows)) tt p)
 
   places-room : P .rows ≤ length (placeTable P)
-  unfolding upFrom wordOf plan1 plan2 plan3 noPlan padded placeTable
-  places-room = of-plans (λ P. P .rows ≤ length (placeTable P)) (lit≤ tt) (lit≤ tt) (lit≤ tt) (lit≤ tt) p
+  unfolding upFrom all wordOf plan1 plan2 plan3 noPlan padded placeTable
+  places-room = leb→le _ _ (all-plans (λ P. leb (P .rows) (length (placeTable P))) tt p)
 
   -- as they are lent
   module _ {rows : ℕ} {words : List ℕ} (high : rows ≡ P .rows) (table : words ≡ placeTable P) where

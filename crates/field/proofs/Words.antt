@@ -11,10 +11,15 @@ use lib.ListN.{length, getD, replicate}
 use Rattle.field.specs.Lists.{weight}
 use Rattle.field.proofs.Test.{both-left, both-right}
 
--- every number of the list has the property
-abbrev pub Each : (ℕ → Type 0) → List ℕ → Type 0
+-- every member of the list has the property
+abbrev pub Each : {A : Type 0} → (A → Type 0) → List A → Type 0
 Each P [] = Unit {0}
 Each P (x ∷ xs) = P x × Each P xs
+
+-- a proof for each member: `a & b & c & tt`
+infixr 10 _&_
+abbrev pub _&_ : {A B : Type 0} → A → B → A × B
+a & b = (a, b)
 
 -- every number is below q
 abbrev pub EachBelow : ℕ → List ℕ → Type 0
@@ -29,7 +34,13 @@ abbrev pub Distinct : List ℕ → Type 0
 Distinct [] = Unit {0}
 Distinct (x ∷ xs) = Apart x xs × Distinct xs
 
--- ---- every number
+-- ---- every member
+
+-- at each place, where what stands for those past the end has it too
+pub each-getD : {A : Type 0} (P : A → Type 0) (d : A) → P d → (xs : List A) → Each P xs → (i : ℕ) → P (getD xs i d)
+each-getD P d e [] h i = e
+each-getD P d e (x ∷ xs) h zero = h .0
+each-getD P d e (x ∷ xs) h (suc i) = each-getD P d e xs (h .1) i
 
 module _ (P : ℕ → Type 0) where
   pub each-imp : (Q : ℕ → Type 0) → ((x : ℕ) → P x → Q x) → (xs : List ℕ) → Each P xs → Each Q xs

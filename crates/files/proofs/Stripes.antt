@@ -2,10 +2,10 @@
 use mathlib.Core.Path.{_≡_, refl, sym, ap, ap₂, _∙_, subst}
 use mathlib.Core.Bool.{Bool, true, false}
 use mathlib.Core.List.{List, [], _∷_, _++_, flatMap}
-use Prim.Native.Nat.{ℕ, zero, suc, _+_, _*_, _/_, _%_, _^_, _≤_, _<_}
+use Prim.Native.Nat.{ℕ, zero, suc, _+_, _*_, _/_, _%_, _^_, _≤_, _<_, suc-le-suc}
 use native.Mathlib.Nat.{zero-mul, suc-mul, add-comm, add-zero, zero-add, not-suc-le-zero, le-of-suc-le-suc}
 use native.Mathlib.Omega.{arith}
-use lib.Dec.{T, eqb, ltb, ltb→lt}
+use lib.Dec.{T, eqb, leb, ltb, leb→le}
 use lib.ListN.{length, getD, take, drop}
 use lib.Seq.{take-at, drop-at, drop-drop}
 use Rattle.field.specs.Lists.{if_then_else_, upFrom}
@@ -26,7 +26,7 @@ use Rattle.steps.proofs.Fit.{symbols-fit, fit-symbols}
 
 pub known-below : (p : ℕ) → T (known p) → p < 4
 unfolding known
-known-below p t = ltb→lt p 4 (both-right (ltb 0 p) (ltb p 4) t)
+known-below p t = suc-le-suc (leb→le p 3 (both-right (ltb 0 p) (leb p 3) t))
 
 -- ---- rows
 

@@ -1,43 +1,32 @@
 -- What the proofs use of the three plans' sizes, by computation, once. Assumes nothing.
-use mathlib.Core.Path.{_≡_, refl}
-use mathlib.Core.Logic.{_≢_}
+use mathlib.Core.Path.{_≡_, refl, subst}
+use mathlib.Core.Logic.{_≢_, inl, inr}
 use mathlib.Core.List.{flatMap}
-use Prim.Native.Nat.{ℕ, zero, suc, _*_, _<_, _≤_}
+use Prim.Native.Nat.{ℕ, suc, _*_, _<_, _≤_}
+use native.Mathlib.Nat.{not-suc-le-zero}
 use native.Mathlib.Omega.{arith}
 use lib.Dec.{T, ltb, ltb→lt}
 use lib.ListN.{length}
 use Rattle.field.specs.Lists.{upFrom}
-use Rattle.field.proofs.Test.{both-right}
 use Rattle.field.proofs.Laws.{IsField}
 use Rattle.field.proofs.Fields.{gf2-field, gf16-field}
+use Rattle.field.proofs.Words.{_&_}
 use Rattle.linear.specs.Lists.{all}
 use Rattle.plans.specs.Plan.{Plan, Level, allOnes, bitChecks, locations1, plan1, locations2, powers2, plan2, locations3, powers3, plan3, noPlan, known, planOf, noLevel, levelOf, checksTo}
 use Rattle.plans.specs.Refusal.{sumPlaces}
 use Rattle.plans.proofs.Flat.{all-at}
-
--- what holds of 1, 2 and 3 holds of every known number
-pub of-known {ℓ} : (Q : ℕ → Type ℓ) → Q 1 → Q 2 → Q 3 → (p : ℕ) → T (known p) → Q p
-unfolding known
-of-known Q q1 q2 q3 zero t = absurd t
-of-known Q q1 q2 q3 (suc zero) t = q1
-of-known Q q1 q2 q3 (suc (suc zero)) t = q2
-of-known Q q1 q2 q3 (suc (suc (suc zero))) t = q3
-of-known Q q1 q2 q3 (suc (suc (suc (suc p)))) t =
-    let n = suc (suc (suc (suc p))) in
-    let h : n < 4 = ltb→lt n 4 (both-right (ltb 0 n) (ltb n 4) t) in absurd (omega arith)
+use Rattle.plans.proofs.Plans.{of-known, known-or-none}
 
 -- a known number that is neither 1 nor 2
 pub third : (p : ℕ) → T (known p) → p ≢ 1 → p ≢ 2 → p ≡ 3
-third = of-known (λ p. p ≢ 1 → p ≢ 2 → p ≡ 3) (λ n1 _. absurd (n1 refl)) (λ _ n2. absurd (n2 refl)) (λ _ _. refl)
+unfolding upFrom
+third = of-known (λ p. p ≢ 1 → p ≢ 2 → p ≡ 3) ((λ n1 _. absurd (n1 refl)) & (λ _ n2. absurd (n2 refl)) & (λ _ _. refl) & tt)
 
 -- a plan that has levels is known
 pub levels-known : (p t : ℕ) → t < length (planOf p .levels) → T (known p)
-unfolding noPlan planOf known
-levels-known zero t l = absurd (omega arith)
-levels-known (suc zero) t l = tt
-levels-known (suc (suc zero)) t l = tt
-levels-known (suc (suc (suc zero))) t l = tt
-levels-known (suc (suc (suc (suc p)))) t l = absurd (omega arith)
+unfolding noPlan
+levels-known p t l =
+    elim (known-or-none p) [ inl k ↦ k | inr e ↦ absurd (not-suc-le-zero (subst (λ (P : Plan). t < length (P .levels)) e l)) ]
 
 -- our plans fit our benches
 pub record Shape (P : Plan) : Type 0 where
@@ -51,7 +40,7 @@ pub record Shape (P : Plan) : Type 0 where
 
 pub shape : (p : ℕ) → T (known p) → Shape (planOf p)
 unfolding upFrom flatMap all allOnes bitChecks locations1 plan1 locations2 powers2 plan2 locations3 powers3 plan3 planOf checksTo
-shape = of-known (λ p. Shape (planOf p)) (omega arith) (omega arith) (omega arith)
+shape = of-known (λ p. Shape (planOf p)) (omega arith & omega arith & omega arith & tt)
 
 -- every level has a check
 pub some-check : (p t : ℕ) → t < length (planOf p .levels) → 0 < length (levelOf (planOf p) (suc t) .checks)
@@ -61,5 +50,5 @@ some-check p t low =
 
 -- and their symbols are of fields
 pub plan-field : (p : ℕ) → T (known p) → IsField (planOf p .field)
-unfolding plan1 plan2 plan3 planOf
-plan-field = of-known (λ p. IsField (planOf p .field)) gf2-field gf2-field gf16-field
+unfolding upFrom plan1 plan2 plan3 planOf
+plan-field = of-known (λ p. IsField (planOf p .field)) (gf2-field & gf2-field & gf16-field & tt)

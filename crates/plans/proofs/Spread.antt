@@ -4,7 +4,7 @@ use mathlib.Core.Path.{_≡_, refl, sym, ap, ap₂, _∙_, subst}
 use mathlib.Core.Logic.{_≢_}
 use mathlib.Core.Bool.{Bool, _&&_}
 use mathlib.Core.List.{List, [], _∷_, map, flatMap, Memᴰ·map, List·Memᴰ·head}
-use Prim.Native.Nat.{ℕ, zero, suc, _≤_, _<_, zero-le}
+use Prim.Native.Nat.{ℕ, zero, suc, pred, _≤_, _<_, zero-le}
 use native.Mathlib.Nat.{le-of-suc-le-suc, suc-inj}
 use native.Mathlib.Omega.{arith}
 use lib.Arith.{le-zero}
@@ -18,7 +18,7 @@ use Rattle.field.proofs.Test.{both-left, both-right}
 use Rattle.field.proofs.Laws.{IsField, mul-zero, mul-one}
 use Rattle.field.proofs.Fields.{gf2-field, gf16-field}
 use Rattle.field.proofs.Lists.{length-up}
-use Rattle.field.proofs.Words.{EachBelow, fit, distinct, are-fit, are-distinct}
+use Rattle.field.proofs.Words.{Each, _&_, EachBelow, each-getD, fit, distinct, are-fit, are-distinct}
 use Rattle.field.proofs.Powers.{independent}
 use Rattle.linear.specs.Lists.{zeros}
 use Rattle.linear.specs.Fill.{dependent, tied, fill}
@@ -29,7 +29,7 @@ use Rattle.linear.proofs.Marked.{length-zeros}
 use Rattle.linear.proofs.Weights.{marked, weightless-vanish, light-independent}
 use Rattle.linear.proofs.Picked.{dot-vanish}
 use Rattle.linear.proofs.Spread.{zeros-symbols, Spread, spread-wide, spread-tied}
-use Rattle.plans.specs.Plan.{allOnes, bitChecks, plan1, powers2, plan2, locations3, powers3, plan3, noPlan, planOf, noLevel, levelOf, checksTo}
+use Rattle.plans.specs.Plan.{Level, allOnes, bitChecks, plan1, powers2, plan2, locations3, powers3, plan3, noPlan, planOf, noLevel, levelOf, checksTo}
 use Rattle.plans.specs.Tables.{tiedByCount}
 use Rattle.plans.proofs.Plans.{of-plans, checks-beyond}
 
@@ -110,38 +110,37 @@ row-locations = tt
 
 -- ---- our plans
 
-pub weights-spread : (p t : ℕ) → Spread (planOf p .field) (levelOf (planOf p) t .weights) (planOf p .rows)
-unfolding upFrom power allOnes plan1 plan2 plan3 noPlan noLevel levelOf rowLocations
-weights-spread = of-plans (λ P. (t : ℕ) → Spread (P .field) (levelOf P t .weights) (P .rows)) first second third (λ t. none-spread gf2 0)
+-- the weights of every level
+levels-spread : (p : ℕ) → Each (λ (L : Level). Spread (planOf p .field) (L .weights) (planOf p .rows)) (planOf p .levels)
+unfolding upFrom power allOnes plan1 plan2 plan3 noPlan rowLocations
+levels-spread = of-plans (λ P. Each (λ (L : Level). Spread (P .field) (L .weights) (P .rows)) (P .levels)) tt (first & second & third & tt)
   where
-    first : (t : ℕ) → Spread (plan1 .field) (levelOf plan1 t .weights) (plan1 .rows)
-    first zero = none-spread gf2 3
-    first (suc zero) = none-spread gf2 3
-    first (suc (suc zero)) = ones-spread gf2 gf2-field 3
-    first (suc (suc (suc t))) = none-spread gf2 3
+    first : Each (λ (L : Level). Spread gf2 (L .weights) 3) (plan1 .levels)
+    first = none-spread gf2 3 & ones-spread gf2 gf2-field 3 & tt
 
-    second : (t : ℕ) → Spread (plan2 .field) (levelOf plan2 t .weights) (plan2 .rows)
-    second zero = none-spread gf2 8
-    second (suc zero) = none-spread gf2 8
-    second (suc (suc zero)) = ones-spread gf2 gf2-field 8
-    second (suc (suc (suc zero))) = ones-spread gf2 gf2-field 8
-    second (suc (suc (suc (suc t)))) = none-spread gf2 8
+    second : Each (λ (L : Level). Spread gf2 (L .weights) 8) (plan2 .levels)
+    second = none-spread gf2 8 & ones-spread gf2 gf2-field 8 & ones-spread gf2 gf2-field 8 & tt
 
-    third : (t : ℕ) → Spread (plan3 .field) (levelOf plan3 t .weights) (plan3 .rows)
-    third zero = none-spread gf16 8
-    third (suc zero) = none-spread gf16 8
-    third (suc (suc zero)) =
+    located : Spread gf16 (allOnes 8 ∷ rowLocations ∷ []) 8
+    located =
         subst (λ ys. Spread gf16 (allOnes 8 ∷ ys ∷ []) 8)
         (first-powers gf16 gf16-field rowLocations (both-right (distinct rowLocations) (fit (size gf16) rowLocations) row-locations))
         (powers-spread gf16 gf16-field rowLocations row-locations 2)
-    third (suc (suc (suc zero))) = ones-spread gf16 gf16-field 8
-    third (suc (suc (suc (suc t)))) = none-spread gf16 8
+
+    third : Each (λ (L : Level). Spread gf16 (L .weights) 8) (plan3 .levels)
+    third = none-spread gf16 8 & located & ones-spread gf16 gf16-field 8 & tt
+
+pub weights-spread : (p t : ℕ) → Spread (planOf p .field) (levelOf (planOf p) t .weights) (planOf p .rows)
+unfolding noLevel levelOf
+weights-spread p t =
+    let P = planOf p in
+    each-getD (λ (L : Level). Spread (P .field) (L .weights) (P .rows)) noLevel (none-spread (P .field) (P .rows)) (P .levels) (levels-spread p) (pred t)
 
 -- the row checks of a plan whose field is not GF(2) are power sums
 pub sums-spread : (p : ℕ) → size (planOf p .field) ≢ 2 → (t : ℕ) → Spread (planOf p .field) (checksTo (planOf p) t) (planOf p .columns)
 unfolding flatMap upFrom size gf2 plan1 plan2 plan3 noPlan locations3 powers3 checksTo
 sums-spread = of-plans (λ P. size (P .field) ≢ 2 → (t : ℕ) → Spread (P .field) (checksTo P t) (P .columns))
-    (λ ne. absurd (ne refl)) (λ ne. absurd (ne refl)) (λ _. third) (λ ne. absurd (ne refl))
+    (λ ne. absurd (ne refl)) ((λ ne. absurd (ne refl)) & (λ ne. absurd (ne refl)) & (λ _. third) & tt)
   where
     third : (t : ℕ) → Spread gf16 (checksTo plan3 t) 15
     third zero = powers-spread gf16 gf16-field locations3 locations-3 0
@@ -155,14 +154,14 @@ sums-spread = of-plans (λ P. size (P .field) ≢ 2 → (t : ℕ) → Spread (P 
 pub first-spread : (p : ℕ) → T (tiedByCount (planOf p)) → Spread (planOf p .field) (checksTo (planOf p) 1) (planOf p .columns)
 unfolding flatMap upFrom size gf2 gf16 bitChecks plan1 powers2 plan2 locations3 powers3 plan3 noPlan checksTo tiedByCount
 first-spread = of-plans (λ P. T (tiedByCount P) → Spread (P .field) (checksTo P 1) (P .columns))
-    (λ _. ones-spread gf2 gf2-field 7) (λ t. absurd t) (λ _. powers-spread gf16 gf16-field locations3 locations-3 2) (λ t. absurd t)
+    (λ t. absurd t) ((λ _. ones-spread gf2 gf2-field 7) & (λ t. absurd t) & (λ _. powers-spread gf16 gf16-field locations3 locations-3 2) & tt)
 
 -- ---- what follows of fillings
 
 -- the field's laws, for a number that is no plan's too
 pub fields : (p : ℕ) → IsField (planOf p .field)
 unfolding plan1 plan2 plan3 noPlan
-fields = of-plans (λ P. IsField (P .field)) gf2-field gf2-field gf16-field gf2-field
+fields = of-plans (λ P. IsField (P .field)) gf2-field (gf2-field & gf2-field & gf16-field & tt)
 
 -- where the weight columns of the marked rows are dependent, sums that make all totals zero exist
 pub weights-tied : (p t : ℕ) (ms : List Bool) (v : List ℕ) → length ms ≡ planOf p .rows

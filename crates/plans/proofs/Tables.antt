@@ -5,7 +5,7 @@ use mathlib.Core.List.{List, [], _∷_, _++_, map, flatMap, append-assoc, append
 use Prim.Native.Nat.{ℕ, zero, suc, _+_, _-_, _≤_, _<_}
 use native.Mathlib.Nat.{le-refl, zero-add}
 use native.Mathlib.Omega.{arith}
-use lib.Dec.{T, ltb, ltb→lt, lt→ltb, lit≤}
+use lib.Dec.{T, leb, ltb, leb→le, ltb→lt, lt→ltb}
 use lib.ListN.{length, getD, take, drop, replicate, take-append-drop, length-append}
 use lib.Seq.{take-length, take-nil, take-append-seam}
 use Rattle.field.specs.Lists.{upFrom}
@@ -16,7 +16,7 @@ use Rattle.linear.specs.Lists.{all}
 use Rattle.plans.specs.Plan.{Plan, Level, allOnes, bitChecks, locations1, plan1, locations2, powers2, plan2, locations3, powers3, plan3, noPlan, planOf, noLevel, levelOf, checksTo}
 use Rattle.plans.specs.Refusal.{allBelow}
 use Rattle.plans.specs.Tables.{padded, flat, checkTable, weightTable}
-use Rattle.plans.proofs.Plans.{of-plans}
+use Rattle.plans.proofs.Plans.{all-plans}
 use Rattle.plans.proofs.Flat.{all-getD, all-padded, flat-append, between, wide, rowIn, rows-in}
 
 -- ---- checks by level
@@ -49,27 +49,27 @@ sums-more P t = ap length (checks-more P t) ∙ length-append (checksTo P t) (le
 wide-checks : (p : ℕ) → T (wide (planOf p .columns) (checksTo (planOf p) (length (planOf p .levels))))
 unfolding upFrom flatMap _⊕_ size double times mul gf16 gf32 power all
     allOnes bitChecks locations1 plan1 locations2 powers2 plan2 locations3 powers3 plan3 noPlan checksTo
-wide-checks = of-plans (λ P. T (wide (P .columns) (checksTo P (length (P .levels))))) tt tt tt tt
+wide-checks = all-plans (λ P. wide (P .columns) (checksTo P (length (P .levels)))) tt
 
 small-checks : (p : ℕ) → T (allBelow (size (planOf p .field)) (flatMap (λ row. row) (checksTo (planOf p) (length (planOf p .levels)))))
 unfolding upFrom flatMap _⊕_ size double times mul gf2 gf16 gf32 power all
     allOnes bitChecks locations1 plan1 locations2 powers2 plan2 locations3 powers3 plan3 noPlan checksTo allBelow
-small-checks = of-plans (λ P. T (allBelow (size (P .field)) (flatMap (λ row. row) (checksTo P (length (P .levels)))))) tt tt tt tt
+small-checks = all-plans (λ P. allBelow (size (P .field)) (flatMap (λ row. row) (checksTo P (length (P .levels))))) tt
 
 wide-weights : (p : ℕ) → T (all (λ (L : Level). wide (planOf p .rows) (L .weights)) (planOf p .levels))
 unfolding upFrom _⊕_ size double times mul gf16 power all allOnes plan1 plan2 plan3 noPlan
-wide-weights = of-plans (λ P. T (all (λ (L : Level). wide (P .rows) (L .weights)) (P .levels))) tt tt tt tt
+wide-weights = all-plans (λ P. all (λ (L : Level). wide (P .rows) (L .weights)) (P .levels)) tt
 
 small-weights : (p : ℕ) → T (all (λ (L : Level). allBelow (size (planOf p .field)) (flatMap (λ row. row) (L .weights))) (planOf p .levels))
 unfolding upFrom flatMap _⊕_ size double times mul gf2 gf16 power all allOnes plan1 plan2 plan3 noPlan allBelow
-small-weights = of-plans (λ P. T (all (λ (L : Level). allBelow (size (P .field)) (flatMap (λ row. row) (L .weights))) (P .levels))) tt tt tt tt
+small-weights = all-plans (λ P. all (λ (L : Level). allBelow (size (P .field)) (flatMap (λ row. row) (L .weights))) (P .levels)) tt
 
 -- a row has at most 16 sums
 pub sums-most : (p t : ℕ) → length (checksTo (planOf p) t) ≤ 16
-unfolding upFrom flatMap allOnes bitChecks locations1 plan1 powers2 plan2 locations3 plan3 noPlan checksTo
+unfolding upFrom flatMap all allOnes bitChecks locations1 plan1 powers2 plan2 locations3 plan3 noPlan checksTo
 sums-most p t =
-    let all : length (checksTo (planOf p) (length (planOf p .levels))) ≤ 16 =
-    of-plans (λ P. length (checksTo P (length (P .levels))) ≤ 16) (lit≤ tt) (lit≤ tt) (lit≤ tt) (lit≤ tt) p in
+    let most = leb→le (length (checksTo (planOf p) (length (planOf p .levels)))) 16
+    (all-plans (λ P. leb (length (checksTo P (length (P .levels)))) 16) tt p) in
     omega (arith, rw length-append at (ap length (checks-before (planOf p) t)))
 
 -- ---- what the tables hold

@@ -1,8 +1,8 @@
 -- The three plans. Row checks and weights are computed from the locations.
-use Prim.Native.Nat.{ℕ, zero, suc, pred, _+_, _*_, _/_, _%_, _^_}
+use Prim.Native.Nat.{ℕ, pred, _+_, _*_, _/_, _%_, _^_}
 use mathlib.Core.Bool.{Bool, not, _&&_}
 use mathlib.Core.List.{List, [], _∷_, _++_, map, flatMap}
-use lib.Dec.{ltb}
+use lib.Dec.{ltb, leb}
 use lib.ListN.{length, take, drop, getD, replicate}
 use Rattle.field.specs.Lists.{upFrom, _to_}
 use Rattle.field.specs.Field.{Field, dot, gf2, gf16, gf32}
@@ -99,19 +99,19 @@ plan3 = record {
 
 -- ---- a plan by its number
 
+-- the plans in the order of their numbers, from 1 on
+abbrev pub plans : List Plan
+plans = plan1 ∷ plan2 ∷ plan3 ∷ []
+
 unfoldable pub known : ℕ → Bool
-known p = ltb 0 p && ltb p 4
+known p = ltb 0 p && leb p (length plans)
 
 -- an unknown number has the plan with nothing in it
 unfoldable pub noPlan : Plan
 noPlan = record { field = gf2; rows = 0; columns = 0; levels = []; checkPlaces = [] }
 
 unfoldable pub planOf : ℕ → Plan
-planOf zero = noPlan
-planOf (suc zero) = plan1
-planOf (suc (suc zero)) = plan2
-planOf (suc (suc (suc zero))) = plan3
-planOf (suc (suc (suc (suc p)))) = noPlan
+planOf p = getD (noPlan ∷ plans) p noPlan
 
 -- ---- what is read off a plan
 

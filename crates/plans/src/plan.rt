@@ -87,7 +87,7 @@ pub fn facts_of(plan: usize) -> Facts
 pub fn is_known(plan: usize) -> bool
     ensures { λ r. ⌜ r ≡ known plan ⌝ }
 {
-    0 < plan && plan < 4
+    0 < plan && plan <= 3
 }
 
 // How many rows a stripe has.

@@ -24,7 +24,8 @@ use Rattle.plans.specs.Tables.{FactsOf, tiedByCount}
 use Rattle.plans.specs.declared.plan.Facts.{Facts}
 use Rattle.plans.specs.declared.Bench.{Bench}
 use Rattle.plans.proofs.Scan.{true-and, up-false, up-each}
-use Rattle.plans.proofs.Shape.{of-known, shape}
+use Rattle.plans.proofs.Plans.{of-known}
+use Rattle.plans.proofs.Shape.{shape}
 use Rattle.plans.proofs.Spread.{fields, first-spread}
 use Rattle.steps.specs.Steps.{rowFill, lossy, blocked, levelFill}
 use Rattle.steps.specs.Rounds.{end, turns}
@@ -85,10 +86,10 @@ pub record Second (P : Plan) : Type 0 where
   pub few : length (levelOf P 2 .weights) < P .rows
 
 second : (p : ℕ) → T (known p) → Second (planOf p)
-unfolding plan1 plan2 plan3 planOf levelOf
+unfolding upFrom plan1 plan2 plan3 planOf levelOf
 second =
-    of-known (λ p. Second (planOf p)) record { there = lit< tt; few = lit< tt } record { there = lit< tt; few = lit< tt }
-    record { there = lit< tt; few = lit< tt }
+    of-known (λ p. Second (planOf p))
+    (record { there = lit< tt; few = lit< tt }, (record { there = lit< tt; few = lit< tt }, (record { there = lit< tt; few = lit< tt }, tt)))
 
 none-marked : ones 0 ≡ 0
 unfolding onesIn ones

@@ -19,7 +19,8 @@ use Rattle.steps.proofs.Fit.{marks-fit, fit-lent}
 use Rattle.plans.proofs.Refusals.{unmarked-below}
 use Rattle.rows.proofs.Settled.{put-whole}
 use Rattle.layout.specs.Layout.{benchSize, benchIn}
-use Rattle.demands.specs.Words.{Fit, Move, onRow, onLevel, after, walk, Quiet, rounds, counts}
+use Rattle.demands.specs.Published.{counts}
+use Rattle.demands.specs.Words.{Fit, Move, onRow, onLevel, after, walk, Quiet, rounds}
 use Rattle.demands.specs.Third.{Premise}
 use Rattle.demands.proofs.Codewords.{word-below}
 use Rattle.demands.proofs.Few.{few-independent, weights-independent}

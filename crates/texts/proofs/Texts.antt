@@ -6,7 +6,7 @@ use Prim.Native.Nat.{ℕ, zero, suc, _+_, _/_, _%_, _^_, _≤_, _<_}
 use native.Mathlib.Nat.{not-suc-le-zero, le-of-suc-le-suc, le-trans}
 use native.Mathlib.Omega.{arith}
 use borrow.Author.Tests.{lt-ltb, le-ltb}
-use lib.Dec.{T, eqb, ltb, ltb→lt, lt→ltb, lit<, lit≤}
+use lib.Dec.{T, eqb, leb, ltb, leb→le, ltb→lt, lt→ltb, lit<}
 use lib.ListN.{length, take, getD}
 use lib.Seq.{length-take-le}
 use Rattle.field.specs.Lists.{if_then_else_}
@@ -16,14 +16,15 @@ use Rattle.linear.specs.Lists.{all, first, rest, beside}
 use Rattle.linear.specs.Marks.{bitsOf}
 use Rattle.linear.proofs.Marked.{bits-at}
 use Rattle.linear.proofs.Beside.{length-beside-bits, beside-bits-at}
-use Rattle.plans.specs.Plan.{Plan, plan1, plan2, plan3, planOf, known, rowAt, marksAt}
+use Rattle.plans.specs.Plan.{Plan, plan1, plan2, plan3, noPlan, planOf, known, rowAt, marksAt}
 use Rattle.plans.specs.Refusal.{allBelow, unmarkedBelow, symbolsFit}
 use Rattle.plans.specs.Answers.{placeValues, endValues}
 use Rattle.plans.specs.declared.Report.{Report}
 use Rattle.plans.specs.declared.Place.{Place}
 use Rattle.plans.specs.declared.Place.the-variants.{Row, Across}
 use Rattle.repair.specs.Text.{bytes, digitsIn, decimal, hex, item, shown, captioned, endText, placeText}
-use Rattle.plans.proofs.Shape.{of-known, shape}
+use Rattle.plans.proofs.Plans.{all-plans}
+use Rattle.plans.proofs.Shape.{shape}
 use Rattle.steps.proofs.Fit.{all-rows, symbols-fit}
 use Rattle.plans.proofs.Scan.{fitsIn, row-up}
 
@@ -138,10 +139,10 @@ unmarked-le q r l (false ∷ ms) xs t =
     (unmarked-le q r l ms (rest xs) (both-right (ltb x q) more t))
 
 -- every symbol has a hex digit
-pub fit-hex : (p : ℕ) → T (known p) → (marks stripe : List ℕ) → T (symbolsFit (planOf p) marks stripe) → (r : ℕ) → r < planOf p .rows
+pub fit-hex : (p : ℕ) (marks stripe : List ℕ) → T (symbolsFit (planOf p) marks stripe) → (r : ℕ) → r < planOf p .rows
     → T (unmarkedBelow 16 (marksAt (planOf p) marks r) (rowAt (planOf p) stripe r))
-fit-hex p k marks stripe t r h =
-    unmarked-le (size (planOf p .field)) 16 (few p k) (marksAt (planOf p) marks r) (rowAt (planOf p) stripe r) (symbols-fit (planOf p) marks stripe t r h)
+fit-hex p marks stripe t r h =
+    unmarked-le (size (planOf p .field)) 16 (few p) (marksAt (planOf p) marks r) (rowAt (planOf p) stripe r) (symbols-fit (planOf p) marks stripe t r h)
   where
-    few : (p : ℕ) → T (known p) → size (planOf p .field) ≤ 16
-    few = unfold size gf2 gf16 plan1 plan2 plan3 planOf in of-known (λ p. size (planOf p .field) ≤ 16) (lit≤ tt) (lit≤ tt) (lit≤ tt)
+    few : (p : ℕ) → size (planOf p .field) ≤ 16
+    few p = unfold size gf2 gf16 all plan1 plan2 plan3 noPlan in leb→le _ 16 (all-plans (λ P. leb (size (P .field)) 16) tt p)

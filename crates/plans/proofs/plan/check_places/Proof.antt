@@ -1,6 +1,7 @@
 -- `plan::check_places` meets its contract: one test for each plan. Assumes nothing.
 use mathlib.Core.Path.{sym, ap}
 use Rattle.field.specs.Lists.{upFrom}
+use Rattle.field.proofs.Words.{_&_}
 use Rattle.plans.specs.Plan.{wordOf, plan1, plan2, plan3, noPlan, planOf}
 use Rattle.plans.specs.Tables.{padded, placeTable}
 use Rattle.plans.proofs.Plans.{unknown}
@@ -20,8 +21,8 @@ unfolding upFrom wordOf plan3 planOf padded placeTable
 returns-3 c = ap (λ p. placeTable (planOf p)) (sym (c .match .keys3))
 
 returns-4 : tie.Need-returns-4
-unfolding noPlan padded placeTable
-returns-4 c = ap placeTable (sym (unknown _ (c .match .rest .0 .0 .1) (c .match .rest .0 .1) (c .match .rest .1)))
+unfolding upFrom noPlan padded placeTable
+returns-4 c = ap placeTable (sym (unknown _ (c .match .rest .0 .0 .1 & c .match .rest .0 .1 & c .match .rest .1 & tt)))
 
 pub check-places-spec : {M : Type 1} → statement M
 check-places-spec = tie.close (tie.spec returns returns-2 returns-3 returns-4)

@@ -8,6 +8,7 @@ use Rattle.field.specs.Ours.{fieldOf}
 use Rattle.field.specs.Power.{power}
 use Rattle.linear.specs.Lists.{only}
 use Rattle.linear.specs.Marks.{bitsOf}
+use Rattle.field.proofs.Words.{_&_}
 use Rattle.plans.specs.Plan.{allOnes, bitChecks, wordOf, locations1, plan1, locations2, powers2, plan2, locations3, powers3, plan3, noPlan, planOf, noLevel, levelOf, checksTo, marksAt, marksOf, checkPlacesOf, carried, marksOffset, symbolsOffset, fileLength}
 use Rattle.plans.specs.Tables.{FactsOf}
 use Rattle.plans.proofs.Plans.{unknown}
@@ -31,7 +32,7 @@ returns-3 c = subst (λ p. FactsOf (planOf p) _) (sym (c .match .keys3)) (search
 
 returns-4 : tie.Need-returns-4
 unfolding if_then_else_ upFrom flatMap size gf2 only noPlan noLevel levelOf checksTo marksAt marksOf checkPlacesOf carried marksOffset symbolsOffset fileLength fieldOf
-returns-4 c = rw (unknown _ (c .match .rest .0 .0 .1) (c .match .rest .0 .1) (c .match .rest .1)) (search needs)
+returns-4 c = rw (unknown _ (c .match .rest .0 .0 .1 & c .match .rest .0 .1 & c .match .rest .1 & tt)) (search needs)
 
 pub facts-of-spec : {M : Type 1} → statement M
 facts-of-spec = tie.close (tie.spec returns returns-2 returns-3 returns-4)

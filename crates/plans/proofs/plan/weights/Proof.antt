@@ -5,6 +5,7 @@ use native.Mathlib.Omega.{arith}
 use Rattle.field.specs.Lists.{upFrom}
 use Rattle.field.specs.Field.{_⊕_, size, double, times, mul, gf16}
 use Rattle.field.specs.Power.{power}
+use Rattle.field.proofs.Words.{_&_}
 use Rattle.plans.specs.Plan.{allOnes, plan1, plan2, plan3, noPlan, planOf, noLevel, levelOf}
 use Rattle.plans.specs.Tables.{padded, flat, weightTable}
 use Rattle.plans.proofs.Plans.{unknown, weights-none, weights-3, weights-none-3}
@@ -24,9 +25,9 @@ unfolding upFrom flatMap _⊕_ size double times mul gf16 power allOnes plan3 pl
 returns-3 c = ap₂ (λ p t. weightTable (planOf p) t) (sym (c .match .keys3)) (sym (c .before .if1 .taken))
 
 returns-4 : tie.Need-returns-4
-unfolding flatMap noPlan noLevel levelOf padded flat weightTable
+unfolding upFrom flatMap noPlan noLevel levelOf padded flat weightTable
 returns-4 c =
-    ap₂ weightTable (sym (unknown _ (c .match .rest .0 .0 .1) (c .match .rest .0 .1) (c .match .rest .1))) (sym (c .before .if1 .taken))
+    ap₂ weightTable (sym (unknown _ (c .match .rest .0 .0 .1 & c .match .rest .0 .1 & c .match .rest .1 & tt))) (sym (c .before .if1 .taken))
 
 returns-5 : tie.Need-returns-5
 unfolding flatMap allOnes padded flat weightTable

@@ -66,7 +66,7 @@ put-line-requires c κs =
     let k = cut i in
     let size = shape _ (s .pre .0) in (
       omega (arith, cut-inside k, cut-length k, k, size, joining-length _ _ _ _ (i .before .loop .inv .2)),
-      subst (λ b. T b) (sym (cut-marks k (unmarkedBelow 16) (s .args .marks .now))) (fit-hex _ (s .pre .0) (s .args .marks .now) (s .args .stripe .now) (s .pre .1 .1 .1 .0) _ (k .below)),
+      subst (λ b. T b) (sym (cut-marks k (unmarkedBelow 16) (s .args .marks .now))) (fit-hex _ (s .args .marks .now) (s .args .stripe .now) (s .pre .1 .1 .1 .0) _ (k .below)),
     )
 
 add-r : tie.Need-add-r Inv-loop μ-loop
