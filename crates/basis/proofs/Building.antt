@@ -3,7 +3,7 @@ use mathlib.Core.Path.{_≡_, refl, sym, ap, ap₂, _∙_, subst}
 use mathlib.Core.Bool.{true, not, true≢false}
 use mathlib.Core.Logic.{_≢_}
 use mathlib.Core.List.{List}
-use Prim.Native.Nat.{ℕ, zero, suc, _+_, _%_, _^_, _≤_, _<_}
+use Prim.Native.Nat.{ℕ, _+_, _%_, _^_, _≤_, _<_}
 use native.Mathlib.Nat.{lt-of-lt-of-le}
 use native.Mathlib.Numerals.{add-one}
 use native.Mathlib.Decide.{ℕ-discrete}
@@ -16,10 +16,12 @@ use lib.Seq.{getD-set-same, getD-set-other}
 use lib.Pow.{pow-mono}
 use Rattle.field.specs.Field.{_⊕_}
 use Rattle.field.proofs.Sum.{⊕-zero, zero-⊕}
-use Rattle.systems.specs.System.{vec}
-use Rattle.basis.specs.Words.{bitAt}
-use Rattle.basis.specs.Span.{combined, Reduced, Spans}
-use Rattle.basis.proofs.Bits.{lowest, lowest-lt}
+use Rattle.equations.specs.System.{vec}
+use Rattle.equations.specs.Words.{bitAt}
+use Rattle.basis.specs.Span.{combined, Spans}
+use Rattle.basis.specs.Steps.{Reducible, Reduced}
+use Rattle.equations.proofs.Bits.{lowest, lowest-lt}
+use Rattle.equations.proofs.Elements.{blank}
 use Rattle.basis.proofs.Combined.{combined-past, combined-longer, combined-cut}
 use Rattle.basis.proofs.Echelon.{Echelon, span-reduces, made-gives, made-lt, made-some, echelon-same, echelon-more, free-more}
 
@@ -56,21 +58,16 @@ building-start f = record {
   rooms = (refl, refl, refl);
   spanning = spanning-start f _ _ _ (blank 32) (blank 32);
 }
-  where
-    blank : (n p : ℕ) → vec (replicate n 0) p ≡ 0
-    blank zero p = refl
-    blank (suc n) zero = refl
-    blank (suc n) (suc p) = blank n p
 
-pub building-as : (f : ℕ → ℕ) (t r r′ : ℕ) (words words′ masks masks′ order order′ : List ℕ) (dependency dependency′ : ℕ) → words′ ≡ words
-    → masks′ ≡ masks → order′ ≡ order → r′ ≡ r → dependency′ ≡ dependency → Building f t r words masks order dependency
-    → Building f t r′ words′ masks′ order′ dependency′
-building-as f t r r′ words words′ masks masks′ order order′ dependency dependency′ ew em eo er ed D = rw (ew, em, eo, er, ed) D
-
--- the masks fit their type
-pub building-masks : {f : ℕ → ℕ} {t r : ℕ} {words masks order : List ℕ} {dependency : ℕ} → Building f t r words masks order dependency → t ≤ 64
-    → (p : ℕ) → vec masks p < 2 ^ 64
-building-masks {t = t} D l p = lt-of-lt-of-le (D .spanning .echelon .within p) (pow-mono {i = t} l)
+-- a word can be reduced by it
+pub building-reducible : {f : ℕ → ℕ} {t r : ℕ} {words masks order : List ℕ} {dependency : ℕ} → Building f t r words masks order dependency
+    → t ≤ 64 → Reducible (vec words) (vec masks) (vec order) r
+building-reducible {t = t} D l = record {
+  room = omega (arith, D .few);
+  ordered = D .spanning .echelon .ordered;
+  words-fit = D .small;
+  masks-fit = λ p. lt-of-lt-of-le (D .spanning .echelon .within p) (pow-mono {i = t} l);
+}
 
 module _ (f : ℕ → ℕ) (t r : ℕ) (words masks order : List ℕ) (dependency word mask left made : ℕ) (D : Building f t r words masks order dependency)
     (R : Reduced (vec words) (vec masks) (vec order) r word mask left made) (ew : word ≡ f t) (em : mask ≡ 2 ^ t) where

@@ -8,9 +8,9 @@ use lib.Arith.{le-zero}
 use lib.Pow.{pow-mono}
 use Rattle.field.specs.Field.{_⊕_}
 use Rattle.field.proofs.Sum.{of-bits, bit, ⊕-zero, zero-⊕, ⊕-mod, ⊕-four, last-⊕}
-use Rattle.basis.specs.Words.{bitAt}
+use Rattle.equations.specs.Words.{bitAt}
 use Rattle.basis.specs.Span.{combined}
-use Rattle.basis.proofs.Bits.{bit-of-none, bit-above, power-own, power-below, bit-sum}
+use Rattle.equations.proofs.Bits.{bit-of-none, bit-above, power-own, power-below, bit-sum}
 
 combined-same : (f x y : ℕ → ℕ) (n : ℕ) → ((j : ℕ) → j < n → x j % 2 ≡ y j % 2) → combined f x n ≡ combined f y n
 unfolding combined

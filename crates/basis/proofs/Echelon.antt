@@ -12,9 +12,10 @@ use borrow.Author.Count.{below-more}
 use lib.Pow.{pow-mono, pow-lt}
 use Rattle.field.specs.Field.{_⊕_}
 use Rattle.field.proofs.Sum.{of-bits, bit, ⊕-assoc, ⊕-comm, ⊕-self, ⊕-zero, zero-⊕, ⊕-undo, ⊕-cancel, ⊕-lt}
-use Rattle.basis.specs.Words.{bitAt}
-use Rattle.basis.specs.Span.{combined, Ordered, Reduced}
-use Rattle.basis.proofs.Bits.{bit-sum, bit-of-none, bit-above, power-own}
+use Rattle.equations.specs.Words.{bitAt}
+use Rattle.basis.specs.Span.{combined}
+use Rattle.basis.specs.Steps.{Ordered, Reduced}
+use Rattle.equations.proofs.Bits.{bit-sum, bit-of-none, bit-above, power-own}
 use Rattle.basis.proofs.Combined.{combined-sum, combined-masks, combined-past, combined-one}
 
 pub record Echelon (f : ℕ → ℕ) (t r : ℕ) (B C at : ℕ → ℕ) : Type 0 where

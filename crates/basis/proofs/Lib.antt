@@ -1,8 +1,6 @@
--- What is shown of words and of their combinations. Other crates cite Bits, Wording and Packing. Assumes nothing.
-pub mod Bits
+-- What is shown of words and of their combinations. Other crates cite Packing. Assumes nothing.
 pub mod Combined
 pub mod Reducing
 pub mod Echelon
 pub mod Building
-pub mod Wording
 pub mod Packing

@@ -9,11 +9,11 @@ use Rattle.field.specs.Field.{_⊕_, mul}
 use Rattle.field.specs.Ours.{fieldOf}
 use Rattle.field.proofs.Sum.{bit}
 use Rattle.field.proofs.Table.{bits-product}
-use Rattle.systems.specs.System.{Matrix, inner, Consistency, Dependence, Solved}
-use Rattle.basis.specs.Words.{bitAt}
-use Rattle.systems.proofs.Inner.{inner-same}
+use Rattle.equations.specs.System.{Matrix, inner, Consistency, Dependence, Solved}
+use Rattle.equations.specs.Words.{bitAt}
+use Rattle.equations.proofs.Inner.{inner-same}
 use Rattle.basis.specs.Span.{combined, Spans}
-use Rattle.basis.proofs.Bits.{bit-of-none, below-2, bit-small, bit-sum, bit-times, bits-low, low-bits-agree, lowest, lowest-lt}
+use Rattle.equations.proofs.Bits.{bit-of-none, below-2, bit-small, bit-sum, bit-times, bits-low, low-bits-agree, lowest, lowest-lt}
 
 -- ---- the bits of a combination
 

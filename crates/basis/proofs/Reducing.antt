@@ -13,9 +13,10 @@ use Rattle.field.proofs.Sum.{of-bits, bit, ⊕-assoc, ⊕-self, ⊕-zero, zero-
 use Rattle.field.proofs.Laws as laws
 use Rattle.field.proofs.Table.{bits-product}
 use Rattle.field.proofs.Fields.{our-field}
-use Rattle.basis.specs.Words.{bitAt}
-use Rattle.basis.specs.Span.{combined, Ordered, Moved, Reduced}
-use Rattle.basis.proofs.Bits.{bit-sum, bit-times, times-le, taken-is}
+use Rattle.equations.specs.Words.{bitAt}
+use Rattle.basis.specs.Span.{combined}
+use Rattle.basis.specs.Steps.{Ordered, Moved, Reduced}
+use Rattle.equations.proofs.Bits.{bit-sum, bit-times, times-le, taken-is}
 use Rattle.basis.proofs.Combined.{combined-masks, combined-zero}
 
 moved-start : (B C : ℕ → ℕ) (word mask : ℕ) → Moved B C word mask word mask

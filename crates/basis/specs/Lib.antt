@@ -1,3 +1,4 @@
--- The bits of words, what it is to combine words, and to answer which combinations of columns there are.
-pub mod Words
+-- What it is to combine words, and to answer which combinations of columns there are.
 pub mod Span
+-- what the contracts of inner functions cite
+pub mod Steps

@@ -1,11 +1,9 @@
 // Systems of equations over GF(2) with a column to a word: which words the columns give together, by an echelon of words.
 ghost use mathlib.Core.Path.{_≡_};
-ghost use Prim.Native.Nat.{ℕ, _*_, _^_, _<_, _≤_};
-ghost use lib.ListN.{length};
-ghost use Rattle.field.specs.Ours.{fieldOf};
-ghost use Rattle.systems.specs.System.{vec, Elements};
-ghost use Rattle.basis.specs.Words.{columnOf};
-ghost use Rattle.basis.specs.Span.{Spans, Ordered, Reduced};
+ghost use Rattle.equations.specs.System.{vec};
+ghost use Rattle.equations.specs.Words.{columnOf};
+ghost use Rattle.basis.specs.Span.{Spannable, Spans};
+ghost use Rattle.basis.specs.Steps.{Column, Reducible, Reduced};
 
 // Every bit of a word, and of a mask.
 const WORD: u32 = 4294967295;
@@ -14,8 +12,7 @@ const MASK: u64 = 18446744073709551615;
 
 // The coefficients of the m checks in column p as a word: bit i is that of check i.
 fn gather_column(checks: &[u8], m: usize, n: usize, p: usize) -> u32
-    requires { ⌜ (m * n ≤ length (now checks)) × (m ≤ 32) × (p < n) ⌝ }
-    requires { ⌜ Elements (fieldOf 2) (vec (now checks)) ⌝ }
+    requires { ⌜ Column (now checks) m n p ⌝ }
     ensures { λ w. ⌜ w ≡ columnOf (now (checks .entry)) m n p ⌝ }
 {
     let mut word = 0u32;
@@ -43,8 +40,7 @@ fn reduce(
     word: u32,
     mask: u64,
 ) -> Rest
-    requires { ⌜ (r ≤ 64) × Ordered (vec (now words)) (vec (now pivots)) r ⌝ }
-    requires { ⌜ ((p : ℕ) → vec (now words) p < 2 ^ 32) × ((p : ℕ) → vec (now masks) p < 2 ^ 64) ⌝ }
+    requires { ⌜ Reducible (vec (now words)) (vec (now masks)) (vec (now pivots)) r ⌝ }
     ensures { λ s. ⌜ Reduced (vec (now (words .entry))) (vec (now (masks .entry))) (vec (now (pivots .entry))) r word mask (s .word) (s .mask) ⌝ }
 {
     let mut left = word;
@@ -76,9 +72,7 @@ pub struct Answer {
 // and whether they are dependent. Where some do, `solution` names such columns; where they are dependent, `dependency` names at least
 // one, and those give 0. Both hold of dependent and of independent columns.
 pub fn span(checks: &[u8], m: usize, n: usize, places: &[usize], k: usize, need: u32) -> Answer
-    requires { ⌜ (m * n ≤ length (now checks)) × (m ≤ 32) × (k ≤ 64) ⌝ }
-    requires { ⌜ (k ≤ length (now places)) × ((t : ℕ) → t < k → vec (now places) t < n) ⌝ }
-    requires { ⌜ Elements (fieldOf 2) (vec (now checks)) ⌝ }
+    requires { ⌜ Spannable (now checks) m n (now places) k ⌝ }
     ensures { λ s. ⌜ Spans (λ t. columnOf (now (checks .entry)) m n (vec (now (places .entry)) t)) k m need
         (s .consistent) (s .dependent) (s .solution) (s .dependency) ⌝ }
 {

@@ -1,37 +1,36 @@
 -- The tests of the codeword test, each as a walk over checks, rows, totals or levels. Assumes nothing.
 use mathlib.Core.Path.{_≡_, refl, sym, ap, ap₂, _∙_, subst, fun-ext}
-use mathlib.Core.Bool.{Bool, true, false, _&&_}
-use mathlib.Core.List.{List, [], _∷_, map, map-map, flatMap}
-use Prim.Native.Nat.{ℕ, suc, _+_, _*_, _-_, _≤_, _<_}
+use mathlib.Core.Bool.{Bool, true, false, _&&_, and-assoc, and-comm}
+use mathlib.Core.List.{List, [], _∷_, _++_, map, map-map, flatMap}
+use Prim.Native.Nat.{ℕ, zero, suc, _+_, _*_, _-_, _≤_, _<_}
 use native.Mathlib.Nat.{le-trans, min-le-left, add-mul}
 use native.Mathlib.Omega.{arith}
-use borrow.Author.Tests.{eqb-true, eq-eqb, ne-eqb}
-use lib.Dec.{T, eqb}
-use lib.ListN.{length, getD, take, drop, length-take, length-drop}
-use lib.Seq.{length-take-le}
-use Rattle.field.specs.Lists.{if_then_else_, upFrom}
-use Rattle.field.specs.Field.{Field, dot}
+use borrow.Author.Tests.{eq-eqb, ne-eqb}
+use lib.Dec.{eqb}
+use lib.ListN.{length, getD, take, drop, replicate, length-append, length-take, length-drop}
+use lib.Seq.{take-at, length-take-le}
+use Rattle.field.specs.Lists.{upFrom}
+use Rattle.field.specs.Field.{Field, size, dot}
 use Rattle.field.specs.Ours.{fieldOf}
 use Rattle.field.proofs.Laws.{IsField}
 use Rattle.field.proofs.Fields.{our-field}
-use Rattle.linear.specs.Lists.{all, vanish}
-use Rattle.linear.specs.Marks.{rowsOf}
-use Rattle.linear.specs.Fill.{sumsOf}
-use Rattle.plans.specs.Plan.{Plan, Level, known, planOf, noLevel, levelOf, checksTo, rowAt, across}
-use Rattle.plans.specs.Refusal.{inMemory, stripeFits}
-use Rattle.codewords.specs.Codeword.{rowsHold, totalsHold, isCodeword, testRefusal, tested}
-use Rattle.codewords.specs.Totals.{totalRow}
-use Rattle.plans.specs.declared.Verdict.the-variants.{Yes, No, Refused}
-use Rattle.plans.specs.Tables.{checkTable, weightTable}
-use Rattle.plans.proofs.Refusals.{passed}
+use Rattle.fills.specs.Lists.{all, vanish}
+use Rattle.fills.specs.Marks.{rowsOf}
+use Rattle.fills.specs.Fill.{sumsOf}
+use Rattle.plans.specs.Plan.{Plan, Level, planOf, noLevel, levelOf, checksTo, rowAt, across}
+use Rattle.codewords.specs.Codeword.{rowsHold, totalsHold, isCodeword}
+use Rattle.codewords.specs.Asked.{Tested, AtLevel, RowsIn, withRows, totalRow}
+use Rattle.plans.specs.Rooms.{columnRoom, weightRoom, checkRoom}
+use Rattle.plans.specs.Tables.{weightTable}
 use Rattle.plans.proofs.Plans.{columns-most}
 use Rattle.plans.proofs.Sizes.{checks-room, checks-length, weights-room, weights-length}
 use Rattle.plans.proofs.Rows.{row-end}
+use Rattle.plans.proofs.Scan.{Passing, passing-more, passing-all, up-false}
 use Rattle.plans.proofs.Flat.{rowIn}
 use Rattle.plans.proofs.Tables.{checks-in, level-checks-in, weights-in, checks-more, sums-more}
 use Rattle.plans.proofs.Parts.{part, part-of, part-length, rows-from, rows-of, rows-front, map-up-shift}
-use Rattle.plans.proofs.Numbers.{Numbers, Weighing, row-within}
-use Rattle.codewords.proofs.Walk.{all-map, Walking, walking-turns, walking-fails, walking-ends}
+use Rattle.tables.proofs.Numbers.{Numbers, Weighing, own-products, row-within}
+use Rattle.codewords.proofs.Walk.{all-map}
 use Rattle.codewords.proofs.Totals.{dot-total}
 
 -- ---- checks that give 0
@@ -47,20 +46,20 @@ module _ (F : Field) (checks : List ℕ) (m : ℕ) (v : List ℕ) where
       ap (λ cs. vanish (sumsOf F cs v)) (rows-of m (length v) checks)
       ∙ ap (all (λ x. eqb x 0)) (map-map _ _ (upFrom 0 m)) ∙ all-map (λ x. eqb x 0) _ (upFrom 0 m)
 
-  module _ {i sum : ℕ} (more : i < m) (e : sum ≡ dot F (part (i * length v) (length v) checks) v) (w : Walking (gives0 F checks v) 0 m i) where
+  module _ {i sum : ℕ} (more : i < m) (e : sum ≡ dot F (part (i * length v) (length v) checks) v) where
     its : sum ≡ dot F (take (length v) (drop (i * length v) checks)) v
     its = e ∙ ap (λ c. dot F c v) (part-of (i * length v) (length v) checks)
 
-    pub vanish-turns : sum ≡ 0 → Walking (gives0 F checks v) 0 m (i + 1)
+    pub vanish-turns : sum ≡ 0 → Passing (gives0 F checks v) m i → Passing (gives0 F checks v) m (i + 1)
     unfolding gives0
-    vanish-turns z = walking-turns (gives0 F checks v) 0 m (omega arith) (eq-eqb _ 0 (sym its ∙ z)) w
+    vanish-turns z w = passing-more w more (eq-eqb _ 0 (sym its ∙ z))
 
     pub vanish-fails : (sum ≡ 0 → ⊥) → false ≡ vanish (sumsOf F (rowsOf m (length v) checks) v)
     unfolding gives0
-    vanish-fails nz = sym (vanish-walk ∙ walking-fails (gives0 F checks v) 0 m (omega arith) (ne-eqb _ 0 (λ z. nz (its ∙ z))) w)
+    vanish-fails nz = sym (vanish-walk ∙ up-false _ m i more (ne-eqb _ 0 (λ z. nz (its ∙ z))))
 
-  pub vanish-ends : {i : ℕ} → m ≤ i → Walking (gives0 F checks v) 0 m i → true ≡ vanish (sumsOf F (rowsOf m (length v) checks) v)
-  vanish-ends end w = sym (vanish-walk ∙ walking-ends (gives0 F checks v) 0 m (omega arith) w)
+  pub vanish-ends : {i : ℕ} → m ≤ i → Passing (gives0 F checks v) m i → true ≡ vanish (sumsOf F (rowsOf m (length v) checks) v)
+  vanish-ends end w = sym (vanish-walk ∙ passing-all w end)
 
 -- ---- rows
 
@@ -68,31 +67,28 @@ module _ (F : Field) (checks : List ℕ) (m : ℕ) (v : List ℕ) where
 unfoldable pub rowHolds : Plan → List ℕ → ℕ → Bool
 rowHolds P stripe r = vanish (sumsOf (P .field) (levelOf P 1 .checks) (rowAt P stripe r))
 
-rows-walk : (P : Plan) (stripe : List ℕ) → rowsHold P stripe ≡ all (rowHolds P stripe) (upFrom 0 (P .rows))
-unfolding rowHolds rowsHold
-rows-walk P stripe = refl
-
 -- the level-1 sums of the rows before r are zero
 pub record RowsHolding (p q rows n m : ℕ) (stripe : List ℕ) (r : ℕ) : Type 0 where
   pub is : Numbers p q rows n
+  pub its-size : q ≡ size (planOf p .field)
   pub count : m ≡ length (checksTo (planOf p) 1)
-  pub walk : Walking (rowHolds (planOf p) stripe) 0 (planOf p .rows) r
+  pub walk : Passing (rowHolds (planOf p) stripe) (planOf p .rows) r
 
-module _ {p q rows n m r : ℕ} {checks stripe : List ℕ} (lent : checks ≡ checkTable (planOf p))
-    (long : planOf p .rows * planOf p .columns ≤ length stripe) (more : r < rows) (s : RowsHolding p q rows n m stripe r) where
+module _ {p q rows n m r : ℕ} {table checks stripe : List ℕ} (ask : Tested (planOf p) table checks stripe) (more : r < rows)
+    (s : RowsHolding p q rows n m stripe r) where
   row-long : length (part (r * n) n stripe) ≡ n
-  row-long = part-length (r * n) n stripe (row-within (s .is) long more)
+  row-long = part-length (r * n) n stripe (row-within (s .is) (ask .long) more)
 
-  pub rows-checks : m * length (part (r * n) n stripe) ≤ length checks
-  rows-checks = rw (row-long, s .count, s .is .wide, lent) (checks-room p 1)
+  pub rows-checks : RowsIn q table m (length (part (r * n) n stripe)) checks
+  rows-checks = record { products = own-products (ask .lent) (s .its-size); room = rw (row-long, s .count, s .is .wide, ask .lent .checks) (checks-room p 1) }
 
-  within : r < 0 + planOf p .rows
-  within = omega (arith, s .is .high)
+  within : r < planOf p .rows
+  within = rw (s .is .high) at more
 
   -- the first m checks are level 1's
   first-checks : rowsOf m n checks ≡ levelOf (planOf p) 1 .checks
   unfolding checksTo flatMap
-  first-checks = rows-of m n checks ∙ rw (s .count, s .is .wide, lent) (checks-in p 1 ∙ checks-more (planOf p) 0)
+  first-checks = rows-of m n checks ∙ rw (s .count, s .is .wide, ask .lent .checks) (checks-in p 1 ∙ checks-more (planOf p) 0)
 
   row-is : part (r * n) n stripe ≡ rowAt (planOf p) stripe r
   unfolding rowAt
@@ -106,13 +102,15 @@ module _ {p q rows n m r : ℕ} {checks stripe : List ℕ} (lent : checks ≡ ch
         ∙ ap (λ F. vanish (sumsOf F (levelOf (planOf p) 1 .checks) (rowAt (planOf p) stripe r))) (s .is .field)
 
     pub rows-turn : b ≡ true → RowsHolding p q rows n m stripe (r + 1)
-    rows-turn t = record { is = s .is; count = s .count; walk = walking-turns _ 0 _ within (sym its-row ∙ t) (s .walk) }
+    rows-turn t = record { is = s .is; its-size = s .its-size; count = s .count; walk = passing-more (s .walk) within (sym its-row ∙ t) }
 
     pub rows-fail : b ≡ false → false ≡ rowsHold (planOf p) stripe
-    rows-fail f = sym (rows-walk (planOf p) stripe ∙ walking-fails _ 0 _ within (sym its-row ∙ f) (s .walk))
+    unfolding rowHolds rowsHold
+    rows-fail f = sym (up-false (rowHolds (planOf p) stripe) _ r within (sym its-row ∙ f))
 
 pub rows-end : {p q rows n m r : ℕ} {stripe : List ℕ} → rows ≤ r → RowsHolding p q rows n m stripe r → true ≡ rowsHold (planOf p) stripe
-rows-end {p} {q} {rows} {n} {m} {r} {stripe} end s = sym (rows-walk (planOf p) stripe ∙ walking-ends _ 0 _ (omega (arith, s .is .high)) (s .walk))
+unfolding rowHolds rowsHold
+rows-end end s = sym (passing-all (s .walk) (omega (arith, s .is .high)))
 
 -- ---- totals
 
@@ -123,9 +121,7 @@ all-both p q (x ∷ l) = four (p x) (all p l) (q x) (all q l) ∙ ap (λ b. p x 
   where
     four : (a b c d : Bool) → (a && b) && (c && d) ≡ a && c && (b && d)
     four false b c d = refl
-    four true false false d = refl
-    four true false true d = refl
-    four true true c d = refl
+    four true b c d = sym (and-assoc b c d) ∙ ap (λ x. x && d) (and-comm b c) ∙ and-assoc c b d
 
 all-true : {A : Type 0} (l : List A) → all (λ x. true) l ≡ true
 unfolding all
@@ -167,18 +163,24 @@ totals-walk p t K stripe =
     ∙ ap (λ f. all f (upFrom 0 (length (L .weights))))
     (fun-ext (λ i. ap (λ f. vanish (map f (L .checks))) (fun-ext (λ c. total-of-sums P K stripe c (weights i) (rw length-take (min-le-left _ _))))))
 
+take-zeros : (n m : ℕ) → n ≤ m → take {A = ℕ} n (replicate m 0) ≡ replicate n 0
+take-zeros zero m h = refl
+take-zeros (suc n) zero h = absurd (omega arith)
+take-zeros (suc n) (suc m) h = ap (λ l. 0 ∷ l) (take-zeros n m (omega arith))
+
 -- the checks of levels 1 to t end within the longest table
-pub checks-end : {p q rows n k : ℕ} → Numbers p q rows n → (t : ℕ) → k ≡ length (checksTo (planOf p) t) → k * n ≤ 512
+pub checks-end : {p q rows n k : ℕ} → Numbers p q rows n → (t : ℕ) → k ≡ length (checksTo (planOf p) t) → k * n ≤ checkRoom
 checks-end {p} {q} {rows} {n} {k} is t count = rw (count, is .wide) (le-trans (checks-room p t) (checks-length p))
 
 -- the sums of the totals before i are zero
 pub record TotalsHolding (p t q rows n : ℕ) (weights : List ℕ) (totals first last : ℕ) (stripe : List ℕ) (i : ℕ) : Type 0 where
   pub by : Weighing p t q rows n weights totals
+  pub its-size : q ≡ size (planOf p .field)
   pub from : first ≡ length (checksTo (planOf p) t)
   pub to : last ≡ length (checksTo (planOf p) (suc t))
-  pub walk : Walking (totalHolds (planOf p) stripe t) 0 (length (levelOf (planOf p) (suc t) .weights)) i
+  pub walk : Passing (totalHolds (planOf p) stripe t) (length (levelOf (planOf p) (suc t) .weights)) i
 
-module _ {p t q rows n totals first last i : ℕ} {weights checks stripe : List ℕ} (lent : checks ≡ checkTable (planOf p))
+module _ {p t q rows n totals first last i : ℕ} {weights table checks stripe : List ℕ} (ask : AtLevel (planOf p) t table checks stripe)
     (s : TotalsHolding p t q rows n weights totals first last stripe i) where
   -- the checks of level t + 1
   abbrev pub own : List ℕ
@@ -197,36 +199,56 @@ module _ {p t q rows n totals first last i : ℕ} {weights checks stripe : List 
   totals-part = omega (arith, span)
 
   pub totals-room : last * n ≤ length checks
-  totals-room = rw (s .to, s .by .is .wide, lent) (checks-room p (suc t))
+  totals-room = rw (s .to, s .by .is .wide, ask .tested .lent .checks) (checks-room p (suc t))
 
   own-checks : rowsOf (last - first) n own ≡ levelOf (planOf p) (suc t) .checks
   own-checks =
       let size : last * n - first * n ≡ (last - first) * n = omega (arith, span) in
       ap (λ k. rowsOf (last - first) n (take k (drop (first * n) checks))) size ∙ rows-front (last - first) n (drop (first * n) checks)
-      ∙ rows-from first (last - first) n checks ∙ rw (count, s .from, s .by .is .wide, lent) (level-checks-in p t)
+      ∙ rows-from first (last - first) n checks ∙ rw (count, s .from, s .by .is .wide, ask .tested .lent .checks) (level-checks-in p t)
 
   module _ (more : i < totals) where
-    pub weights-end : i * rows + rows ≤ 16
+    pub weights-end : i * rows + rows ≤ weightRoom
     weights-end = le-trans (row-end rows more) (rw (s .by .count, s .by .is .high) (weights-room p (suc t)))
 
     pub weights-within : i * rows + rows ≤ length weights
     weights-within = rw (s .by .weighs, weights-length p (suc t)) weights-end
 
-    pub totals-fit : planOf p .rows * planOf p .columns ≤ length stripe → (n ≤ 32) × (length (part (i * rows) rows weights) * n ≤ length stripe)
-    totals-fit long =
-        (rw (s .by .is .wide) (columns-most p), rw (part-length (i * rows) rows weights weights-within, s .by .is .high, s .by .is .wide) long)
+    abbrev pub own-weights : List ℕ
+    own-weights = part (i * rows) rows weights
 
-    module _ (total : List ℕ) (made : (length total ≡ 32) × (take n total ≡ totalRow (fieldOf q) (part (i * rows) rows weights) n stripe)) where
-      pub total-room : n ≤ length total
-      total-room = rw (made .0, s .by .is .wide) (columns-most p)
+    pub total-room : n ≤ columnRoom
+    total-room = rw (s .by .is .wide) (columns-most p)
+
+    pub zero-length : length (take n (replicate {A = ℕ} columnRoom 0)) ≡ n
+    zero-length = length-take-le n (replicate columnRoom 0) total-room
+
+    pub totals-rows : RowsIn q table (length own-weights) (length (take n (replicate {A = ℕ} columnRoom 0))) stripe
+    totals-rows = record {
+      products = own-products (ask .tested .lent) (s .its-size);
+      room = rw (part-length (i * rows) rows weights weights-within, zero-length, s .by .is .high, s .by .is .wide) (ask .tested .long);
+    }
+
+    -- what the rows are added to
+    module _ {new : List ℕ} (kept : length new ≡ length (take n (replicate {A = ℕ} columnRoom 0)))
+        (made : new ≡ withRows (fieldOf q) own-weights (length (take n (replicate {A = ℕ} columnRoom 0))) stripe (take n (replicate columnRoom 0))) where
+      abbrev pub total : List ℕ
+      total = new ++ drop n (replicate columnRoom 0)
+
+      pub total-long : n ≤ length total
+      total-long = simp length-append (omega (arith, kept, zero-length))
 
       pub total-length : length (take n total) ≡ n
-      total-length = length-take-le n total total-room
+      total-length = length-take-le n total total-long
 
-      pub totals-checks : (last - first) * length (take n total) ≤ length own
+      total-is : take n total ≡ totalRow (fieldOf q) own-weights n stripe
+      unfolding totalRow
+      total-is = take-at new _ n (kept ∙ zero-length) ∙ made ∙ ap₂ (λ k z. withRows (fieldOf q) own-weights k stripe z) zero-length (take-zeros n columnRoom total-room)
+
+      pub totals-checks : RowsIn q table (last - first) (length (take n total)) own
       totals-checks =
           let e : length own ≡ last * n - first * n = length-take-le _ (drop (first * n) checks) (simp length-drop (omega (arith, totals-room))) in
-          rw (total-length, e) (omega (arith, span))
+          record { products = own-products (ask .tested .lent) (s .its-size); room = rw (total-length, e) (omega (arith, span)) }
 
       module _ {b : Bool} (e : b ≡ vanish (sumsOf (fieldOf q) (rowsOf (last - first) (length (take n total)) own) (take n total))) where
         its-total : b ≡ totalHolds (planOf p) stripe t i
@@ -234,37 +256,38 @@ module _ {p t q rows n totals first last i : ℕ} {weights checks stripe : List 
         its-total =
             let P = planOf p in
             let checks-of = levelOf P (suc t) .checks in
-            e ∙ ap₂ (λ cs v. vanish (sumsOf (fieldOf q) cs v)) (ap (λ k. rowsOf (last - first) k own) total-length ∙ own-checks) (made .1)
+            e ∙ ap₂ (λ cs v. vanish (sumsOf (fieldOf q) cs v)) (ap (λ k. rowsOf (last - first) k own) total-length ∙ own-checks) total-is
             ∙ ap₂ (λ F l. vanish (sumsOf F checks-of (totalRow F (part (i * rows) rows l) n stripe))) (s .by .is .field) (s .by .weighs)
             ∙ ap (λ l. vanish (sumsOf (P .field) checks-of (totalRow (P .field) l n stripe))) (part-of (i * rows) rows _)
             ∙ ap₂ (λ R k. vanish (sumsOf (P .field) checks-of (totalRow (P .field) (rowIn R (weightTable P (suc t)) i) k stripe)))
             (s .by .is .high) (s .by .is .wide)
 
-        within-totals : i < 0 + length (levelOf (planOf p) (suc t) .weights)
-        within-totals = omega (arith, s .by .count)
+        within-totals : i < length (levelOf (planOf p) (suc t) .weights)
+        within-totals = rw (s .by .count) at more
 
         pub totals-turn : b ≡ true → TotalsHolding p t q rows n weights totals first last stripe (i + 1)
         totals-turn good = record {
           by = s .by;
+          its-size = s .its-size;
           from = s .from;
           to = s .to;
-          walk = walking-turns _ 0 _ within-totals (sym its-total ∙ good) (s .walk);
+          walk = passing-more (s .walk) within-totals (sym its-total ∙ good);
         }
 
         pub totals-fail : b ≡ false → false ≡ totalsHold (planOf p) stripe (levelOf (planOf p) (suc t))
         totals-fail bad =
-            sym (totals-walk p t (subst IsField (s .by .is .field) (our-field q)) stripe ∙ walking-fails _ 0 _ within-totals (sym its-total ∙ bad) (s .walk))
+            sym (totals-walk p t (subst IsField (s .by .is .field) (our-field q)) stripe ∙ up-false _ _ i within-totals (sym its-total ∙ bad))
 
 pub totals-end : {p t q rows n totals first last i : ℕ} {weights stripe : List ℕ} → totals ≤ i
     → TotalsHolding p t q rows n weights totals first last stripe i → true ≡ totalsHold (planOf p) stripe (levelOf (planOf p) (suc t))
-totals-end {p} {t} {q} {rows} {n} {totals} {first} {last} {i} {weights} {stripe} all s =
-    sym (totals-walk p t (subst IsField (s .by .is .field) (our-field q)) stripe ∙ walking-ends _ 0 _ (omega (arith, s .by .count)) (s .walk))
+totals-end {p} {t} {q} {stripe = stripe} all s =
+    sym (totals-walk p t (subst IsField (s .by .is .field) (our-field q)) stripe ∙ passing-all (s .walk) (omega (arith, s .by .count)))
 
 -- ---- levels
 
--- the totals of level t + 1 are zero
+-- the totals of level t + 2 are zero
 unfoldable pub levelHolds : Plan → List ℕ → ℕ → Bool
-levelHolds P stripe t = totalsHold P stripe (levelOf P (suc t))
+levelHolds P stripe t = totalsHold P stripe (levelOf P (suc (suc t)))
 
 getD-all : {A : Type 0} (d : A) (xs : List A) → map (λ i. getD xs i d) (upFrom 0 (length xs)) ≡ xs
 unfolding upFrom
@@ -272,38 +295,42 @@ getD-all d [] = refl
 getD-all d (x ∷ xs) = ap (λ l. x ∷ l) (map-up-shift (λ i. getD (x ∷ xs) i d) 0 (length xs) ∙ getD-all d xs)
 
 -- the levels behind the first, by their numbers
-levels-behind : (ls : List Level) → map (λ t. getD ls t noLevel) (upFrom 1 (length ls - 1)) ≡ drop 1 ls
+levels-behind : (ls : List Level) → map (λ t. getD ls (suc t) noLevel) (upFrom 0 (length ls - 1)) ≡ drop 1 ls
 unfolding upFrom
 levels-behind [] = refl
 levels-behind (L ∷ ls) =
-    let e : suc (length ls) - 1 ≡ length ls = omega arith in
-    ap (λ n. map (λ t. getD (L ∷ ls) t noLevel) (upFrom 1 n)) e ∙ map-up-shift (λ t. getD (L ∷ ls) t noLevel) 0 (length ls) ∙ getD-all noLevel ls
+    let e : suc (length ls) - 1 ≡ length ls = omega arith in ap (λ n. map (λ t. getD ls t noLevel) (upFrom 0 n)) e ∙ getD-all noLevel ls
 
 -- the totals of the levels before t + 1 are zero
 pub record LevelsHolding (p last : ℕ) (stripe : List ℕ) (t : ℕ) : Type 0 where
   pub count : last ≡ length (planOf p .levels)
-  pub walk : Walking (levelHolds (planOf p) stripe) 1 (last - 1) t
+  pub least : 1 ≤ t
+  pub walk : Passing (levelHolds (planOf p) stripe) (last - 1) (t - 1)
 
 module _ {p last t : ℕ} {stripe : List ℕ} (s : LevelsHolding p last stripe t) where
-  levels-walk : all (levelHolds (planOf p) stripe) (upFrom 1 (last - 1)) ≡ all (totalsHold (planOf p) stripe) (drop 1 (planOf p .levels))
+  levels-walk : all (levelHolds (planOf p) stripe) (upFrom 0 (last - 1)) ≡ all (totalsHold (planOf p) stripe) (drop 1 (planOf p .levels))
   unfolding levelHolds levelOf
   levels-walk =
       let P = planOf p in
-      ap (λ n. all (levelHolds P stripe) (upFrom 1 (n - 1))) (s .count)
-      ∙ sym (all-map (totalsHold P stripe) (λ t. getD (P .levels) t noLevel) (upFrom 1 (length (P .levels) - 1)))
+      ap (λ n. all (levelHolds P stripe) (upFrom 0 (n - 1))) (s .count)
+      ∙ sym (all-map (totalsHold P stripe) (λ t. getD (P .levels) (suc t) noLevel) (upFrom 0 (length (P .levels) - 1)))
       ∙ ap (all (totalsHold P stripe)) (levels-behind (P .levels))
 
   module _ (more : t < last) {b : Bool} (e : b ≡ totalsHold (planOf p) stripe (levelOf (planOf p) (suc t))) where
-    pub levels-turn : b ≡ true → LevelsHolding p last stripe (t + 1)
+    its-level : levelHolds (planOf p) stripe (t - 1) ≡ b
     unfolding levelHolds
-    levels-turn good = record { count = s .count; walk = walking-turns _ 1 (last - 1) (omega arith) (sym e ∙ good) (s .walk) }
+    its-level = let k : suc (t - 1) ≡ t = omega (arith, s .least) in ap (λ k. totalsHold (planOf p) stripe (levelOf (planOf p) (suc k))) k ∙ sym e
+
+    pub levels-turn : b ≡ true → LevelsHolding p last stripe (t + 1)
+    levels-turn good =
+        let k : t - 1 + 1 ≡ t + 1 - 1 = omega (arith, s .least) in
+        record { count = s .count; least = omega arith; walk = subst (Passing _ (last - 1)) k (passing-more (s .walk) (omega (arith, s .least)) (its-level ∙ good)) }
 
     pub levels-fail : b ≡ false → false ≡ all (totalsHold (planOf p) stripe) (drop 1 (planOf p .levels))
-    unfolding levelHolds
-    levels-fail bad = sym (walking-fails _ 1 (last - 1) (omega arith) (sym e ∙ bad) (s .walk)) ∙ levels-walk
+    levels-fail bad = sym (up-false _ _ (t - 1) (omega (arith, s .least)) (its-level ∙ bad)) ∙ levels-walk
 
   pub levels-end : last ≤ t → true ≡ all (totalsHold (planOf p) stripe) (drop 1 (planOf p .levels))
-  levels-end end = sym (walking-ends _ 1 (last - 1) (omega (arith, s .walk .least)) (s .walk)) ∙ levels-walk
+  levels-end end = sym (passing-all (s .walk) (omega (arith, s .least))) ∙ levels-walk
 
 -- ---- the test
 
@@ -315,35 +342,3 @@ module _ (P : Plan) (stripe : List ℕ) {a : Bool} (rows : a ≡ rowsHold P stri
   pub holds-by : a ≡ true → {b : Bool} → b ≡ all (totalsHold P stripe) (drop 1 (P .levels)) → b ≡ isCodeword P stripe
   unfolding isCodeword
   holds-by t levels = levels ∙ ap (λ b. b && all (totalsHold P stripe) (drop 1 (P .levels))) (sym t ∙ rows)
-
-pub test-known : (p : ℕ) (stripe : List ℕ) → testRefusal p stripe ≡ 0 → T (known p)
-unfolding inMemory testRefusal
-test-known p stripe e = subst T (sym (passed 10 _ _ (λ z. omega arith) e .0)) tt
-
-pub test-length : (p : ℕ) (stripe : List ℕ) → testRefusal p stripe ≡ 0 → length stripe ≡ planOf p .rows * planOf p .columns
-unfolding inMemory stripeFits testRefusal
-test-length p stripe e =
-    eqb-true _ _ (passed 11 _ _ (λ z. omega arith) (passed 10 _ _ (λ z. omega arith) e .1) .0)
-
-module _ (p : ℕ) (stripe : List ℕ) {n : ℕ} (e : n ≡ testRefusal p stripe) where
-  pub tested-refused : (n ≡ 0 → ⊥) → Refused n ≡ tested p stripe
-  unfolding if_then_else_ tested
-  tested-refused ne =
-      let k = testRefusal p stripe in
-      ap Refused e ∙ sym (ap (λ b. if b then if isCodeword (planOf p) stripe then Yes else No else Refused k) (ne-eqb k 0 (λ z. ne (e ∙ z))))
-
-  module _ (z : n ≡ 0) {b : Bool} (holds : b ≡ isCodeword (planOf p) stripe) where
-    tested-by : (if b then Yes else No) ≡ tested p stripe
-    unfolding if_then_else_ tested
-    tested-by =
-        let k = testRefusal p stripe in
-        ap (λ b. if b then Yes else No) holds
-        ∙ sym (ap (λ b. if b then if isCodeword (planOf p) stripe then Yes else No else Refused k) (eq-eqb k 0 (sym e ∙ z)))
-
-    pub tested-yes : b ≡ true → Yes ≡ tested p stripe
-    unfolding if_then_else_
-    tested-yes t = ap (λ b. if b then Yes else No) (sym t) ∙ tested-by
-
-    pub tested-no : b ≡ false → No ≡ tested p stripe
-    unfolding if_then_else_
-    tested-no f = ap (λ b. if b then Yes else No) (sym f) ∙ tested-by

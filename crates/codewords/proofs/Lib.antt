@@ -2,3 +2,4 @@
 pub mod Walk
 pub mod Totals
 pub mod Holding
+pub mod Verdicts

@@ -1,39 +1,41 @@
 -- The rows' weighted total: the loops that add it up, and its sums. Assumes nothing.
 use mathlib.Core.Path.{_≡_, refl, sym, ap, ap₂, _∙_, subst}
-use mathlib.Core.List.{List, [], _∷_, _++_, map}
-use Prim.Native.Nat.{ℕ, zero, suc, _+_, _*_, _%_, _≤_, _<_}
+use mathlib.Core.List.{List, [], _∷_, map}
+use Prim.Native.Nat.{ℕ, zero, suc, _+_, _*_, _≤_, _<_}
 use native.Mathlib.Nat.{zero-mul, suc-mul, zero-add, add-zero, le-of-eq}
 use native.Mathlib.Numerals.{add-one}
 use native.Mathlib.Omega.{arith}
+use lib.Bits.{bitAnd, and-mask}
 use lib.Dec.{lit<}
 use lib.ListN.{length, getD, set, take, drop, replicate, length-map, List·getD-map, drop-of-length-le}
-use lib.Seq.{take-all, take-at, length-take-le, length-front, drop-cons, drop-drop, drop-paste, getD-drop}
+use lib.Seq.{take-all, drop-cons, drop-drop, drop-paste, getD-drop}
 use Rattle.field.specs.Lists.{if_then_else_}
-use Rattle.field.specs.Field.{_⊕_, Field, size, mul, dot, gf16}
+use Rattle.field.specs.Field.{_⊕_, Field, size, mul, dot, gf2, gf16}
 use Rattle.field.specs.Ours.{fieldOf}
 use Rattle.field.proofs.Sum.{⊕-assoc, ⊕-zero, zero-⊕}
 use Rattle.field.proofs.Ring.{one-low}
 use Rattle.field.proofs.Fields.{field-16}
 use Rattle.field.proofs.Laws.{IsField, mul-zero}
-use Rattle.linear.specs.Marks.{rowsOf}
-use Rattle.linear.specs.Lists.{plus}
-use Rattle.linear.proofs.Vectors.{plus-length, plus-at, dot-comm, dot-plus, dot-scaled, dot-zeros}
+use Rattle.fills.specs.Marks.{rowsOf}
+use Rattle.fills.specs.Lists.{plus}
+use Rattle.fills.proofs.Vectors.{plus-length, plus-at, dot-comm, dot-plus, dot-scaled, dot-zeros}
 use Rattle.plans.proofs.Copying.{Copying, copying-starts, copying-turns, copying-ends}
 use Rattle.plans.proofs.Parts.{part, part-of, part-length}
-use Rattle.codewords.specs.Totals.{withRows, totalRow}
+use Rattle.codewords.specs.Asked.{withRows, totalRow}
 
 -- ---- one row
 
--- in GF(16) the product with 1 is the low bits
-pub plain-product : (x : ℕ) → x % 16 ≡ mul (fieldOf 16) 1 x
-unfolding if_then_else_ size gf16 fieldOf
-plain-product x = sym (one-low gf16 (lit< tt) x)
+-- the product with 1 is the field's bits
+pub record Bits (q bits : ℕ) : Type 0 where
+  pub plain : (x : ℕ) → bitAnd x bits ≡ mul (fieldOf q) 1 x
 
--- any field but GF(2) is GF(16), where a row of weight 1 is added so
-pub plain-row : {q w : ℕ} → (q ≡ 2 → ⊥) → w ≡ 1 → (total row : List ℕ) {added : List ℕ} → added ≡ plus total (map (mul (fieldOf 16) 1) row)
-    → added ≡ plus total (map (mul (fieldOf q) w) row)
-unfolding if_then_else_ fieldOf
-plain-row {q} {w} ne one total row e = e ∙ ap₂ (λ F w. plus total (map (mul F w) row)) (sym (field-16 q ne)) (sym one)
+pub bits-2 : {q bits : ℕ} → q ≡ 2 → bits ≡ 1 → Bits q bits
+unfolding if_then_else_ size gf2 fieldOf
+bits-2 e b = record { plain = λ x. rw (e, b) (and-mask x 1 ∙ sym (one-low gf2 (lit< tt) x)) }
+
+pub bits-16 : {q bits : ℕ} → (q ≡ 2 → ⊥) → bits ≡ 15 → Bits q bits
+unfolding size gf16
+bits-16 {q} ne b = record { plain = λ x. rw (field-16 q ne, b) (and-mask x 4 ∙ sym (one-low gf16 (lit< tt) x)) }
 
 module _ (F : Field) (w : ℕ) (row total₀ : List ℕ) (same : length row ≡ length total₀) where
   abbrev added : List ℕ
@@ -70,48 +72,41 @@ module _ (F : Field) (w : ℕ) (row total₀ : List ℕ) (same : length row ≡ 
 -- ---- the rows one after the other
 
 -- the rows before r are added: those from r on make the total whole
-pub record Adding (F : Field) (weights : List ℕ) (n : ℕ) (symbols total : List ℕ) (r : ℕ) : Type 0 where
-  pub long : length total ≡ 32
-  pub left : withRows F (drop r weights) n (drop (r * n) symbols) (take n total) ≡ totalRow F weights n symbols
+pub record Adding (F : Field) (weights symbols total₀ total : List ℕ) (r : ℕ) : Type 0 where
+  pub long : length total ≡ length total₀
+  pub left : let n = length total₀ in withRows F (drop r weights) n (drop (r * n) symbols) total ≡ withRows F weights n symbols total₀
 
-take-zeros : (n m : ℕ) → n ≤ m → take {A = ℕ} n (replicate m 0) ≡ replicate n 0
-take-zeros zero m h = refl
-take-zeros (suc n) zero h = absurd (omega arith)
-take-zeros (suc n) (suc m) h = ap (λ l. 0 ∷ l) (take-zeros n m (omega arith))
+module _ (F : Field) (weights symbols total₀ : List ℕ) where
+  pub adding-starts : Adding F weights symbols total₀ total₀ 0
+  adding-starts = record { long = refl; left = ap (λ k. withRows F weights (length total₀) (drop k symbols) total₀) (zero-mul (length total₀)) }
 
-module _ (F : Field) (weights : List ℕ) (n : ℕ) (symbols : List ℕ) (few : n ≤ 32) where
-  pub adding-starts : Adding F weights n symbols (replicate 32 0) 0
-  unfolding totalRow
-  adding-starts = record { long = refl; left = ap₂ (λ l t. withRows F weights n l t) (ap (λ k. drop k symbols) (zero-mul n)) (take-zeros n 32 few) }
-
-  module _ {total : List ℕ} {r : ℕ} (more : r < length weights) (inside : r * n + n ≤ length symbols) (s : Adding F weights n symbols total r) where
-    -- row r is as long as the total
-    pub row-same : length (part (r * n) n symbols) ≡ length (take n total)
-    row-same = part-length (r * n) n symbols inside ∙ sym (length-take-le n total (omega (arith, s .long)))
+  module _ {total : List ℕ} {r : ℕ} (more : r < length weights) (s : Adding F weights symbols total₀ total r) where
+    abbrev n : ℕ
+    n = length total₀
 
     behind : drop ((r + 1) * n) symbols ≡ drop n (drop (r * n) symbols)
     behind = ap (λ k. drop (k * n) symbols) (add-one r) ∙ ap (λ k. drop k symbols) (suc-mul r n) ∙ sym (drop-drop n (r * n) symbols)
 
-    pub adding-turns : {new : List ℕ} → new ≡ plus (take n total) (map (mul F (getD weights r 0)) (part (r * n) n symbols))
-        → Adding F weights n symbols (new ++ drop n total) (r + 1)
+    pub adding-turns : {w : ℕ} {new : List ℕ} → r * n + n ≤ length symbols → w ≡ getD weights r 0
+        → new ≡ plus total (map (mul F w) (part (r * n) n symbols)) → Adding F weights symbols total₀ new (r + 1)
     unfolding withRows
-    adding-turns {new} e =
-        let w : ℕ = getD weights r 0 in
-        let long : length new ≡ length (take n total) = ap length e ∙ added-length F w (part (r * n) n symbols) (take n total) row-same in
+    adding-turns {w} {new} inside weighs e =
+        let row : length (part (r * n) n symbols) ≡ length total = part-length (r * n) n symbols inside ∙ sym (s .long) in
         record {
-          long = length-front total new n long ∙ s .long;
+          long = ap length e ∙ added-length F w (part (r * n) n symbols) total row ∙ s .long;
           left =
-              ap (withRows F (drop (r + 1) weights) n (drop ((r + 1) * n) symbols))
-              (take-at new _ n (long ∙ length-take-le n total (omega (arith, s .long))) ∙ e
-              ∙ ap (λ row. plus (take n total) (map (mul F w) row)) (part-of (r * n) n symbols))
-              ∙ ap₂ (λ k l. withRows F (drop k weights) n l (plus (take n total) (map (mul F w) (take n (drop (r * n) symbols))))) (add-one r) behind
-              ∙ ap (λ ws. withRows F ws n (drop (r * n) symbols) (take n total)) (sym (drop-cons weights r 0 more))
+              ap₂ (λ k l. withRows F (drop k weights) n l new) (add-one r) behind
+              ∙ ap (withRows F (drop (suc r) weights) n (drop n (drop (r * n) symbols)))
+              (e ∙ ap₂ (λ w row. plus total (map (mul F w) row)) weighs (part-of (r * n) n symbols))
+              ∙ ap (λ ws. withRows F ws n (drop (r * n) symbols) total) (sym (drop-cons weights r 0 more))
               ∙ s .left;
         }
 
-  pub adding-ends : {total : List ℕ} {r : ℕ} → length weights ≤ r → Adding F weights n symbols total r → take n total ≡ totalRow F weights n symbols
+  pub adding-ends : {total : List ℕ} {r : ℕ} → length weights ≤ r → Adding F weights symbols total₀ total r
+      → total ≡ withRows F weights (length total₀) symbols total₀
   unfolding withRows
-  adding-ends {total} {r} all s = ap (λ ws. withRows F ws n (drop (r * n) symbols) (take n total)) (sym (drop-of-length-le weights all)) ∙ s .left
+  adding-ends {total} {r} all s =
+      ap (λ ws. withRows F ws (length total₀) (drop (r * length total₀) symbols) total) (sym (drop-of-length-le weights all)) ∙ s .left
 
 -- ---- its sums
 

@@ -1,15 +1,15 @@
 -- The rule of the code, and the codeword test.
 use Prim.Native.Nat.{ℕ}
 use mathlib.Core.Bool.{Bool, _&&_}
-use mathlib.Core.List.{List}
+use mathlib.Core.List.{List, [], _∷_}
 use lib.Dec.{eqb}
 use lib.ListN.{drop}
 use Rattle.field.specs.Lists.{if_then_else_, upFrom}
 use Rattle.field.specs.Field.{size}
-use Rattle.linear.specs.Lists.{all, vanish}
-use Rattle.linear.specs.Fill.{sumsOf}
+use Rattle.fills.specs.Lists.{all, vanish}
+use Rattle.fills.specs.Fill.{sumsOf}
 use Rattle.plans.specs.Plan.{Plan, Level, planOf, known, levelOf, rowAt, across}
-use Rattle.plans.specs.Refusal.{inMemory, unasked, stripeFits, allBelow}
+use Rattle.plans.specs.Refusal.{stripeFits, allBelow, firstFailed}
 use Rattle.plans.specs.declared.Verdict.{Verdict}
 use Rattle.plans.specs.declared.Verdict.the-variants.{Yes, No, Refused as Untested}
 
@@ -29,7 +29,7 @@ isCodeword P stripe = rowsHold P stripe && all (totalsHold P stripe) (drop 1 (P 
 unfoldable pub testRefusal : ℕ → List ℕ → ℕ
 testRefusal p stripe =
     let P = planOf p in
-    inMemory (known p) (stripeFits P stripe) unasked unasked (allBelow (size (P .field)) stripe) unasked unasked
+    firstFailed ((10, known p) ∷ (11, stripeFits P stripe) ∷ (13, allBelow (size (P .field)) stripe) ∷ [])
 
 unfoldable pub tested : ℕ → List ℕ → Verdict
 tested p stripe =

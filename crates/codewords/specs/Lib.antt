@@ -1,4 +1,4 @@
 -- What the crate `codewords` means.
 pub mod Codeword
--- what the code of the codeword test says
-pub mod Totals
+-- what the contracts of inner functions cite
+pub mod Asked

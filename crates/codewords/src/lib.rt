@@ -9,9 +9,17 @@ ghost use Rattle.codewords.specs.Codeword.{tested};
 pub fn is_codeword(plan: usize, stripe: &[u8]) -> Verdict
     ensures { λ r. ⌜ r ≡ tested plan (now (stripe .entry)) ⌝ }
 {
-    let number = codeword::test_refusal(plan, stripe);
-    if number != 0 {
-        return Verdict::Refused(number);
+    if !tables::is_known(plan) {
+        return Verdict::Refused(10);
+    }
+    let facts = tables::facts_of(plan);
+    let size = facts.symbols;
+    if stripe.len() != size {
+        return Verdict::Refused(11);
+    }
+    let q = facts.field;
+    if !refusals::all_below(q, stripe) {
+        return Verdict::Refused(13);
     }
     if codeword::holds(plan, stripe) {
         return Verdict::Yes;

@@ -1,48 +1,51 @@
 -- Vectors and stripes that agree where unmarked: place by place, row by row, under more marks and under none. Assumes nothing.
-use mathlib.Core.Path.{_≡_, refl, sym, ap, ap₂, _∙_, subst, subst₂}
+use mathlib.Core.Path.{_≡_, refl, sym, ap, _∙_, subst, subst₂}
 use mathlib.Core.Bool.{Bool, true, false}
-use mathlib.Core.List.{List, [], _∷_, _++_, flatMap}
+use mathlib.Core.List.{List, [], _∷_, flatMap}
+use mathlib.Core.Logic.{_⊎_, inl, inr}
 use Prim.Native.Nat.{ℕ, zero, suc, _+_, _*_, _/_, _%_, _^_, _<_, _≤_, suc-le-suc}
-use native.Mathlib.Nat.{suc-inj, le-of-suc-le-suc, suc-mul, zero-mul, zero-add, zero-lt-suc, mod-lt, div-lt-iff-lt-mul, div-add-mod'}
-use native.Mathlib.Numerals.{add-one}
+use native.Mathlib.Nat.{suc-inj, le-of-suc-le-suc, zero-add, zero-lt-suc, mod-lt, div-lt-iff-lt-mul, div-add-mod'}
 use native.Mathlib.Omega.{arith}
 use lib.Arith.{lt-one}
 use lib.Dec.{T, T-not, eqb, ltb}
 use lib.Count.{ones, onesIn}
-use lib.ListN.{length, drop, getD, List·getD-append}
-use lib.Pow.{pow-pos, shr-lt}
-use lib.Seq.{getD-take, getD-drop, getD-append-add}
+use lib.ListN.{length, drop, getD}
+use lib.Pow.{pow-pos}
+use lib.Seq.{getD-take, getD-drop, ext-getD}
 use Rattle.field.specs.Lists.{if_then_else_, upFrom}
 use Rattle.field.specs.Field.{Field}
 use Rattle.field.proofs.Sum.{of-bits, bit}
 use Rattle.field.proofs.Test.{both-left, both-right, both}
-use Rattle.linear.specs.Lists.{all, only, vanish, first, rest, beside}
-use Rattle.linear.specs.Marks.{bitsOf}
-use Rattle.linear.proofs.Choices.{Alike, Inside, getD-first, getD-rest, alike-at}
-use Rattle.linear.proofs.Filling.{Independent, independent-of}
-use Rattle.linear.proofs.Weights.{marked, bits-step, marked-bits, agrees-weight, weightless-vanish}
+use Rattle.fills.specs.Lists.{all, only, vanish, first, rest, beside}
+use Rattle.fills.specs.Marks.{bitsOf}
+use Rattle.fills.proofs.Choices.{Alike, Inside, getD-first, getD-rest, alike-at}
+use Rattle.fills.proofs.Filling.{Independent, independent-of}
+use Rattle.fills.proofs.Weights.{half-lt, marked, bits-step, marked-bits, agrees-weight, weightless-vanish}
 use Rattle.plans.specs.Plan.{Plan, planOf, rowAt, marksAt, marksOf}
 use Rattle.plans.specs.Refusal.{allBelow, unmarkedBelow}
 use Rattle.plans.proofs.Flat.{flat-length}
 use Rattle.plans.proofs.Rows.{marks-length}
 use Rattle.demands.specs.Words.{Agree}
+use Rattle.demands.proofs.Lists.{flat-row}
 
 -- ---- vectors
 
+pub at-alike : (ms : List Bool) (v w : List ℕ) → ((i : ℕ) → getD ms i true ≡ false → getD v i 0 ≡ getD w i 0) → Alike ms v w
+at-alike [] v w h = tt
+at-alike (true ∷ ms) v w h = at-alike ms (rest v) (rest w) (λ i e. sym (getD-rest v i) ∙ h (suc i) e ∙ getD-rest w i)
+at-alike (false ∷ ms) v w h = (
+  sym (getD-first v) ∙ h 0 refl ∙ getD-first w,
+  at-alike ms (rest v) (rest w) (λ i e. sym (getD-rest v i) ∙ h (suc i) e ∙ getD-rest w i),
+)
+
 pub alike-refl : (ms : List Bool) (v : List ℕ) → Alike ms v v
-alike-refl [] v = tt
-alike-refl (true ∷ ms) v = alike-refl ms (rest v)
-alike-refl (false ∷ ms) v = (refl, alike-refl ms (rest v))
+alike-refl ms v = at-alike ms v v (λ i e. refl)
 
 pub alike-sym : (ms : List Bool) (v w : List ℕ) → Alike ms v w → Alike ms w v
-alike-sym [] v w a = tt
-alike-sym (true ∷ ms) v w a = alike-sym ms (rest v) (rest w) a
-alike-sym (false ∷ ms) v w a = (sym (a .0), alike-sym ms (rest v) (rest w) (a .1))
+alike-sym ms v w a = at-alike ms w v (λ i e. sym (alike-at ms v w a i e))
 
 pub alike-trans : (ms : List Bool) (u v w : List ℕ) → Alike ms u v → Alike ms v w → Alike ms u w
-alike-trans [] u v w a b = tt
-alike-trans (true ∷ ms) u v w a b = alike-trans ms (rest u) (rest v) (rest w) a b
-alike-trans (false ∷ ms) u v w a b = (a .0 ∙ b .0, alike-trans ms (rest u) (rest v) (rest w) (a .1) (b .1))
+alike-trans ms u v w a b = at-alike ms u w (λ i e. alike-at ms u v a i e ∙ alike-at ms v w b i e)
 
 -- more marks ask for less
 pub alike-inside : (ms ns : List Bool) (v w : List ℕ) → Inside ms ns → Alike ms v w → Alike ns v w
@@ -54,15 +57,17 @@ alike-inside (true ∷ ms) (false ∷ ns) v w i a = absurd (i .0 tt)
 alike-inside (false ∷ ms) (true ∷ ns) v w i a = alike-inside ms ns (rest v) (rest w) (i .1) (a .1)
 alike-inside (false ∷ ms) (false ∷ ns) v w i a = (a .0, alike-inside ms ns (rest v) (rest w) (i .1) (a .1))
 
+-- where none is marked, no place is
+pub unmarked-at : (ms : List Bool) → marked ms ≡ 0 → (c : ℕ) → c < length ms → getD ms c true ≡ false
+unfolding if_then_else_ only
+unmarked-at [] z c l = absurd (omega arith)
+unmarked-at (true ∷ ms) z c l = absurd (omega arith)
+unmarked-at (false ∷ ms) z zero l = refl
+unmarked-at (false ∷ ms) z (suc c) l = unmarked-at ms z c (le-of-suc-le-suc l)
+
 -- vectors of one length that agree everywhere are equal
 pub alike-unmarked : (ms : List Bool) (v w : List ℕ) → marked ms ≡ 0 → length v ≡ length w → length w ≤ length ms → Alike ms v w → v ≡ w
-unfolding if_then_else_ only first rest
-alike-unmarked ms [] [] z l k a = refl
-alike-unmarked ms [] (y ∷ w) z l k a = absurd (omega arith)
-alike-unmarked ms (x ∷ v) [] z l k a = absurd (omega arith)
-alike-unmarked [] (x ∷ v) (y ∷ w) z l k a = absurd (omega arith)
-alike-unmarked (true ∷ ms) (x ∷ v) (y ∷ w) z l k a = absurd (omega arith)
-alike-unmarked (false ∷ ms) (x ∷ v) (y ∷ w) z l k a = ap₂ _∷_ (a .0) (alike-unmarked ms v w z (suc-inj l) (le-of-suc-le-suc k) (a .1))
+alike-unmarked ms v w z l k a = ext-getD 0 v w l (λ i h. alike-at ms v w a i (unmarked-at ms z i (omega arith)))
 
 -- where no symbol is marked, each is below q
 pub unmarked-all : (q : ℕ) (ms : List Bool) (v : List ℕ) → marked ms ≡ 0 → length v ≡ length ms → T (unmarkedBelow q ms v) → T (allBelow q v)
@@ -81,16 +86,6 @@ unmarked-independent F checks ms z =
     independent-of F checks ms λ w d.
     T-not (vanish w) (d .nonzero) (weightless-vanish w (omega (arith, agrees-weight F ms w (d .agrees))))
 
--- ---- place by place
-
-pub at-alike : (ms : List Bool) (v w : List ℕ) → ((i : ℕ) → getD ms i true ≡ false → getD v i 0 ≡ getD w i 0) → Alike ms v w
-at-alike [] v w h = tt
-at-alike (true ∷ ms) v w h = at-alike ms (rest v) (rest w) (λ i e. sym (getD-rest v i) ∙ h (suc i) e ∙ getD-rest w i)
-at-alike (false ∷ ms) v w h = (
-  sym (getD-first v) ∙ h 0 refl ∙ getD-first w,
-  at-alike ms (rest v) (rest w) (λ i e. sym (getD-rest v i) ∙ h (suc i) e ∙ getD-rest w i),
-)
-
 -- ---- row by row
 
 -- past the end every place counts as marked
@@ -98,19 +93,6 @@ unmarked-lt : (ms : List Bool) (i : ℕ) → getD ms i true ≡ false → i < le
 unmarked-lt [] i e = absurd (subst T e tt)
 unmarked-lt (m ∷ ms) zero e = zero-lt-suc (length ms)
 unmarked-lt (m ∷ ms) (suc i) e = suc-le-suc (unmarked-lt ms i e)
-
--- rows of N marks, one behind the other
-module _ (N : ℕ) (f : ℕ → List Bool) (wide : (r : ℕ) → length (f r) ≡ N) where
-  flat-at : (k n j c : ℕ) → j < n → c < N → getD (flatMap f (upFrom k n)) (j * N + c) true ≡ getD (f (k + j)) c true
-  unfolding flatMap upFrom
-  flat-at k zero j c h l = absurd (omega arith)
-  flat-at k (suc n) zero c h l =
-      ap (λ i. getD (f k ++ flatMap f (upFrom (suc k) n)) i true) (omega (arith, zero-mul N))
-      ∙ List·getD-append (f k) (flatMap f (upFrom (suc k) n)) true c (omega (arith, wide k)) ∙ ap (λ r. getD (f r) c true) (omega arith)
-  flat-at k (suc n) (suc j) c h l =
-      ap (λ i. getD (f k ++ flatMap f (upFrom (suc k) n)) i true) (omega (arith, suc-mul j N, wide k))
-      ∙ getD-append-add (f k) (flatMap f (upFrom (suc k) n)) (j * N + c) true ∙ flat-at (suc k) n j c (omega arith) l
-      ∙ ap (λ r. getD (f r) c true) (omega arith)
 
 module _ (P : Plan) where
   -- column c of row r: its symbol, and its mark
@@ -122,10 +104,13 @@ module _ (P : Plan) where
       → getD (marksOf P marks) (r * P .columns + c) true ≡ getD (marksAt P marks r) c true
   unfolding marksOf
   mark-at marks r c h l =
-      flat-at (P .columns) (marksAt P marks) (marks-length P marks) 0 (P .rows) r c h l ∙ ap (λ k. getD (marksAt P marks k) c true) (zero-add r)
+      let N = P .columns in
+      let all = flatMap (marksAt P marks) (upFrom 0 (P .rows)) in
+      sym (getD-drop (r * N) all c true) ∙ sym (getD-take N (drop (r * N) all) c true l)
+      ∙ ap (λ ms. getD ms c true) (flat-row (marksAt P marks) N 0 (P .rows) (λ r l. marks-length P marks r) r h ∙ ap (marksAt P marks) (zero-add r))
 
   -- a place that is unmarked stands in the stripe
-  unmarked-in : (marks : List ℕ) (i : ℕ) → getD (marksOf P marks) i true ≡ false → i < P .rows * P .columns
+  pub unmarked-in : (marks : List ℕ) (i : ℕ) → getD (marksOf P marks) i true ≡ false → i < P .rows * P .columns
   unfolding marksOf
   unmarked-in marks i e =
       subst (λ n. i < n) (flat-length (marksAt P marks) (P .columns) 0 (P .rows) (λ r l. marks-length P marks r)) (unmarked-lt (marksOf P marks) i e)
@@ -178,19 +163,21 @@ unfolding bitsOf upFrom
 clear-inside zero w = tt
 clear-inside (suc n) w = subst₂ Inside (sym (bits-step n 0)) (sym (bits-step n w)) (λ t. absurd t, clear-inside n (w / 2))
 
+-- no marks, or the same, lie inside
+pub fewer : (n w u : ℕ) → (w ≡ 0) ⊎ (w ≡ u) → Inside (bitsOf n w) (bitsOf n u)
+fewer n w u (inl e) = rw e (clear-inside n u)
+fewer n w u (inr e) = rw e (inside-refl (bitsOf n u))
+
 -- and words that lie inside each other are equal
 pub inside-same : (n v w : ℕ) → v < 2 ^ n → w < 2 ^ n → Inside (bitsOf n v) (bitsOf n w) → Inside (bitsOf n w) (bitsOf n v) → v ≡ w
 inside-same zero v w h k i j = lt-one h ∙ sym (lt-one k)
 inside-same (suc n) v w h k i j =
     let i′ = subst₂ Inside (bits-step n v) (bits-step n w) i in
     let j′ = subst₂ Inside (bits-step n w) (bits-step n v) j in
-    let e = inside-same n (v / 2) (w / 2) (half v h) (half w k) (i′ .1) (j′ .1) in
+    let e = inside-same n (v / 2) (w / 2) (half-lt n v h) (half-lt n w k) (i′ .1) (j′ .1) in
     let d = last (v % 2) (w % 2) (bit v) (bit w) (i′ .0) (j′ .0) in
     omega arith
   where
-    half : (u : ℕ) → u < 2 ^ suc n → u / 2 < 2 ^ n
-    half u l = shr-lt n 1 (subst (λ i. u < 2 ^ i) (sym (add-one n)) l)
-
     last : (a b : ℕ) → a < 2 → b < 2 → (T (eqb a 1) → T (eqb b 1)) → (T (eqb b 1) → T (eqb a 1)) → a ≡ b
     last a b la lb =
         of-bits (λ a. (T (eqb a 1) → T (eqb b 1)) → (T (eqb b 1) → T (eqb a 1)) → a ≡ b)

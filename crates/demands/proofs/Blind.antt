@@ -1,80 +1,54 @@
--- What does not look under marks: the tests of refusal, a file, a printed grid. And lists that agree at a place. Assumes nothing.
+-- What does not look under marks: the tests of refusal, and a file. And lists that agree at a place. Assumes nothing.
 use mathlib.Core.Path.{_≡_, refl, sym, ap, ap₂, _∙_, subst}
-use mathlib.Core.Logic.{inl, inr}
+use mathlib.Core.Logic.{inl, inr, _≢_}
 use mathlib.Core.Bool.{Bool, _&&_}
 use mathlib.Core.List.{List, [], _∷_, _++_, flatMap}
 use Prim.Native.Nat.{ℕ, zero, suc, _+_, _*_, _-_, _<_, _≤_}
-use native.Mathlib.Nat.{suc-inj, le-of-suc-le-suc, eq-or-lt-of-le}
+use native.Mathlib.Nat.{suc-inj, eq-or-lt-of-le, add-sub-of-le}
 use native.Mathlib.Omega.{arith}
 use lib.Dec.{eqb}
 use lib.ListN.{length, take, drop, getD, set, length-set, length-take, length-drop}
-use lib.Seq.{sets, ext-getD}
+use lib.Seq.{sets, ext-getD, getD-append-add}
 use Rattle.field.specs.Lists.{if_then_else_, upFrom}
 use Rattle.field.specs.Field.{size}
-use Rattle.linear.specs.Lists.{all}
-use Rattle.linear.specs.Marks.{bitsOf}
-use Rattle.linear.proofs.Choices.{Alike}
-use Rattle.linear.proofs.Beside.{beside-alike}
+use Rattle.fills.specs.Lists.{all}
+use Rattle.fills.specs.Marks.{bitsOf}
+use Rattle.fills.proofs.Choices.{Alike}
+use Rattle.fills.proofs.Beside.{beside-alike}
 use Rattle.plans.specs.Plan.{Plan, known, planOf, rowAt, marksAt, marksOf, fileLength}
-use Rattle.plans.specs.Refusal.{unasked, inMemory, stripeFits, wordsFit, marksFit, unmarkedBelow, symbolsFit, lentRefusal}
-use Rattle.repair.specs.File.{bytes4, headerOf, blanked, fileOf, writeRefusal, writeFile}
-use Rattle.repair.specs.Text.{lineEnd, shown, grid}
+use Rattle.plans.specs.Refusal.{stripeFits, wordsFit, marksFit, unmarkedBelow, symbolsFit, lentRefusal, firstFailed, lentTests}
+use Rattle.words.specs.Words.{bytes4}
+use Rattle.files.specs.File.{headerOf, blanked, fileOf, writeRefusal, writeFile}
 use Rattle.plans.proofs.Refusals.{unmarked-alike}
 use Rattle.demands.specs.Silence.{SameUnmarked, SilentWriting}
 use Rattle.demands.proofs.Alike.{at-alike, row-at, agree-rows}
 
 -- ---- lists of one length that agree at a place
 
--- they agree there after the same writes
-set-alike : (s t : List ℕ) (k x i : ℕ) → length s ≡ length t → getD s i 0 ≡ getD t i 0 → getD (set s k x) i 0 ≡ getD (set t k x) i 0
+-- they agree there after the same write, if it is written or they agreed
+set-alike : (s t : List ℕ) (k x i : ℕ) → length s ≡ length t → (i ≢ k → getD s i 0 ≡ getD t i 0) → getD (set s k x) i 0 ≡ getD (set t k x) i 0
 set-alike [] [] k x i l e = refl
 set-alike [] (z ∷ t) k x i l e = absurd (omega arith)
 set-alike (y ∷ s) [] k x i l e = absurd (omega arith)
 set-alike (y ∷ s) (z ∷ t) zero x zero l e = refl
-set-alike (y ∷ s) (z ∷ t) zero x (suc i) l e = e
-set-alike (y ∷ s) (z ∷ t) (suc k) x zero l e = e
-set-alike (y ∷ s) (z ∷ t) (suc k) x (suc i) l e = set-alike s t k x i (suc-inj l) e
+set-alike (y ∷ s) (z ∷ t) zero x (suc i) l e = e (λ q. omega (arith, q))
+set-alike (y ∷ s) (z ∷ t) (suc k) x zero l e = e (λ q. omega (arith, q))
+set-alike (y ∷ s) (z ∷ t) (suc k) x (suc i) l e = set-alike s t k x i (suc-inj l) (λ ne. e (λ q. ne (suc-inj q)))
 
-pub sets-alike : (s t : List ℕ) (k : ℕ) (xs : List ℕ) (i : ℕ) → length s ≡ length t → getD s i 0 ≡ getD t i 0
-    → getD (sets s k xs) i 0 ≡ getD (sets t k xs) i 0
-sets-alike s t k [] i l e = e
+-- and after the same writes
+pub sets-alike : (s t : List ℕ) (k : ℕ) (xs : List ℕ) (i : ℕ) → length s ≡ length t
+    → ((k ≤ i → i < k + length xs → ⊥) → getD s i 0 ≡ getD t i 0) → getD (sets s k xs) i 0 ≡ getD (sets t k xs) i 0
+sets-alike s t k [] i l e = e (λ h g. omega arith)
 sets-alike s t k (x ∷ xs) i l e =
-    sets-alike (set s k x) (set t k x) (suc k) xs i (length-set s k x ∙ l ∙ sym (length-set t k x)) (set-alike s t k x i l e)
-
--- and a place that is written agrees in any case
-set-here : (s t : List ℕ) (k x : ℕ) → length s ≡ length t → getD (set s k x) k 0 ≡ getD (set t k x) k 0
-set-here [] [] k x l = refl
-set-here [] (z ∷ t) k x l = absurd (omega arith)
-set-here (y ∷ s) [] k x l = absurd (omega arith)
-set-here (y ∷ s) (z ∷ t) zero x l = refl
-set-here (y ∷ s) (z ∷ t) (suc k) x l = set-here s t k x (suc-inj l)
-
-pub sets-here : (s t : List ℕ) (k : ℕ) (xs : List ℕ) (i : ℕ) → length s ≡ length t → k ≤ i → i < k + length xs
-    → getD (sets s k xs) i 0 ≡ getD (sets t k xs) i 0
-sets-here s t k [] i l h g = absurd (omega arith)
-sets-here s t k (x ∷ xs) i l h g =
-    let l′ = length-set s k x ∙ l ∙ sym (length-set t k x) in
-    elim (eq-or-lt-of-le h) [
-      | inl e ↦ sets-alike (set s k x) (set t k x) (suc k) xs i l′
-          (subst (λ j. getD (set s k x) j 0 ≡ getD (set t k x) j 0) e (set-here s t k x l))
-      | inr j ↦ sets-here (set s k x) (set t k x) (suc k) xs i l′ j (omega arith)
-    ]
-
-pub take-alike : (n : ℕ) (s t : List ℕ) (i : ℕ) → length s ≡ length t → getD s i 0 ≡ getD t i 0 → getD (take n s) i 0 ≡ getD (take n t) i 0
-take-alike zero s t i l e = refl
-take-alike (suc n) [] [] i l e = refl
-take-alike (suc n) [] (z ∷ t) i l e = absurd (omega arith)
-take-alike (suc n) (y ∷ s) [] i l e = absurd (omega arith)
-take-alike (suc n) (y ∷ s) (z ∷ t) zero l e = e
-take-alike (suc n) (y ∷ s) (z ∷ t) (suc i) l e = take-alike n s t i (suc-inj l) e
+    sets-alike (set s k x) (set t k x) (suc k) xs i (length-set s k x ∙ l ∙ sym (length-set t k x)) (λ out.
+    set-alike s t k x i l (λ ne. e (λ h g. elim (eq-or-lt-of-le h) [ inl q ↦ ne (sym q) | inr j ↦ out j (omega arith) ])))
 
 -- behind them the same stands
 pub append-behind : (s t z : List ℕ) (i : ℕ) → length s ≡ length t → length s ≤ i → getD (s ++ z) i 0 ≡ getD (t ++ z) i 0
-append-behind [] [] z i l h = refl
-append-behind [] (x ∷ t) z i l h = absurd (omega arith)
-append-behind (y ∷ s) [] z i l h = absurd (omega arith)
-append-behind (y ∷ s) (x ∷ t) z zero l h = absurd (omega arith)
-append-behind (y ∷ s) (x ∷ t) z (suc i) l h = append-behind s t z i (suc-inj l) (le-of-suc-le-suc h)
+append-behind s t z i l h =
+    subst (λ k. getD (s ++ z) k 0 ≡ getD (t ++ z) k 0) (add-sub-of-le h)
+    (getD-append-add s z (i - length s) 0
+    ∙ sym (ap (λ n. getD (t ++ z) (n + (i - length s)) 0) l ∙ getD-append-add t z (i - length s) 0))
 
 -- parts of lists of one length are of one length
 pub part-lengths : (n k : ℕ) (s t : List ℕ) → length s ≡ length t → length (take n (drop k s)) ≡ length (take n (drop k t))
@@ -111,7 +85,7 @@ unfolding all upFrom
 all-same f g k zero h = refl
 all-same f g k (suc n) h = ap₂ _&&_ (h k (omega arith)) (all-same f g (suc k) n (λ r l. h r (omega arith)))
 
-flat-same : {A : Type 0} (f g : ℕ → List A) (k n : ℕ) → ((r : ℕ) → r < k + n → f r ≡ g r) → flatMap f (upFrom k n) ≡ flatMap g (upFrom k n)
+pub flat-same : {A : Type 0} (f g : ℕ → List A) (k n : ℕ) → ((r : ℕ) → r < k + n → f r ≡ g r) → flatMap f (upFrom k n) ≡ flatMap g (upFrom k n)
 unfolding flatMap upFrom
 flat-same f g k zero h = refl
 flat-same f g k (suc n) h = ap₂ _++_ (h k (omega arith)) (flat-same f g (suc k) n (λ r l. h r (omega arith)))
@@ -136,17 +110,10 @@ module _ (p : ℕ) (marks s t : List ℕ) (h : SameUnmarked p marks s t) where
       unmarked-alike (size (Q .field)) (marksAt Q marks r) (rowAt Q s r) (rowAt Q t r) (rows-alike r (omega arith)))
 
   pub lent-same : lentRefusal p s marks ≡ lentRefusal p t marks
-  unfolding lentRefusal stripeFits
+  unfolding lentTests lentRefusal stripeFits
   lent-same =
-      ap₂ (λ n z. inMemory (known p) (eqb n (Q .rows * Q .columns) && wordsFit Q marks) unasked (marksFit Q marks) z unasked unasked)
+      ap₂ (λ n z. firstFailed ((10, known p) ∷ (11, eqb n (Q .rows * Q .columns) && wordsFit Q marks) ∷ (12, marksFit Q marks) ∷ (13, z) ∷ []))
       (h .long) symbols-same
-
-  pub grid-same : grid Q s marks ≡ grid Q t marks
-  unfolding if_then_else_ grid shown
-  grid-same =
-      flat-same (λ r. shown (marksAt Q marks r) (rowAt Q s r) ++ lineEnd) (λ r. shown (marksAt Q marks r) (rowAt Q t r) ++ lineEnd) 0 (Q .rows)
-      (λ r l.
-      ap (λ z. z ++ lineEnd) (beside-alike _ (λ x y. refl) (marksAt Q marks r) (rowAt Q s r) (rowAt Q t r) (rows-alike r (omega arith))))
 
 -- ---- writing a file
 
@@ -156,8 +123,7 @@ silent-writing p marks s t file h =
     let P = planOf p in
     let e : writeRefusal p s marks file ≡ writeRefusal p t marks file =
     ap₂ (λ n z.
-    inMemory (known p) (eqb n (P .rows * P .columns) && wordsFit P marks && eqb (length file) (fileLength P)) unasked (marksFit P marks) z unasked
-    unasked)
+    firstFailed ((10, known p) ∷ (11, eqb n (P .rows * P .columns) && wordsFit P marks && eqb (length file) (fileLength P)) ∷ (12, marksFit P marks) ∷ (13, z) ∷ []))
     (h .long) (symbols-same p marks s t h) in (
       e,
       ap₂ (λ n bytes. if eqb n 0 then headerOf p ++ flatMap bytes4 marks ++ bytes else file) e

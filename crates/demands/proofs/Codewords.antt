@@ -2,20 +2,21 @@
 use mathlib.Core.Path.{_≡_, refl, sym, ap, ap₂, _∙_, subst}
 use mathlib.Core.List.{List, [], _∷_, map}
 use Prim.Native.Nat.{ℕ, zero, suc, _*_, _<_}
-use native.Mathlib.Nat.{suc-inj}
 use native.Mathlib.Numerals.{one-add}
 use native.Mathlib.Omega.{arith}
-use lib.Dec.{T, eqb, ltb, lt→ltb, eqb→eq}
+use lib.Dec.{T, ltb, lt→ltb}
 use lib.ListN.{length, drop, getD, length-drop}
-use lib.Seq.{getD-drop}
+use lib.Seq.{getD-drop, ext-getD}
 use Rattle.field.specs.Field.{Field, size, dot}
 use Rattle.field.proofs.Test.{both-left, both-right, both}
 use Rattle.field.proofs.Lists.{getD-map-below}
 use Rattle.field.proofs.Laws.{IsField, dot-lt}
-use Rattle.linear.specs.Lists.{all, zeros, vanish}
-use Rattle.linear.specs.Fill.{sumsOf}
-use Rattle.linear.proofs.Tests.{In, all-in, vanish→zeros}
+use Rattle.fills.specs.Lists.{all, zeros, vanish}
+use Rattle.fills.specs.Fill.{sumsOf}
+use Rattle.fills.proofs.Tests.{In, all-in, vanish→zeros}
+use Rattle.fills.proofs.Marked.{zeros-at, length-zeros}
 use Rattle.plans.specs.Plan.{Plan, noLevel, planOf, levelOf, rowAt, across}
+use Rattle.fills.proofs.Vectors.{sums-count}
 use Rattle.plans.specs.Refusal.{allBelow}
 use Rattle.steps.specs.Steps.{newSums}
 use Rattle.codewords.specs.Codeword.{rowsHold, totalsHold, isCodeword}
@@ -26,20 +27,12 @@ use Rattle.demands.specs.Words.{Codeword}
 
 -- ---- lists of zeros
 
-pub zeros-map : {A B : Type 0} (f : A → B) (l : List A) → zeros (map f l) ≡ zeros l
-unfolding zeros
-zeros-map f [] = refl
-zeros-map f (x ∷ l) = ap (λ k. 0 ∷ k) (zeros-map f l)
+zeros-same : {A B : Type 0} (a : List A) (b : List B) → length a ≡ length b → zeros a ≡ zeros b
+zeros-same a b l = ext-getD 0 (zeros a) (zeros b) (length-zeros a ∙ l ∙ sym (length-zeros b)) (λ i h. zeros-at a i ∙ sym (zeros-at b i))
 
 -- zeros as many as zeros
 pub vanish-same : (a b : List ℕ) → length a ≡ length b → T (vanish a) → T (vanish b) → a ≡ b
-unfolding vanish all
-vanish-same [] [] l s t = refl
-vanish-same [] (y ∷ b) l s t = absurd (omega arith)
-vanish-same (x ∷ a) [] l s t = absurd (omega arith)
-vanish-same (x ∷ a) (y ∷ b) l s t =
-    ap₂ _∷_ (eqb→eq x 0 (both-left (eqb x 0) (vanish a) s) ∙ sym (eqb→eq y 0 (both-left (eqb y 0) (vanish b) t)))
-    (vanish-same a b (suc-inj l) (both-right (eqb x 0) (vanish a) s) (both-right (eqb y 0) (vanish b) t))
+vanish-same a b l s t = vanish→zeros a s ∙ zeros-same a b l ∙ sym (vanish→zeros b t)
 
 -- ---- sums of rows
 
@@ -95,4 +88,4 @@ module _ (p : ℕ) (X : List ℕ) (word : Codeword p X) where
       let L = levelOf P (suc (suc t)) in
       vanish→zeros (sumsOf (P .field) (L .weights) (across P X c))
       (all-in (λ c. vanish (sumsOf (P .field) (L .weights) (across P X c))) (L .checks) (word-level t h) m)
-      ∙ zeros-map (λ w. dot (P .field) w (across P X c)) (L .weights)
+      ∙ zeros-same (sumsOf (P .field) (L .weights) (across P X c)) (L .weights) (sums-count (P .field) (L .weights) (across P X c))

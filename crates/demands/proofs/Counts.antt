@@ -8,28 +8,29 @@ use native.Mathlib.Nat.{eq-or-lt-of-le, not-suc-le-zero, le-of-suc-le-suc, le-re
 use native.Mathlib.Omega.{arith}
 use borrow.Author.Tests.{leb-true}
 use lib.Count.{ones}
-use lib.Dec.{T, T-not, eqb, leb, eqb→eq, leb→le, nleb→lt}
+use lib.Dec.{T, T-not, leb, leb→le, nleb→lt}
 use lib.ListN.{length, take, getD, length-map}
 use lib.Seq.{ext-getD, getD-take, length-take-le}
 use Rattle.field.specs.Lists.{if_then_else_, upFrom}
 use Rattle.field.proofs.Lists.{length-up, getD-map-below}
 use Rattle.field.proofs.Test.{both-left, both-right}
-use Rattle.linear.specs.Lists.{all, only}
-use Rattle.linear.specs.Marks.{bitsOf}
-use Rattle.linear.proofs.Tests.{either}
-use Rattle.linear.proofs.Choices.{Inside}
-use Rattle.linear.proofs.Weights.{marked, marked-bits}
-use Rattle.plans.specs.Plan.{Plan, plan1, plan2, plan3, noPlan, planOf, marksAt}
+use Rattle.fills.specs.Lists.{all, only}
+use Rattle.fills.specs.Marks.{bitsOf}
+use Rattle.fills.proofs.Tests.{either}
+use Rattle.fills.proofs.Choices.{Inside}
+use Rattle.fills.proofs.Weights.{marked, marked-bits}
+use Rattle.plans.specs.Plan.{Plan, known, planOf, marksAt}
 use Rattle.steps.specs.Steps.{lossy}
 use Rattle.steps.proofs.Fit.{lent-fit}
-use Rattle.plans.proofs.Plans.{all-beside}
 use Rattle.plans.proofs.Rows.{marks-length}
-use Rattle.demands.specs.Published.{published, nothing, counts, distance}
+use Rattle.demands.specs.Published.{counts, distance}
 use Rattle.demands.specs.Words.{rowsWith, Within, MeetsCounts, total}
 use Rattle.demands.specs.Second.{CountsSuffice, DistanceSuffices}
-use Rattle.demands.proofs.Few.{all-published, count, few-independent, weights-independent}
+use Rattle.demands.proofs.Backed.{count, heavy}
+use Rattle.demands.proofs.Few.{backed, few-independent, weights-independent}
 use Rattle.demands.proofs.Held.{rowTied, levelTied, LevelFree}
 use Rattle.demands.proofs.Left.{lossy-none}
+use Rattle.demands.proofs.Order.{lossy-inside}
 use Rattle.demands.proofs.Second.{restores}
 
 -- ---- what is left where mending ends
@@ -43,16 +44,6 @@ abbrev pub Clears : ℕ → (marks : List ℕ) → Type 0
 Clears p marks = (t : ℕ) (M : List ℕ) → 0 < t → t ≤ length (planOf p .levels) → ((r : ℕ) → r < planOf p .rows → RowLeft p marks t M r)
     → (t < length (planOf p .levels) → T (levelTied p t M)) → (r : ℕ) → r < planOf p .rows → getD M r 0 ≡ 0
 
--- where rows with marks pass a test, they lie inside those that pass it
-pub lossy-inside : (marks : List ℕ) (g : ℕ → Bool) (k n : ℕ) → ((r : ℕ) → r < k + n → (getD marks r 0 ≡ 0) ⊎ T (g r))
-    → Inside (map (λ r. not (eqb (getD marks r 0) 0)) (upFrom k n)) (map g (upFrom k n))
-unfolding upFrom
-lossy-inside marks g k zero h = tt
-lossy-inside marks g k (suc n) h = (
-  λ t. elim (h k (omega arith)) [ inl e ↦ absurd (subst (λ w. T (not (eqb w 0))) e t) | inr s ↦ s ],
-  lossy-inside marks g (suc k) n (λ r l. h r (omega arith)),
-)
-
 -- ---- the counts
 
 within-at : (P : Plan) (marks : List ℕ) (cs : List (ℕ × ℕ)) → Within P marks cs → (i : ℕ) → i < length cs
@@ -60,16 +51,6 @@ within-at : (P : Plan) (marks : List ℕ) (cs : List (ℕ × ℕ)) → Within P 
 within-at P marks [] w i l = absurd (not-suc-le-zero l)
 within-at P marks (c ∷ cs) w zero l = w .0
 within-at P marks (c ∷ cs) w (suc i) l = within-at P marks cs (w .1) i (le-of-suc-le-suc l)
-
--- one for each level
-counts-long : (p : ℕ) → length (counts p) ≡ length (planOf p .levels)
-unfolding counts plan1 plan2 plan3 noPlan
-counts-long p = eqb→eq _ _ (all-beside nothing published (λ P B. eqb (length (B .counts)) (length (P .levels))) tt p)
-
--- and none of the last level's rows
-last-none : (p : ℕ) → count p (pred (length (planOf p .levels))) .1 ≡ 0
-unfolding counts plan1 plan2 plan3 noPlan
-last-none p = eqb→eq _ 0 (all-beside nothing published (λ P B. eqb (getD (B .counts) (pred (length (P .levels))) (0, 0) .1) 0) tt p)
 
 -- ---- marks inside marks
 
@@ -113,7 +94,7 @@ rows-with P marks n e =
 
 -- ---- marks that meet the counts
 
-module _ (p : ℕ) (marks : List ℕ) (words : length marks ≡ planOf p .rows)
+module _ (p : ℕ) (kn : T (known p)) (marks : List ℕ) (words : length marks ≡ planOf p .rows)
     (mark-lt : (r : ℕ) → r < planOf p .rows → getD marks r 0 < 2 ^ planOf p .columns) (meets : MeetsCounts p marks) where
   abbrev P : Plan
   P = planOf p
@@ -148,7 +129,7 @@ module _ (p : ℕ) (marks : List ℕ) (words : length marks ≡ planOf p .rows)
         le-trans
         (inside-marked (lossy P M) (map enough (upFrom 0 (P .rows))) (lossy-inside M enough 0 (P .rows) (λ r l. many r (omega arith))))
         (subst (λ n. n ≤ count p i .1) (rows-with P marks (count p i .0) words)
-        (within-at P marks (counts p) meets i (omega (arith, counts-long p))))
+        (within-at P marks (counts p) meets i (omega (arith, backed p kn .tested .counts-long))))
 
     learned : suc i < length (P .levels) → LevelFree p (suc i) M
     unfolding lossy
@@ -157,8 +138,8 @@ module _ (p : ℕ) (marks : List ℕ) (words : length marks ≡ planOf p .rows)
     clear : suc i ≡ length (P .levels) → (r : ℕ) → r < P .rows → getD M r 0 ≡ 0
     unfolding lossy
     clear e r h =
-        let none : count p i .1 ≡ 0 = ap (λ n. count p (pred n) .1) e ∙ last-none p in
-        lossy-none M 0 (P .rows) (omega (arith, few-left (omega arith))) r zero-le (omega arith)
+        let none : count p i .1 ≡ 0 = ap (λ n. count p (pred n) .1) e ∙ backed p kn .tested .counts-last in
+        lossy-none M (P .rows) (omega (arith, few-left (omega arith))) r h
 
   counts-clear : Clears p marks
   counts-clear zero M pos le rows level = absurd (omega arith)
@@ -171,7 +152,7 @@ module _ (p : ℕ) (marks : List ℕ) (words : length marks ≡ planOf p .rows)
 pub counts-suffice : CountsSuffice
 counts-suffice p X stripe marks word fit agree meets =
     let lent = lent-fit p stripe marks fit in
-    restores p X stripe marks word fit agree (counts-clear p marks (lent .words) (lent .mark-lt) meets)
+    restores p X stripe marks word fit agree (counts-clear p (lent .plan-known) marks (lent .words) (lent .mark-lt) meets)
 
 -- ---- any d - 1 marks
 
@@ -196,10 +177,6 @@ with-le : (P : Plan) (marks : List ℕ) (n : ℕ) → rowsWith P marks n * n ≤
 unfolding rowsWith
 with-le P marks n = le-trans (rows-weigh n (take (P .rows) marks)) (total-take (P .rows) marks)
 
--- one row more than a count allows has at least d marks
-abbrev heavy : ℕ → ℕ × ℕ → Bool
-heavy d c = leb d (suc (c .1) * c .0)
-
 light-within : (P : Plan) (marks : List ℕ) (d : ℕ) → total marks < d → (cs : List (ℕ × ℕ)) → T (all (heavy d) cs) → Within P marks cs
 unfolding all
 light-within P marks d h [] t = tt
@@ -215,10 +192,7 @@ light-within P marks d h (c ∷ cs) t = (few, light-within P marks d h cs (both-
               absurd (omega (arith, with-le P marks (c .0)))
         ]
 
-light-meets : (p : ℕ) (marks : List ℕ) → total marks < distance p → MeetsCounts p marks
-unfolding all counts distance
-light-meets p marks h =
-    light-within (planOf p) marks (distance p) h (counts p) (all-published (λ B. all (heavy (B .d)) (B .counts)) tt p)
-
 pub distance-suffices : DistanceSuffices
-distance-suffices p X stripe marks word fit agree light = counts-suffice p X stripe marks word fit agree (light-meets p marks light)
+distance-suffices p X stripe marks word fit agree light =
+    counts-suffice p X stripe marks word fit agree
+    (light-within (planOf p) marks (distance p) light (counts p) (backed p (lent-fit p stripe marks fit .plan-known) .tested .counts-heavy))

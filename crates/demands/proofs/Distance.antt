@@ -13,19 +13,20 @@ use Rattle.field.specs.Field.{Field, size, dot}
 use Rattle.field.proofs.Test.{both}
 use Rattle.field.proofs.Lists.{length-up, getD-map-below}
 use Rattle.field.proofs.Laws.{IsField, size-pos}
-use Rattle.linear.specs.Lists.{all, zeros, vanish}
-use Rattle.linear.specs.Marks.{bitsOf}
-use Rattle.linear.specs.Fill.{sumsOf}
-use Rattle.linear.proofs.Tests.{in-all, zeros-vanish}
-use Rattle.linear.proofs.Choices.{agrees-alike}
-use Rattle.linear.proofs.Weights.{marked, marked-bits}
-use Rattle.linear.proofs.Picked.{dot-vanish, sums-vanish}
-use Rattle.linear.proofs.Spread.{symbols-fit}
+use Rattle.fills.specs.Lists.{all, zeros, vanish}
+use Rattle.fills.specs.Marks.{bitsOf}
+use Rattle.fills.specs.Fill.{sumsOf}
+use Rattle.fills.proofs.Tests.{in-all, zeros-vanish}
+use Rattle.fills.proofs.Choices.{agrees-alike}
+use Rattle.fills.proofs.Marked.{length-zeros}
+use Rattle.fills.proofs.Weights.{marked, marked-bits}
+use Rattle.fills.proofs.Picked.{dot-vanish, sums-vanish}
+use Rattle.fills.proofs.Spread.{symbols-fit}
 use Rattle.plans.specs.Plan.{Plan, Level, known, planOf, levelOf, rowAt, marksAt, across}
 use Rattle.plans.specs.Refusal.{allBelow}
 use Rattle.codewords.specs.Codeword.{rowsHold, totalsHold, isCodeword}
 use Rattle.repair.specs.Mending.{mendStripe}
-use Rattle.plans.proofs.Shape.{plan-field}
+use Rattle.plans.proofs.Spread.{fields}
 use Rattle.steps.proofs.Fit.{rows-all, all-zeros, all-take, all-drop, fit-lent}
 use Rattle.plans.proofs.Refusals.{unmarked-below}
 use Rattle.demands.specs.Published.{distance}
@@ -35,7 +36,6 @@ use Rattle.demands.proofs.Lists.{all-map}
 use Rattle.demands.proofs.Marked.{wordWith, word-lt, word-bits, support, support-length, support-marked, support-agrees}
 use Rattle.demands.proofs.Alike.{rows-agree}
 use Rattle.demands.proofs.Codewords.{vanish-same, word-row, word-below}
-use Rattle.demands.proofs.Square.{zeros-length}
 use Rattle.demands.proofs.Counts.{distance-suffices}
 use Rattle.demands.proofs.Parameters.{known-by-distance}
 
@@ -60,10 +60,13 @@ rows-total N X f (suc n) k l h =
 
 -- ---- zero is a codeword
 
-blankOf : Plan → List ℕ
+unfoldable pub blankOf : Plan → List ℕ
 blankOf P = replicate (P .rows * P .columns) 0
 
-module _ (p : ℕ) (K : IsField (planOf p .field)) where
+module _ (p : ℕ) where
+  K : IsField (planOf p .field)
+  K = fields p
+
   abbrev P : Plan
   P = planOf p
 
@@ -84,7 +87,7 @@ module _ (p : ℕ) (K : IsField (planOf p .field)) where
       (all-map (λ x. eqb x 0) (λ r. dot (P .field) c (rowAt P blank r)) (λ r. rw (dot-vanish (P .field) K c (rowAt P blank r) (blank-row r)) tt)
       (upFrom 0 (P .rows))))
 
-  blank-codeword : Codeword p blank
+  pub blank-codeword : Codeword p blank
   unfolding isCodeword rowsHold allBelow blankOf
   blank-codeword = record {
     long = length-replicate (P .rows * P .columns) 0;
@@ -104,9 +107,6 @@ module _ (p : ℕ) (kn : T (known p)) (X : List ℕ) (word : Codeword p X) where
 
   abbrev F : Field
   F = Q .field
-
-  K : IsField F
-  K = plan-field p kn
 
   -- the mark word of row r's support
   markWord : ℕ → ℕ
@@ -154,8 +154,8 @@ module _ (p : ℕ) (kn : T (known p)) (X : List ℕ) (word : Codeword p X) where
       let x = rowAt Q X r in
       let same : zeros (support x) ≡ rowAt Q (blankOf Q) r =
       vanish-same (zeros (support x)) (rowAt Q (blankOf Q) r)
-      (zeros-length (support x) ∙ support-wide r h ∙ sym (word-row p (blankOf Q) (blank-codeword p K) r h))
-      (zeros-vanish (support x)) (blank-row p K r) in
+      (length-zeros (support x) ∙ support-wide r h ∙ sym (word-row p (blankOf Q) (blank-codeword p) r h))
+      (zeros-vanish (support x)) (blank-row p r) in
       rw (word-at r h, word-has r h, ← same)
       (agrees-alike F (support x) (zeros (support x)) x (support-agrees F x (symbols-fit F x (word-below p X word r h)))))
 
@@ -167,5 +167,5 @@ no-lighter p X word light =
     let mended : (Y : List ℕ) → Codeword p Y → Agree p (marks p kn X word) Y X → mendStripe p X (marks p kn X word) ≡ Y =
     λ Y w a. distance-suffices p Y X (marks p kn X word) w (fit p kn X word) a few .1 in
     let zero-word : X ≡ blankOf (planOf p) =
-    sym (mended X word (λ i e. refl)) ∙ mended (blankOf (planOf p)) (blank-codeword p (plan-field p kn)) (blank-agrees p kn X word) in
+    sym (mended X word (λ i e. refl)) ∙ mended (blankOf (planOf p)) (blank-codeword p) (blank-agrees p kn X word) in
     rw zero-word (all-zeros (λ x. eqb x 0) tt (planOf p .rows * planOf p .columns))

@@ -8,10 +8,11 @@ use native.Mathlib.Omega.{arith}
 use lib.Dec.{T}
 use lib.ListN.{length, getD}
 use lib.Seq.{getD-take}
-use Rattle.linear.proofs.Choices.{Inside}
+use Rattle.fills.proofs.Choices.{Inside}
 use Rattle.plans.specs.Plan.{planOf, rowAt, marksAt}
 use Rattle.steps.specs.Steps.{fresh}
-use Rattle.repair.specs.Mending.{endReport, turnReport, turnStripe, turnMarks, mendReport, mendMarks}
+use Rattle.repair.specs.Mending.{turnReport, turnStripe, turnMarks, mendReport, mendMarks}
+use Rattle.rounds.specs.Reports.{endReport}
 use Rattle.plans.specs.declared.Bench.{Bench}
 use Rattle.plans.specs.declared.Report.{Report}
 use Rattle.plans.proofs.Rows.{marks-length}

@@ -1,39 +1,39 @@
 -- A bench held to a codeword that agrees with its unmarked symbols: no step is Clash, a filled row is the codeword's, learned sums are
 -- the codeword's. Assumes nothing.
 use mathlib.Core.Path.{_≡_, refl, sym, ap, ap₂, _∙_, subst, subst₂}
-use mathlib.Core.Logic.{inl, inr}
 use mathlib.Core.Bool.{Bool, true, false, not}
 use mathlib.Core.List.{List, [], _∷_, _++_, map, List·Memᴰ·head, List·Memᴰ·tail}
 use Prim.Native.Nat.{ℕ, zero, suc, _+_, _^_, _<_, _≤_}
 use native.Mathlib.Nat.{zero-add, le-of-eq}
 use native.Mathlib.Omega.{arith}
-use lib.Arith.{le→nltb}
-use lib.Dec.{T, eqb, ltb, eqb→eq, ltb→lt, lt→ltb, nltb→le}
+use lib.Dec.{T, eqb, ltb, eqb→eq, lt→ltb}
 use lib.ListN.{length, getD, length-map}
 use Rattle.field.specs.Lists.{if_then_else_, upFrom}
 use Rattle.field.specs.Field.{dot}
-use Rattle.linear.specs.Lists.{vanish, first, rest}
-use Rattle.linear.specs.Marks.{bitsOf}
-use Rattle.linear.specs.Fill.{sumsOf, dependent, Fill, none, tied, one, fill, vectorIn}
-use Rattle.linear.proofs.Tests.{In, either}
-use Rattle.linear.proofs.Choices.{Alike}
-use Rattle.linear.proofs.Vectors.{sums-append, sums-count}
-use Rattle.linear.proofs.Filling.{fill-true}
+use Rattle.fills.specs.Lists.{vanish, first, rest}
+use Rattle.fills.specs.Marks.{bitsOf}
+use Rattle.fills.specs.Fill.{sumsOf, dependent, Fill, none, tied, one, fill, vectorIn}
+use Rattle.fills.proofs.Tests.{In}
+use Rattle.fills.proofs.Choices.{Alike}
+use Rattle.fills.proofs.Vectors.{sums-append, sums-count}
+use Rattle.fills.proofs.Filling.{fill-true}
 use Rattle.plans.specs.Plan.{Plan, Level, known, planOf, levelOf, checksTo, rowAt, marksAt, across}
-use Rattle.plans.specs.Refusal.{allBelow, sumPlaces, sumsAt}
+use Rattle.plans.specs.Refusal.{allBelow, sumsAt}
+use Rattle.plans.specs.Rooms.{sumRoom}
 use Rattle.steps.specs.Steps.{fresh, stepped, rowFill, putRow, rowStepBy, rowStep, lossy, checkFill, blocked, learned, levelFill, raise, levelStepBy, levelStep}
 use Rattle.plans.specs.declared.Bench.{Bench}
 use Rattle.plans.specs.declared.Stepped.{Stepped}
 use Rattle.plans.specs.declared.Step.the-variants.{Top}
 use Rattle.plans.proofs.Rows.{of-rows, row-end, row-length, marks-length}
 use Rattle.steps.proofs.Levels.{checks-first, checks-suc, checks-le, sums-length}
-use Rattle.plans.proofs.Shape.{shape, plan-field}
+use Rattle.plans.proofs.Plans.{shape, known-of}
 use Rattle.steps.proofs.Fit.{if-true, if-false, lent-fit, fresh-mark, fresh-row, fresh-sums}
 use Rattle.steps.proofs.Passing.{Ones, ends, ends-blocked, ones-learned}
-use Rattle.steps.proofs.Sound.{Sound, sound-fresh, across-below, row-outside, sized-put, sized-raise, row-step, level-step, row-place, put-mark-other, put-row, put-row-other, fit-put, raise-sums, fit-raise}
-use Rattle.demands.specs.Words.{Codeword, Agree, Fit, Move, onRow, onLevel, after, walk}
+use Rattle.steps.proofs.Sound.{Sound, sound-fresh, across-below, room-put, room-raise, row-step, level-step, row-place, put-mark-other, put-row, put-row-other, fit-put, raise-sums, fit-raise}
+use Rattle.demands.specs.Words.{Codeword, Agree, Fit, Move, after, walk}
 use Rattle.demands.proofs.Alike.{alike-refl, alike-sym, alike-unmarked, agree-rows, clear-unmarked}
 use Rattle.demands.proofs.Codewords.{vanish-same, sums-below, across-row, word-row, word-below, word-sums, word-totals}
+use Rattle.demands.proofs.Room.{by-step}
 
 -- the stripe Y has the learned sums
 abbrev pub Has : ℕ → Bench → (Y : List ℕ) → Type 0
@@ -92,7 +92,7 @@ module _ (p : ℕ) (X stripe marks : List ℕ) (fit : Fit p stripe marks) (word 
             let C = checksTo (planOf p) 1 in
             vanish-same (sumsAt (planOf p) 1 (fresh p stripe marks .sums) r) (sumsOf (planOf p .field) C (rowAt (planOf p) X r))
             (sums-length (planOf p) 1 (fresh p stripe marks .sums) r (omega (arith, checks-le (planOf p) (sh .levels-pos), sh .sums-le))
-            (omega (arith, row-end sumPlaces l, sh .rows-le)) ∙ sym (sums-count (planOf p .field) C (rowAt (planOf p) X r)))
+            (omega (arith, row-end sumRoom l, sh .rows-le)) ∙ sym (sums-count (planOf p .field) C (rowAt (planOf p) X r)))
             (fresh-sums p stripe marks r)
             (subst (λ cs. T (vanish (sumsOf (planOf p .field) cs (rowAt (planOf p) X r)))) (sym (checks-first (planOf p) (sh .levels-pos)))
             (word-sums p X word r l));
@@ -139,7 +139,7 @@ module _ (X : List ℕ) (b : Bench) (h : Held (b .plan) X b) where
   own-unmarked r l e =
       let f = h .sound .fit in
       alike-unmarked (marksAt P (b .marks) r) (rowAt P (b .symbols) r) (rowAt P X r) (rw e (clear-unmarked (P .columns)))
-      (row-length P (b .symbols) r (row-place b f r l (h .sound .sized)) ∙ sym (word-row (b .plan) X (h .codeword) r l))
+      (row-length P (b .symbols) r (row-place b f r l (h .sound .room)) ∙ sym (word-row (b .plan) X (h .codeword) r l))
       (le-of-eq (word-row (b .plan) X (h .codeword) r l ∙ sym (marks-length P (b .marks) r))) (h .alike r l)
 
   -- the row's filling is the codeword's, or its columns are dependent
@@ -171,20 +171,20 @@ module _ (X : List ℕ) (b : Bench) (h : Held (b .plan) X b) where
           (λ r l t. ap (dot (P .field) c) (own-unmarked r (subst (λ n. r < n) (zero-add (P .rows)) l) (eqb→eq (getD (b .marks) r 0) 0 t))))
           (length-map (upFrom 0 (P .rows)) (λ r. dot (P .field) c (rowAt P X r))
           ∙ sym (length-map (upFrom 0 (P .rows)) (λ r. not (eqb (getD (b .marks) r 0) 0))))
-          (across-below P (plan-field (b .plan) (h .sound .fit .plan-known)) X c)
+          (across-below P (known-of (b .plan) (h .sound .fit .plan-known) .field) X c)
 
   own-put : (r : ℕ) → r < P .rows → Held (b .plan) X (putRow b r (rowAt P X r))
   unfolding putRow marksAt
   own-put r l =
       let f = h .sound .fit in
-      let s = h .sound .sized in
+      let s = h .sound .room in
       let long = word-row (b .plan) X (h .codeword) r l in
       let c = putRow b r (rowAt P X r) in
       record {
         plan = refl;
         sound = record {
           fit = fit-put b f r l s (rowAt P X r) long (word-below (b .plan) X (h .codeword) r l);
-          sized = sized-put b s r (rowAt P X r);
+          room = room-put b s r (rowAt P X r);
         };
         codeword = h .codeword;
         alike =
@@ -198,15 +198,15 @@ module _ (X : List ℕ) (b : Bench) (h : Held (b .plan) X b) where
   unfolding raise
   own-raise low =
       let f = h .sound .fit in
-      let s = h .sound .sized in
+      let s = h .sound .room in
       let cs = wordSums (b .plan) (b .level) X in
       let count = length-map (L .checks) (across P X) in
       record {
         plan = refl;
         sound = record {
           fit = fit-raise b f s low cs count (λ r l.
-              rw (across-row P X (L .checks) r l) (sums-below (P .field) (plan-field (b .plan) (f .plan-known)) (L .checks) (rowAt P X r)));
-          sized = sized-raise b s cs;
+              rw (across-row P X (L .checks) r l) (sums-below (P .field) (known-of (b .plan) (f .plan-known) .field) (L .checks) (rowAt P X r)));
+          room = room-raise b s cs;
         };
         codeword = h .codeword;
         alike = h .alike;
@@ -231,7 +231,7 @@ module _ (p : ℕ) (X : List ℕ) (b : Bench) (h : Held p X b) where
   held-mark-lt r = own-plan (λ p. r < planOf p .rows → getD (b .marks) r 0 < 2 ^ planOf p .columns) h (λ g. g .sound .fit .mark-lt r)
 
   pub held-words : Q .rows ≤ length (b .marks)
-  held-words = omega (arith, shape p held-known .rows-le, h .sound .sized .marks)
+  held-words = subst (λ q. planOf q .rows ≤ length (b .marks)) (h .plan) (h .sound .room .stripe .rows)
 
   -- an unmarked row is the codeword's
   pub held-unmarked : (r : ℕ) → r < Q .rows → getD (b .marks) r 0 ≡ 0 → rowAt Q (b .symbols) r ≡ rowAt Q X r
@@ -259,51 +259,22 @@ module _ (p : ℕ) (X : List ℕ) (b : Bench) (h : Held p X b) where
 
   -- ---- what each step makes of the bench
 
-  abbrev tiedHere : ℕ → Bool
-  tiedHere = rowTied p (b .level) (b .marks)
-
-  abbrev tiedAcross : Bool
-  tiedAcross = levelTied p (b .level) (b .marks)
-
-  -- no row step is Clash
-  pub row-makes : (r : ℕ) → r < Q .rows → rowStep b r ≡ rowStepBy b r (if tiedHere r then tied else one (rowAt Q X r))
-  row-makes r l =
-      row-step b (h .sound .fit) r (subst (λ q. r < planOf q .rows) (sym (h .plan)) l) ∙ ap (rowStepBy b r) (row-finds r l)
-
-  -- no level step is Clash
-  pub level-makes : b .level < length (Q .levels) → levelStep b ≡ levelStepBy b (if tiedAcross then blocked else learned (wordSums p (b .level) X))
-  level-makes low =
-      level-step b (h .sound .fit)
-      ∙ ap (λ q. if ltb (b .level) (length (planOf q .levels)) then levelStepBy b (levelFill b) else stepped b Top) (h .plan)
-      ∙ if-true (ltb (b .level) (length (Q .levels))) (levelStepBy b (levelFill b)) (stepped b Top) (lt→ltb (b .level) (length (Q .levels)) low)
-      ∙ ap (levelStepBy b) (level-finds low)
-
-  pub level-top : length (Q .levels) ≤ b .level → levelStep b ≡ stepped b Top
-  level-top high =
-      level-step b (h .sound .fit)
-      ∙ ap (λ q. if ltb (b .level) (length (planOf q .levels)) then levelStepBy b (levelFill b) else stepped b Top) (h .plan)
-      ∙ if-false (ltb (b .level) (length (Q .levels))) (levelStepBy b (levelFill b)) (stepped b Top) (le→nltb (b .level) (length (Q .levels)) high)
-
   pub row-fills : (r : ℕ) → r < Q .rows → RowFree p (b .level) (b .marks) r → rowStep b r .bench ≡ putRow b r (rowAt Q X r)
   unfolding rowStepBy stepped
   row-fills r l i =
-      ap (λ (s : Stepped). s .bench) (row-makes r l ∙ ap (rowStepBy b r) (if-false (tiedHere r) tied (one (rowAt Q X r)) i))
-
-  pub row-stays : (r : ℕ) → r < Q .rows → T (tiedHere r) → rowStep b r .bench ≡ b
-  unfolding rowStepBy stepped
-  row-stays r l t = ap (λ (s : Stepped). s .bench) (row-makes r l ∙ ap (rowStepBy b r) (if-true (tiedHere r) tied (one (rowAt Q X r)) t))
+      ap (λ (s : Stepped). s .bench)
+      (row-step b (h .sound .fit) r (subst (λ q. r < planOf q .rows) (sym (h .plan)) l)
+      ∙ ap (rowStepBy b r) (row-finds r l ∙ if-false (rowTied p (b .level) (b .marks) r) tied (one (rowAt Q X r)) i))
 
   pub level-learns : b .level < length (Q .levels) → LevelFree p (b .level) (b .marks) → levelStep b .bench ≡ raise b (wordSums p (b .level) X)
   unfolding levelStepBy stepped
   level-learns low i =
       ap (λ (s : Stepped). s .bench)
-      (level-makes low ∙ ap (levelStepBy b) (if-false tiedAcross blocked (learned (wordSums p (b .level) X)) i))
-
-  pub level-stays : b .level < length (Q .levels) → T tiedAcross → levelStep b .bench ≡ b
-  unfolding levelStepBy stepped
-  level-stays low t =
-      ap (λ (s : Stepped). s .bench)
-      (level-makes low ∙ ap (levelStepBy b) (if-true tiedAcross blocked (learned (wordSums p (b .level) X)) t))
+      (level-step b (h .sound .fit)
+      ∙ ap (λ q. if ltb (b .level) (length (planOf q .levels)) then levelStepBy b (levelFill b) else stepped b Top) (h .plan)
+      ∙ if-true (ltb (b .level) (length (Q .levels))) (levelStepBy b (levelFill b)) (stepped b Top) (lt→ltb (b .level) (length (Q .levels)) low)
+      ∙ ap (levelStepBy b)
+      (level-finds low ∙ if-false (levelTied p (b .level) (b .marks)) blocked (learned (wordSums p (b .level) X)) i))
 
 -- what a step may make of a held bench
 pub data Made (p : ℕ) (X : List ℕ) (b : Bench) : Bench → Type 0 where
@@ -311,33 +282,29 @@ pub data Made (p : ℕ) (X : List ℕ) (b : Bench) : Bench → Type 0 where
   fills : (r : ℕ) → r < planOf p .rows → RowFree p (b .level) (b .marks) r → Made p X b (putRow b r (rowAt (planOf p) X r))
   learns : b .level < length (planOf p .levels) → LevelFree p (b .level) (b .marks) → Made p X b (raise b (wordSums p (b .level) X))
 
+-- where a row is filled, or a level learned, its columns are free
+pub one-row : (D : Bool) (x row : List ℕ) → (if D then tied else one x) ≡ one row → T (not D) × (x ≡ row)
+unfolding if_then_else_
+one-row true x row e = let z : _≡_ {A = ℕ} 0 1 = cc in absurd (omega arith)
+one-row false x row e = (tt, cc)
+
+pub one-level : (D : Bool) (xs cs : List (List ℕ)) → (if D then blocked else learned xs) ≡ learned cs → T (not D) × (xs ≡ cs)
+unfolding if_then_else_
+one-level true xs cs e = let z : _≡_ {A = ℕ} 0 1 = cc in absurd (omega arith)
+one-level false xs cs e = (tt, cc)
+
 module _ (p : ℕ) (X : List ℕ) where
   pub makes : (b : Bench) → Held p X b → (m : Move) → Made p X b (after b m)
-  unfolding stepped
-  makes b h (onRow r) =
-      elim (either (ltb r (planOf p .rows))) [
-        | inl t ↦
-            let l = ltb→lt r (planOf p .rows) t in
-            elim (either (rowTied p (b .level) (b .marks) r)) [
-              | inl d ↦ subst (Made p X b) (sym (row-stays p X b h r l d)) stays
-              | inr i ↦ subst (Made p X b) (sym (row-fills p X b h r l i)) (fills r l i)
-            ]
-        | inr t ↦
-            let high = subst (λ q. planOf q .rows ≤ r) (sym (h .plan)) (nltb→le r (planOf p .rows) t) in
-            subst (Made p X b) (sym (row-outside b r high)) stays
-      ]
-  makes b h onLevel =
-      elim (either (ltb (b .level) (length (planOf p .levels)))) [
-        | inl t ↦
-            let low = ltb→lt (b .level) (length (planOf p .levels)) t in
-            elim (either (levelTied p (b .level) (b .marks))) [
-              | inl d ↦ subst (Made p X b) (sym (level-stays p X b h low d)) stays
-              | inr i ↦ subst (Made p X b) (sym (level-learns p X b h low i)) (learns low i)
-            ]
-        | inr t ↦
-            let high = nltb→le (b .level) (length (planOf p .levels)) t in
-            subst (Made p X b) (sym (ap (λ (s : Stepped). s .bench) (level-top p X b h high))) stays
-      ]
+  makes b h =
+      by-step (Made p X b) b stays
+      (λ f r l row e.
+      let l′ = subst (λ q. r < planOf q .rows) (h .plan) l in
+      let o = one-row (rowTied p (b .level) (b .marks) r) (rowAt (planOf p) X r) row (sym (row-finds p X b h r l′) ∙ e) in
+      subst (λ x. Made p X b (putRow b r x)) (o .1) (fills r l′ (o .0)))
+      (λ f low cs e.
+      let low′ = subst (λ q. b .level < length (planOf q .levels)) (h .plan) low in
+      let o = one-level (levelTied p (b .level) (b .marks)) (wordSums p (b .level) X) cs (sym (level-finds p X b h low′) ∙ e) in
+      subst (λ xs. Made p X b (raise b xs)) (o .1) (learns low′ (o .0)))
 
   pub held-made : (b c : Bench) → Held p X b → Made p X b c → Held p X c
   held-made b c h stays = h

@@ -3,49 +3,45 @@ use mathlib.Core.Path.{_≡_, refl, sym, ap, ap₂, _∙_, subst}
 use mathlib.Core.Logic.{inl, inr}
 use mathlib.Core.Bool.{Bool, true, false, not}
 use mathlib.Core.List.{List, [], _∷_, map}
-use Prim.Native.Nat.{ℕ, zero, suc, _+_, _*_, _<_, _≤_, zero-le}
+use Prim.Native.Nat.{ℕ, zero, suc, _+_, _*_, _<_, _≤_}
 use native.Mathlib.Nat.{zero-mul, suc-mul, zero-lt-suc, le-of-suc-le-suc, eq-or-lt-of-le, le-of-eq}
 use native.Mathlib.Omega.{arith}
 use borrow.Author.Tests.{eqb-true}
 use lib.Dec.{T, T-not, eqb, ltb, eqb→eq}
-use lib.ListN.{length, take, drop, getD, replicate, take-append-drop, drop-of-length-le}
+use lib.ListN.{length, take, drop, getD, replicate, length-map, drop-of-length-le}
 use lib.Seq.{take-add, take-length, length-take-le, getD-take}
 use Rattle.field.specs.Lists.{if_then_else_, upFrom}
 use Rattle.field.specs.Field.{size}
 use Rattle.field.proofs.Test.{both}
-use Rattle.linear.specs.Lists.{all, only}
-use Rattle.linear.specs.Fill.{sumsOf, dependent}
-use Rattle.linear.proofs.Tests.{all-append}
-use Rattle.linear.proofs.Weights.{marked}
+use Rattle.field.proofs.Lists.{length-up, getD-map-below}
+use Rattle.fills.specs.Lists.{all, only}
+use Rattle.fills.specs.Fill.{sumsOf, dependent}
+use Rattle.fills.proofs.Tests.{either, all-append}
+use Rattle.fills.proofs.Weights.{marked}
 use Rattle.plans.specs.Plan.{Plan, planOf, levelOf, checksTo, rowAt, marksAt}
 use Rattle.plans.specs.Refusal.{allBelow, lentRefusal}
 use Rattle.steps.specs.Steps.{lossy}
 use Rattle.steps.specs.Rounds.{Standing, Turn, on, end, clash}
-use Rattle.repair.specs.Mending.{mended, rowsLeft, endReport, bare, turnReport, turnStripe, turnMarks, mendReport, mendStripe, mendMarks}
+use Rattle.repair.specs.Mending.{mended, turnReport, turnStripe, turnMarks, mendReport, mendStripe, mendMarks}
+use Rattle.rounds.specs.Reports.{rowsLeft, endReport, bare}
 use Rattle.codewords.specs.Codeword.{rowsHold, totalsHold, isCodeword}
 use Rattle.plans.specs.declared.Bench.{Bench}
 use Rattle.plans.specs.declared.Answer.{Answer}
 use Rattle.plans.specs.declared.Answer.the-variants.{Restored, Stuck, Clash, Refused}
 use Rattle.plans.specs.declared.Place.{Place}
 use Rattle.plans.specs.declared.Report.{Report}
-use Rattle.plans.proofs.Rows.{row-end, row-length, row-append, rows-ext, marks-length}
-use Rattle.plans.proofs.Shape.{shape}
+use Rattle.plans.proofs.Rows.{row-end, row-length, rows-ext, marks-length}
 use Rattle.steps.proofs.Fit.{if-true, RowFits, lent-fit}
 use Rattle.steps.proofs.Sound.{blocked-dependent}
 use Rattle.demands.specs.Words.{Codeword, Agree, Fit}
 use Rattle.demands.specs.Second.{IsRestored}
-use Rattle.demands.proofs.Alike.{alike-sym, unmarked-all, unmarked-independent, clear-unmarked, rows-agree}
+use Rattle.demands.proofs.Alike.{alike-sym, unmarked-all, unmarked-independent, clear-unmarked, rows-agree, unmarked-at}
 use Rattle.demands.proofs.Held.{Has, rowTied, held-unmarked}
 use Rattle.demands.proofs.Reached.{reached-level}
 use Rattle.demands.proofs.Rounds.{settled-tied, Ended}
+use Rattle.demands.proofs.Room.{row-front}
 
 -- ---- lists
-
--- the rows of a list's first part are its own
-row-take : (P : Plan) (l : List ℕ) (n r : ℕ) → n ≤ length l → r * P .columns + P .columns ≤ n → rowAt P (take n l) r ≡ rowAt P l r
-row-take P l n r h k =
-    sym (row-append P (take n l) (drop n l) r (subst (λ m. r * P .columns + P .columns ≤ m) (sym (length-take-le n l h)) k))
-    ∙ ap (λ l. rowAt P l r) (take-append-drop n l)
 
 -- where each row holds symbols, so do all
 rows-below : (q N R : ℕ) (l : List ℕ) → ((r : ℕ) → r < R → T (allBelow q (take N (drop (r * N) l)))) → T (allBelow q (take (R * N) l))
@@ -61,21 +57,14 @@ zeros-take (suc n) [] h z = absurd (omega arith)
 zeros-take (suc n) (x ∷ l) h z = ap₂ _∷_ (z 0 (zero-lt-suc n)) (zeros-take n l (le-of-suc-le-suc h) (λ r k. z (suc r) (omega arith)))
 
 -- where no row has marks, each mark word is 0
-pub lossy-none : (marks : List ℕ) (k n : ℕ) → marked (map (λ r. not (eqb (getD marks r 0) 0)) (upFrom k n)) ≡ 0
-    → (r : ℕ) → k ≤ r → r < k + n → getD marks r 0 ≡ 0
-unfolding if_then_else_ upFrom only
-lossy-none marks k zero e r h l = absurd (omega arith)
-lossy-none marks k (suc n) e r h l = go (eqb (getD marks k 0) 0) refl e (lossy-none marks (suc k) n)
-  where
-    go : (z : Bool) → eqb (getD marks k 0) 0 ≡ z → marked (not z ∷ map (λ r. not (eqb (getD marks r 0) 0)) (upFrom (suc k) n)) ≡ 0
-        → (marked (map (λ r. not (eqb (getD marks r 0) 0)) (upFrom (suc k) n)) ≡ 0 → (r : ℕ) → suc k ≤ r → r < suc k + n → getD marks r 0 ≡ 0)
-        → getD marks r 0 ≡ 0
-    go true q e ih =
-        elim (eq-or-lt-of-le h) [
-          | inl g ↦ subst (λ j. getD marks j 0 ≡ 0) g (eqb→eq (getD marks k 0) 0 (subst T (sym q) tt))
-          | inr g ↦ ih e r g (omega arith)
-        ]
-    go false q e ih = absurd (omega arith)
+pub lossy-none : (marks : List ℕ) (n : ℕ) → marked (map (λ r. not (eqb (getD marks r 0) 0)) (upFrom 0 n)) ≡ 0
+    → (r : ℕ) → r < n → getD marks r 0 ≡ 0
+lossy-none marks n e r l =
+    let ms = map (λ r. not (eqb (getD marks r 0) 0)) (upFrom 0 n) in
+    let at : not (eqb (getD marks r 0) 0) ≡ false =
+    sym (getD-map-below (λ r. not (eqb (getD marks r 0) 0)) n r true l)
+    ∙ unmarked-at ms e r (omega (arith, length-map (upFrom 0 n) (λ r. not (eqb (getD marks r 0) 0)), length-up 0 n)) in
+    elim (either (eqb (getD marks r 0) 0)) [ inl t ↦ eqb→eq (getD marks r 0) 0 t | inr t ↦ absurd (subst T at t) ]
 
 pub none-lossy : (marks : List ℕ) (k n : ℕ) → ((r : ℕ) → r < k + n → getD marks r 0 ≡ 0)
     → marked (map (λ r. not (eqb (getD marks r 0) 0)) (upFrom k n)) ≡ 0
@@ -104,13 +93,14 @@ module _ (p : ℕ) (stripe marks : List ℕ) (fit : Fit p stripe marks) (m : Sta
   words = lent-fit p stripe marks fit .words
 
   enough : P .rows * P .columns ≤ length (b .symbols)
-  enough = omega (arith, shape p (lent-fit p stripe marks fit .plan-known) .symbols-le, e .reached .sound .sized .symbols)
+  enough = subst (λ q. planOf q .rows * planOf q .columns ≤ length (b .symbols)) (e .reached .plan) (e .reached .sound .room .stripe .size)
 
   enough-words : P .rows ≤ length (b .marks)
-  enough-words = omega (arith, shape p (lent-fit p stripe marks fit .plan-known) .rows-le, e .reached .sound .sized .marks)
+  enough-words = subst (λ q. planOf q .rows ≤ length (b .marks)) (e .reached .plan) (e .reached .sound .room .stripe .rows)
 
   pub row-left : (r : ℕ) → r < P .rows → rowAt P Y r ≡ rowAt P (b .symbols) r
-  row-left r l = row-take P (b .symbols) (length stripe) r (omega (arith, long, enough)) (omega (arith, long, row-end (P .columns) l))
+  unfolding rowAt
+  row-left r l = ap (λ n. rowAt P (take n (b .symbols)) r) long ∙ row-front (P .columns) (P .rows) (b .symbols) r l
 
   -- the buffers are as long as they were
   pub long-left : length Y ≡ length stripe
@@ -139,8 +129,7 @@ module _ (p : ℕ) (stripe marks : List ℕ) (fit : Fit p stripe marks) (m : Sta
     clear : (r : ℕ) → r < P .rows → getD (b .marks) r 0 ≡ 0
     unfolding rowsLeft lossy
     clear r l =
-        lossy-none (b .marks) 0 (planOf (b .plan) .rows) none-left r zero-le
-        (subst (λ q. r < 0 + planOf q .rows) (sym (e .reached .plan)) (omega arith))
+        lossy-none (b .marks) (planOf (b .plan) .rows) none-left r (subst (λ q. r < planOf q .rows) (sym (e .reached .plan)) l)
 
     unmarked : (r : ℕ) → r < P .rows → marked (marksAt P (b .marks) r) ≡ 0
     unfolding marksAt

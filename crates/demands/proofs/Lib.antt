@@ -2,25 +2,27 @@
 -- and Room, the plans' parameters in Parameters and Distance, and samples that meet the premises in Samples (plan 1), Samples3 (plan 3) and FewerSamples.
 pub mod Lists
 pub mod Marked
-pub mod Binary
+-- what backs each plan, by its number
+pub mod Square
+pub mod Backed
+pub mod Plan1
+pub mod Plan2
+pub mod Plan3
+pub mod Few
 -- a bench and a codeword that agrees with it
 pub mod Alike
-pub mod Few
 pub mod Codewords
+pub mod Room
 pub mod Held
 -- the order of steps
+pub mod Kept
 pub mod Order
-pub mod Whole
 -- the rounds
 pub mod Reached
 pub mod Rounds
 pub mod Left
--- square systems, and a codeword for any data
-pub mod Matrix
-pub mod Square
-pub mod Systems
+-- a codeword for any data
 pub mod Build
-pub mod Existence
 -- the demands
 pub mod Second
 pub mod Counts
@@ -31,11 +33,9 @@ pub mod Refused
 pub mod Blind
 pub mod Silence
 pub mod Reading
-pub mod Kept
 pub mod Leaving
 pub mod Stopping
 pub mod Tied
-pub mod Room
 pub mod Samples
 pub mod Samples3
 pub mod FewerSamples

@@ -1,38 +1,20 @@
 -- Lists: their members and tests, and rows of one length that stand one behind the other. Assumes nothing.
-use mathlib.Core.Path.{_≡_, refl, sym, ap, ap₂, _∙_, subst}
+use mathlib.Core.Path.{_≡_, sym, ap, _∙_}
 use mathlib.Core.Logic.{inl, inr}
 use mathlib.Core.Bool.{Bool}
-use mathlib.Core.List.{List, [], _∷_, _++_, map, flatMap, Memᴰ·append-left, Memᴰ·append-right}
-use mathlib.Core.List.{List·Memᴰ·not-nil, List·Memᴰ·cases-cons}
-use Prim.Native.Nat.{ℕ, zero, suc, _+_, _*_, _<_, zero-le}
-use native.Mathlib.Nat.{suc-inj, suc-mul, zero-mul}
+use mathlib.Core.List.{List, [], _∷_, _++_, map, flatMap, List·Memᴰ·not-nil, List·Memᴰ·cases-cons}
+use Prim.Native.Nat.{ℕ, zero, suc, _+_, _*_, _<_}
+use native.Mathlib.Nat.{suc-mul, zero-mul}
 use native.Mathlib.Omega.{arith}
 use lib.Dec.{T}
 use lib.ListN.{length, take, drop, getD}
-use lib.Seq.{take-at, drop-append-add}
+use lib.Seq.{take-at, drop-at, take-append-seam, drop-append-seam, drop-append-add}
 use Rattle.field.specs.Lists.{upFrom}
 use Rattle.field.proofs.Test.{both}
-use Rattle.field.proofs.Words.{Each}
-use Rattle.linear.specs.Lists.{all, first, rest}
-use Rattle.linear.proofs.Tests.{In, all-append, in-up}
+use Rattle.fills.specs.Lists.{all, first, rest}
+use Rattle.fills.proofs.Tests.{In, all-append}
 
 -- ---- members
-
-pub in-below : {n i : ℕ} → i < n → In i (upFrom 0 n)
-in-below {n} {i} h = in-up 0 n i zero-le (omega arith)
-
-pub in-flat : {A B : Type 0} (f : A → List B) {x : A} {y : B} (l : List A) → In x l → In y (f x) → In y (flatMap f l)
-unfolding flatMap
-in-flat f [] m n = absurd (List·Memᴰ·not-nil m)
-in-flat f {y = y} (z ∷ l) m n =
-    elim (List·Memᴰ·cases-cons m) [
-      | inl e ↦ Memᴰ·append-left (flatMap f l) (subst (λ z. In y (f z)) e n)
-      | inr h ↦ Memᴰ·append-right (f z) (in-flat f l h n)
-    ]
-
-pub each-in : (P : ℕ → Type 0) (xs : List ℕ) → Each P xs → {x : ℕ} → In x xs → P x
-each-in P [] h m = absurd (List·Memᴰ·not-nil m)
-each-in P (y ∷ xs) h m = elim (List·Memᴰ·cases-cons m) [ inl e ↦ subst P (sym e) (h .0) | inr n ↦ each-in P xs (h .1) n ]
 
 -- what maps to equal lists agrees on each member
 pub map-in : {A : Type 0} (f g : A → ℕ) (l : List A) → map f l ≡ map g l → {x : A} → In x l → f x ≡ g x
@@ -55,12 +37,11 @@ at-all q d (x ∷ l) h = both (q x) (all q l) (h 0 (omega arith)) (at-all q d l 
 
 -- ---- lists in two parts, the first as long
 
-pub append-same : {b d : List ℕ} (a c : List ℕ) → a ++ b ≡ c ++ d → length a ≡ length c → (a ≡ c) × (b ≡ d)
-unfolding first rest
-append-same [] [] e l = (refl, e)
-append-same [] (y ∷ c) e l = absurd (omega arith)
-append-same (x ∷ a) [] e l = absurd (omega arith)
-append-same (x ∷ a) (y ∷ c) e l = let r = append-same a c (ap rest e) (suc-inj l) in (ap₂ _∷_ (ap first e) (r .0), r .1)
+pub append-same : {A : Type 0} {b d : List A} (a c : List A) → a ++ b ≡ c ++ d → length a ≡ length c → (a ≡ c) × (b ≡ d)
+append-same {b = b} {d} a c e l = (
+  sym (take-append-seam a b) ∙ ap (take (length a)) e ∙ take-at c d (length a) (sym l),
+  sym (drop-append-seam a b) ∙ ap (drop (length a)) e ∙ drop-at c d (length a) (sym l),
+)
 
 -- ---- n rows from row k on, one behind the other
 

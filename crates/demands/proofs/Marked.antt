@@ -11,10 +11,10 @@ use lib.ListN.{length, length-map}
 use Rattle.field.specs.Lists.{if_then_else_, upFrom, weight}
 use Rattle.field.specs.Field.{Field, size}
 use Rattle.field.proofs.Words.{EachBelow}
-use Rattle.linear.specs.Lists.{only, zeros, first, rest}
-use Rattle.linear.specs.Marks.{bitsOf}
-use Rattle.linear.proofs.Choices.{Agrees}
-use Rattle.linear.proofs.Weights.{marked, bits-step}
+use Rattle.fills.specs.Lists.{only, zeros, first, rest}
+use Rattle.fills.specs.Marks.{bitsOf}
+use Rattle.fills.proofs.Choices.{Agrees}
+use Rattle.fills.proofs.Weights.{marked, bits-step}
 
 -- the word that has these marks
 unfoldable pub wordWith : List Bool → ℕ

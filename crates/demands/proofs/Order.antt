@@ -1,27 +1,40 @@
 -- The order of steps, over two benches held to one codeword: where the second has no marks but the first's, what a step changes in the first
 -- it would change in the second. So no walk from the first passes a quiet end of the second. Assumes nothing.
 use mathlib.Core.Path.{_≡_, sym, ap, _∙_, subst}
-use mathlib.Core.Logic.{inl, inr}
-use mathlib.Core.Bool.{not}
+use mathlib.Core.Logic.{_⊎_, inl, inr}
+use mathlib.Core.Bool.{Bool, not}
 use mathlib.Core.List.{List, [], _∷_, map}
 use Prim.Native.Nat.{ℕ, zero, suc, _+_, _<_, _≤_}
-use native.Mathlib.Nat.{zero-add, le-refl, le-trans, eq-or-lt-of-le}
+use native.Mathlib.Nat.{le-refl, le-trans, eq-or-lt-of-le}
 use native.Mathlib.Omega.{arith}
-use lib.Dec.{T, T-not, not-T, eqb, eqb→eq}
+use lib.Dec.{T, eqb, eqb→eq}
 use lib.ListN.{length, getD, set}
 use lib.Seq.{getD-set-same, getD-set-other}
 use Rattle.field.specs.Lists.{upFrom}
-use Rattle.linear.specs.Marks.{bitsOf}
-use Rattle.linear.proofs.Choices.{Inside}
-use Rattle.linear.proofs.Filling.{Independent, independent-inside, independent-mono}
+use Rattle.fills.specs.Marks.{bitsOf}
+use Rattle.fills.proofs.Tests.{either}
+use Rattle.fills.proofs.Choices.{Inside}
+use Rattle.fills.proofs.Filling.{Independent, independent-inside, independent-mono}
 use Rattle.plans.specs.Plan.{Plan, planOf, levelOf, checksTo, marksAt}
 use Rattle.steps.specs.Steps.{putRow, raise, lossy}
 use Rattle.plans.specs.declared.Bench.{Bench}
 use Rattle.plans.proofs.Rows.{of-rows}
 use Rattle.steps.proofs.Levels.{checks-grow}
 use Rattle.demands.specs.Words.{Move, onRow, onLevel, after, walk, Quiet}
-use Rattle.demands.proofs.Alike.{inside-refl, inside-trans, clear-inside, inside-clear}
+use Rattle.demands.proofs.Alike.{inside-refl, inside-trans, inside-clear, fewer}
 use Rattle.demands.proofs.Held.{Held, RowFree, LevelFree, held-mark-lt, held-words, row-fills, level-learns, Made, stays, fills, learns, makes, held-after, held-walk}
+use Rattle.demands.proofs.Room.{walks-keep-room}
+use Rattle.demands.proofs.Kept.{kept-walk}
+
+-- where rows with marks pass a test, they lie inside those that pass it
+pub lossy-inside : (marks : List ℕ) (g : ℕ → Bool) (k n : ℕ) → ((r : ℕ) → r < k + n → (getD marks r 0 ≡ 0) ⊎ T (g r))
+    → Inside (map (λ r. not (eqb (getD marks r 0) 0)) (upFrom k n)) (map g (upFrom k n))
+unfolding upFrom
+lossy-inside marks g k zero h = tt
+lossy-inside marks g k (suc n) h = (
+  λ t. elim (h k (omega arith)) [ inl e ↦ absurd (subst (λ w. T (not (eqb w 0))) e t) | inr s ↦ s ],
+  lossy-inside marks g (suc k) n (λ r l. h r (omega arith)),
+)
 
 -- ---- what may be filled and learned under fewer marks, at a higher level
 
@@ -39,21 +52,12 @@ module _ (p : ℕ) where
       subst (λ cs. Independent (P .field) cs (marksAt P M r)) (sym (g .1))
       (independent-mono (P .field) (checksTo P t) (g .0) (marksAt P M r) (marksAt P N r) i f)
 
-  lossy-inside : (M N : List ℕ) (k n : ℕ) → ((r : ℕ) → r < k + n → getD N r 0 ≡ 0 → getD M r 0 ≡ 0)
-      → Inside (map (λ r. not (eqb (getD M r 0) 0)) (upFrom k n)) (map (λ r. not (eqb (getD N r 0) 0)) (upFrom k n))
-  unfolding upFrom
-  lossy-inside M N k zero h = tt
-  lossy-inside M N k (suc n) h = (
-    λ t. not-T (eqb (getD N k 0) 0) (λ e.
-        T-not (eqb (getD M k 0) 0) t (subst (λ w. T (eqb w 0)) (sym (h k (omega arith) (eqb→eq (getD N k 0) 0 e))) tt)),
-    lossy-inside M N (suc k) n (λ r l. h r (omega arith)),
-  )
-
   level-free-more : (t : ℕ) (M N : List ℕ) → ((r : ℕ) → r < P .rows → getD N r 0 ≡ 0 → getD M r 0 ≡ 0) → LevelFree p t N → LevelFree p t M
   unfolding lossy
   level-free-more t M N h =
       independent-inside (P .field) (levelOf P (suc t) .weights) (lossy P M) (lossy P N)
-      (lossy-inside M N 0 (P .rows) (λ r l. h r (subst (λ n. r < n) (zero-add (P .rows)) l)))
+      (lossy-inside M (λ r. not (eqb (getD N r 0) 0)) 0 (P .rows) (λ r l.
+      elim (either (eqb (getD N r 0) 0)) [ inl e ↦ inl (h r (omega arith) (eqb→eq (getD N r 0) 0 e)) | inr t ↦ inr t ]))
 
 -- ---- quiet benches
 
@@ -89,24 +93,13 @@ below-trans p a b c f g = record {
 }
 
 module _ (p : ℕ) (X : List ℕ) where
-  -- a step only takes marks away, and only rises
-  below-made : (b c : Bench) → Held p X b → Made p X b c → Below p b c
-  unfolding putRow raise marksAt
-  below-made b c h stays = below-refl p b
-  below-made b c h (fills r l i) = record {
-    level = le-refl (b .level);
-    marks =
-        of-rows (RowInside p (set (b .marks) r 0) (b .marks)) r
-        (rw (getD-set-same (b .marks) r 0 0 (omega (arith, held-words p X b h))) (clear-inside (planOf p .columns) (getD (b .marks) r 0)))
-        (λ k g ne. rw (getD-set-other (b .marks) r k 0 0 ne) (inside-refl (marksAt (planOf p) (b .marks) k)));
-  }
-  below-made b c h (learns low i) = record { level = omega arith; marks = λ r l. inside-refl (marksAt (planOf p) (b .marks) r) }
-
+  -- steps only take marks away, and only rise
   pub below-walk : (ms : List Move) (b : Bench) → Held p X b → Below p b (walk ms b)
-  below-walk [] b h = below-refl p b
-  below-walk (m ∷ ms) b h =
-      below-trans p b (after b m) (walk ms (after b m)) (below-made b (after b m) h (makes p X b h m))
-      (below-walk ms (after b m) (held-after p X b h m))
+  unfolding marksAt
+  below-walk ms b h = record {
+    level = walks-keep-room ms b .level;
+    marks = λ r l. fewer (planOf p .columns) (getD (walk ms b .marks) r 0) (getD (b .marks) r 0) (elim (kept-walk ms p b (h .plan) .rows r l) [ inl z ↦ inl z | inr k ↦ inr (k .0) ]);
+  }
 
   -- what is unmarked below is unmarked above
   pub below-unmarked : (b e : Bench) → Held p X e → Below p b e → (r : ℕ) → r < planOf p .rows → getD (b .marks) r 0 ≡ 0 → getD (e .marks) r 0 ≡ 0

@@ -1,39 +1,40 @@
 -- Benches that steps reach from a fresh one, whether or not a codeword agrees: unmarked symbols stay, and a stripe that has the learned sums
 -- meets every check of the levels learned. Assumes nothing.
 use mathlib.Core.Path.{_≡_, refl, sym, ap, _∙_, subst}
-use mathlib.Core.Bool.{Bool, true, false, not}
+use mathlib.Core.Bool.{true, not}
 use mathlib.Core.Logic.{_⊎_, inl, inr}
 use mathlib.Core.List.{List, [], _∷_, _++_}
 use Prim.Native.Nat.{ℕ, suc, _<_, _≤_}
 use native.Mathlib.Omega.{arith}
 use lib.Dec.{T, eqb}
 use lib.ListN.{length, take, drop, getD, length-map, drop-of-length-le, length-take}
-use lib.Seq.{take-suc, drop-append-le, ext-getD, take-append-seam, drop-append-seam, take-at, drop-at}
-use Rattle.field.specs.Lists.{if_then_else_, upFrom}
+use lib.Seq.{take-suc, drop-append-le, ext-getD}
+use Rattle.field.specs.Lists.{upFrom}
 use Rattle.field.specs.Field.{dot}
 use Rattle.field.proofs.Test.{both}
 use Rattle.field.proofs.Lists.{length-up, getD-map-below}
-use Rattle.linear.specs.Lists.{all, zeros, vanish}
-use Rattle.linear.specs.Fill.{sumsOf, tied, one}
-use Rattle.linear.proofs.Tests.{zeros-vanish, all-append}
-use Rattle.linear.specs.Marks.{bitsOf}
-use Rattle.linear.proofs.Choices.{Alike, Inside, agrees-length, agrees-alike}
-use Rattle.linear.proofs.Vectors.{sums-append, sums-count}
-use Rattle.linear.proofs.Filling.{Means, fill-means}
+use Rattle.fills.specs.Lists.{all, zeros, vanish}
+use Rattle.fills.specs.Fill.{sumsOf, one}
+use Rattle.fills.proofs.Tests.{zeros-vanish, all-append}
+use Rattle.fills.proofs.Choices.{Alike, agrees-length, agrees-alike}
+use Rattle.fills.proofs.Vectors.{sums-append, sums-count}
+use Rattle.fills.proofs.Filling.{Means, fill-means}
 use Rattle.plans.specs.Plan.{Plan, Level, noLevel, planOf, levelOf, checksTo, rowAt, marksAt, across}
-use Rattle.plans.specs.Refusal.{sumPlaces, sumsAt}
-use Rattle.steps.specs.Steps.{fresh, rowFill, putRow, lossy, checkFill, blocked, learned, levelFill, newSums, raise}
+use Rattle.plans.specs.Refusal.{sumsAt}
+use Rattle.plans.specs.Rooms.{sumRoom}
+use Rattle.steps.specs.Steps.{fresh, rowFill, putRow, lossy, checkFill, learned, levelFill, newSums, raise}
 use Rattle.codewords.specs.Codeword.{rowsHold, totalsHold}
 use Rattle.plans.specs.declared.Bench.{Bench}
 use Rattle.plans.proofs.Rows.{of-rows, row-end}
 use Rattle.steps.proofs.Levels.{checks-first, checks-suc, checks-le, sums-length}
-use Rattle.plans.proofs.Shape.{shape}
+use Rattle.plans.proofs.Plans.{shape}
 use Rattle.steps.proofs.Fit.{lent-fit, rows-all, fresh-mark, fresh-row, fresh-sums}
 use Rattle.steps.proofs.Passing.{Ones}
 use Rattle.steps.proofs.Sound.{Sound, sound-fresh, filled-row, put-mark, put-mark-other, put-row, put-row-other, learned-ones, learned-length, raise-sums, sound-put, sound-raise}
 use Rattle.demands.specs.Words.{Codeword, Agree, Fit}
-use Rattle.demands.proofs.Alike.{alike-refl, alike-trans, alike-inside, inside-refl, clear-inside}
-use Rattle.demands.proofs.Held.{Has, Held, held-fresh, row-finds, level-finds, held-put, held-raise, wordSums, rowTied, levelTied}
+use Rattle.demands.proofs.Lists.{append-same}
+use Rattle.demands.proofs.Alike.{alike-refl, alike-trans, alike-inside, fewer}
+use Rattle.demands.proofs.Held.{Has, Held, held-fresh, row-finds, level-finds, held-put, held-raise, wordSums, rowTied, levelTied, one-row, one-level}
 
 -- the stripe Y meets the checks of levels 1 to t
 pub record Meets (p t : ℕ) (Y : List ℕ) : Type 0 where
@@ -89,29 +90,6 @@ module _ (p : ℕ) (stripe marks : List ℕ) (fit : Fit p stripe marks) where
 
 -- ---- steps
 
--- lists in two parts, the first as long
-append-parts : {A : Type 0} (a b c d : List A) → a ++ b ≡ c ++ d → length a ≡ length c → (a ≡ c) × (b ≡ d)
-append-parts a b c d e l = (
-  sym (take-append-seam a b) ∙ ap (take (length a)) e ∙ take-at c d (length a) (sym l),
-  sym (drop-append-seam a b) ∙ ap (drop (length a)) e ∙ drop-at c d (length a) (sym l),
-)
-
--- no marks, or the same, lie inside
-fewer : (n w u : ℕ) → (w ≡ 0) ⊎ (w ≡ u) → Inside (bitsOf n w) (bitsOf n u)
-fewer n w u (inl e) = rw e (clear-inside n u)
-fewer n w u (inr e) = rw e (inside-refl (bitsOf n u))
-
--- a filling is one at most
-one-row : (D : Bool) (x row : List ℕ) → (if D then tied else one x) ≡ one row → x ≡ row
-unfolding if_then_else_
-one-row true x row e = let z : _≡_ {A = ℕ} 0 1 = cc in absurd (omega arith)
-one-row false x row e = cc
-
-one-level : (D : Bool) (xs cs : List (List ℕ)) → (if D then blocked else learned xs) ≡ learned cs → xs ≡ cs
-unfolding if_then_else_
-one-level true xs cs e = let z : _≡_ {A = ℕ} 0 1 = cc in absurd (omega arith)
-one-level false xs cs e = cc
-
 module _ (stripe marks : List ℕ) (b : Bench) (s : Reached (b .plan) stripe marks b) where
   abbrev Q : Plan
   Q = planOf (b .plan)
@@ -123,7 +101,7 @@ module _ (stripe marks : List ℕ) (b : Bench) (s : Reached (b .plan) stripe mar
   unfolding putRow marksAt rowFill
   own-put r row l e =
       let f = s .sound .fit in
-      let z = s .sound .sized in
+      let z = s .sound .room in
       let long = filled-row b f r l row e .0 in
       let C = checksTo Q (b .level) in
       let target = sumsAt Q (b .level) (b .sums) r in
@@ -148,7 +126,7 @@ module _ (stripe marks : List ℕ) (b : Bench) (s : Reached (b .plan) stripe mar
         held = λ X word agree.
             let h = s .held X word agree in
             subst (λ x. Held (b .plan) X (putRow b r x))
-            (one-row (rowTied (b .plan) (b .level) (b .marks) r) (rowAt Q X r) row (sym (row-finds (b .plan) X b h r l) ∙ e))
+            (one-row (rowTied (b .plan) (b .level) (b .marks) r) (rowAt Q X r) row (sym (row-finds (b .plan) X b h r l) ∙ e) .1)
             (held-put (b .plan) X b h r l);
       }
 
@@ -200,12 +178,11 @@ module _ (stripe marks : List ℕ) (b : Bench) (s : Reached (b .plan) stripe mar
         let f = s .sound .fit in
         let sh = shape (b .plan) (f .plan-known) in
         let C = checksTo Q (b .level) in
-        append-parts (sumsAt Q (b .level) (b .sums) r) (newSums cs r) (sumsOf (Q .field) C (rowAt Q Y r))
-        (sumsOf (Q .field) (L .checks) (rowAt Q Y r))
-        (sym (raise-sums b f (s .sound .sized) low cs (learned-length b f cs e) r l) ∙ has r l
+        append-same (sumsAt Q (b .level) (b .sums) r) (sumsOf (Q .field) C (rowAt Q Y r))
+        (sym (raise-sums b f (s .sound .room) low cs (learned-length b f cs e) r l) ∙ has r l
         ∙ ap (λ cs. sumsOf (Q .field) cs (rowAt Q Y r)) (checks-suc Q (b .level) low) ∙ sums-append (Q .field) C (L .checks) (rowAt Q Y r))
         (sums-length Q (b .level) (b .sums) r (omega (arith, checks-le Q (f .level-le), sh .sums-le))
-        (omega (arith, row-end sumPlaces l, sh .rows-le, s .sound .sized .sums))
+        (omega (arith, row-end sumRoom l, sh .rows-le, s .sound .room .learned))
         ∙ sym (sums-count (Q .field) C (rowAt Q Y r)))
 
     meets-raise : (Y : List ℕ) → Has (b .plan) (raise b cs) Y → Meets (b .plan) (suc (b .level)) Y
@@ -231,7 +208,7 @@ module _ (stripe marks : List ℕ) (b : Bench) (s : Reached (b .plan) stripe mar
       held = λ X word agree.
           let h = s .held X word agree in
           subst (λ xs. Held (b .plan) X (raise b xs))
-          (one-level (levelTied (b .plan) (b .level) (b .marks)) (wordSums (b .plan) (b .level) X) cs (sym (level-finds (b .plan) X b h low) ∙ e))
+          (one-level (levelTied (b .plan) (b .level) (b .marks)) (wordSums (b .plan) (b .level) X) cs (sym (level-finds (b .plan) X b h low) ∙ e) .1)
           (held-raise (b .plan) X b h low);
     }
 

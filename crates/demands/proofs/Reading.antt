@@ -2,7 +2,7 @@
 use mathlib.Core.Path.{_≡_, refl, sym, ap, _∙_, subst}
 use mathlib.Core.Logic.{_⊎_, inl, inr}
 use mathlib.Core.Bool.{Bool, true, false, _&&_}
-use mathlib.Core.List.{List, _++_, map}
+use mathlib.Core.List.{List, [], _∷_, map}
 use Prim.Native.Nat.{ℕ, _+_, _*_, _<_}
 use native.Mathlib.Nat.{eq-zero-or-pos}
 use native.Mathlib.Omega.{arith}
@@ -11,23 +11,22 @@ use lib.ListN.{length, take, drop, getD}
 use lib.Seq.{getD-take, take-take}
 use Rattle.field.specs.Lists.{if_then_else_, upFrom}
 use Rattle.field.proofs.Lists.{map-up-same}
-use Rattle.linear.specs.Lists.{same}
-use Rattle.linear.proofs.Tests.{same→eq}
+use Rattle.fills.specs.Lists.{same}
+use Rattle.fills.proofs.Tests.{same→eq}
 use Rattle.plans.specs.Plan.{known, planOf, marksOf, marksOffset, symbolsOffset, fileLength}
-use Rattle.plans.specs.Refusal.{firstFailed, unasked, inFile, stripeFits, wordsFit, marksFit, symbolsFit}
-use Rattle.repair.specs.File.{headerOf, blanked, planIn, wordAt, marksIn, symbolsIn, fileRefusal, readRefusal, readStripe, readMarks}
-use Rattle.repair.specs.Text.{item, lineEnd, mendText, printed}
+use Rattle.plans.specs.Refusal.{firstFailed, stripeFits, wordsFit, marksFit, symbolsFit}
+use Rattle.files.specs.File.{headerOf, blanked, planIn, marksIn, symbolsIn, fileRefusal, readRefusal, readStripe, readMarks}
+use Rattle.words.specs.Words.{wordAt}
 use Rattle.steps.proofs.Fit.{pass}
-use Rattle.demands.specs.Silence.{SameUnmarked, SameFile, same-reading, first-22, second-22, SilentReading, SilentPrinting}
+use Rattle.demands.specs.Silence.{SameUnmarked, SameFile, same-reading, first-22, second-22, SilentReading}
 use Rattle.demands.proofs.Alike.{at-alike}
 use Rattle.demands.proofs.Blind.{part-lengths, blanked-alike, symbols-same}
-use Rattle.demands.proofs.Silence.{silent-text}
 use Rattle.demands.proofs.Refused.{read-refused}
 
 -- ---- the order for a file, up to its last test
 
 -- the same number; or one is 22 and the other 0
-abbrev But22 : ℕ → ℕ → Type 0
+abbrev pub But22 : ℕ → ℕ → Type 0
 But22 m n = (m ≡ n) ⊎ (((m ≡ 0) × (n ≡ 22)) ⊎ ((m ≡ 22) × (n ≡ 0)))
 
 test-same : (k : ℕ) (b : Bool) {m n : ℕ} → But22 m n → But22 (if b then m else k) (if b then n else k)
@@ -43,13 +42,13 @@ last-test false true = inr (inr (refl, refl))
 last-test false false = inl refl
 
 module _ (a b c d e m s : Bool) where
-  but-last : (x y : Bool) → But22 (inFile a b c d e m s x) (inFile a b c d e m s y)
-  unfolding firstFailed inFile
+  but-last : (x y : Bool) → But22 (firstFailed ((20, a) ∷ (10, b) ∷ (21, c) ∷ (20, d) ∷ (11, e) ∷ (12, m) ∷ (13, s) ∷ (22, x) ∷ [])) (firstFailed ((20, a) ∷ (10, b) ∷ (21, c) ∷ (20, d) ∷ (11, e) ∷ (12, m) ∷ (13, s) ∷ (22, y) ∷ []))
+  unfolding firstFailed
   but-last x y =
       test-same 20 a (test-same 10 b (test-same 21 c (test-same 20 d (test-same 11 e (test-same 12 m (test-same 13 s (last-test x y)))))))
 
-  last-passed : (x : Bool) → inFile a b c d e m s x ≡ 0 → T x
-  unfolding firstFailed inFile
+  last-passed : (x : Bool) → firstFailed ((20, a) ∷ (10, b) ∷ (21, c) ∷ (20, d) ∷ (11, e) ∷ (12, m) ∷ (13, s) ∷ (22, x) ∷ []) ≡ 0 → T x
+  unfolding firstFailed
   last-passed x q =
       pass 21 x _ (pass 12 s _ (pass 11 m _ (pass 10 e _ (pass 19 d _ (pass 20 c _ (pass 9 b _ (pass 19 a _ q .1) .1) .1) .1) .1) .1) .1) .0
 
@@ -62,7 +61,7 @@ module _ (f g : List ℕ) (h : SameFile f g) where
   byte-same : (i : ℕ) → i < n → getD f i 0 ≡ getD g i 0
   byte-same i l = sym (getD-take n f i 0 l) ∙ ap (λ l. getD l i 0) (h .before) ∙ getD-take n g i 0 l
 
-  plan-same : planIn f ≡ planIn g
+  pub plan-same : planIn f ≡ planIn g
   unfolding marksOffset symbolsOffset planIn
   plan-same = byte-same 0 (omega arith)
 
@@ -75,14 +74,14 @@ module _ (f g : List ℕ) (h : SameFile f g) where
   word-same i l =
       rw (byte-same i (omega arith), byte-same (i + 1) (omega arith), byte-same (i + 2) (omega arith), byte-same (i + 3) l)
 
-  marks-in-same : marksIn f ≡ marksIn g
+  pub marks-in-same : marksIn f ≡ marksIn g
   unfolding marksOffset symbolsOffset marksIn
   marks-in-same =
       map-up-same (λ r. wordAt f (8 + 4 * r)) (λ r. wordAt g (8 + 4 * r)) 0 (planOf (planIn f) .rows) (λ r l.
       word-same (8 + 4 * (0 + r)) (omega arith))
       ∙ ap (λ p. map (λ r. wordAt g (8 + 4 * r)) (upFrom 0 (planOf p .rows))) plan-same
 
-  symbols-alike : SameUnmarked (planIn f) (marksIn f) (symbolsIn f) (symbolsIn g)
+  pub symbols-alike : SameUnmarked (planIn f) (marksIn f) (symbolsIn f) (symbolsIn g)
   unfolding symbolsIn
   symbols-alike = record {
     long =
@@ -103,14 +102,12 @@ module _ (f g : List ℕ) (h : SameFile f g) where
       ∙ (λ i. blanked (marksOf (planOf (plan-same i)) (marks-in-same i)) (symbolsIn g))
 
   -- the same tests but the last
-  refusal-same : {a b : Bool} → a ≡ b → But22 (fileRefusal f a) (fileRefusal g b)
+  pub refusal-same : {a b : Bool} → a ≡ b → But22 (fileRefusal f a) (fileRefusal g b)
   unfolding fileRefusal
   refusal-same {a} e =
       subst (But22 (fileRefusal f a))
       (λ i.
-      inFile (leb 8 (h .long i)) (known (plan-same i)) (same (header-same i) (headerOf (plan-same i)))
-      (eqb (h .long i) (fileLength (planOf (plan-same i)))) (e i) (marksFit (planOf (plan-same i)) (marks-in-same i)) (fits-same i)
-      (same (symbolsIn g) (blanked (marksOf (planOf (planIn g)) (marksIn g)) (symbolsIn g))))
+      firstFailed ((20, leb 8 (h .long i)) ∷ (10, known (plan-same i)) ∷ (21, same (header-same i) (headerOf (plan-same i))) ∷ (20, eqb (h .long i) (fileLength (planOf (plan-same i)))) ∷ (11, e i) ∷ (12, marksFit (planOf (plan-same i)) (marks-in-same i)) ∷ (13, fits-same i) ∷ (22, same (symbolsIn g) (blanked (marksOf (planOf (planIn g)) (marksIn g)) (symbolsIn g))) ∷ []))
       (but-last _ _ _ _ _ _ _ _ _)
 
   read-same : (s m : List ℕ) → But22 (readRefusal f s m) (readRefusal g s m)
@@ -146,13 +143,3 @@ silent-reading f g s m h =
       | inr (inl e) ↦ second-22 (e .0) (e .1)
       | inr (inr e) ↦ first-22 (e .0) (e .1)
     ]
-
-pub silent-printing : SilentPrinting
-unfolding printed
-silent-printing f g h ne ne′ =
-    let text : mendText (planIn f) (symbolsIn f) (marksIn f) ≡ mendText (planIn g) (symbolsIn g) (marksIn g) =
-    silent-text (planIn f) (marksIn f) (symbolsIn f) (symbolsIn g) (symbols-alike f g h)
-    ∙ (λ i. mendText (plan-same f g h i) (symbolsIn g) (marks-in-same f g h i)) in
-    let same-refusal : fileRefusal f unasked ≡ fileRefusal g unasked =
-    elim (refusal-same f g h {a = unasked} refl) [ inl e ↦ e | inr (inl e) ↦ absurd (ne′ (e .1)) | inr (inr e) ↦ absurd (ne (e .0)) ] in
-    (λ i. if eqb (same-refusal i) 0 then text i else item "refused " (same-refusal i) ++ lineEnd)

@@ -5,12 +5,12 @@ use Prim.Native.Nat.{ℕ, zero, suc}
 use lib.Dec.{not-T, eqb, eqb→eq}
 use Rattle.field.specs.Lists.{if_then_else_}
 use Rattle.plans.specs.Plan.{known}
-use Rattle.plans.specs.Refusal.{firstFailed, inMemory, benchRefusal, lentRefusal}
+use Rattle.plans.specs.Refusal.{firstFailed, benchRefusal, lentRefusal, benchTests}
 use Rattle.steps.specs.Steps.{empty, startedBy, started, stepped, unlessRefused, rowStep, levelStep}
 use Rattle.repair.specs.Mending.{mendReport, mendStripe, mendMarks}
 use Rattle.encoding.specs.Data.{encodeRefusal, extractRefusal, extractData}
 use Rattle.repair.specs.Encoding.{encodeStripe}
-use Rattle.repair.specs.File.{writeRefusal, writeFile, readRefusal, readStripe, readMarks}
+use Rattle.files.specs.File.{writeRefusal, writeFile, readRefusal, readStripe, readMarks}
 use Rattle.plans.specs.declared.Bench.{Bench}
 use Rattle.plans.specs.declared.Stepped.{Stepped}
 use Rattle.plans.specs.declared.Step.the-variants.{Refused}
@@ -66,5 +66,5 @@ start-refused p stripe marks h = go (lentRefusal p stripe marks) h
     go (suc n) h = refl
 
 pub empty-refused : EmptyRefused
-unfolding if_then_else_ known firstFailed inMemory benchRefusal empty unlessRefused rowStep levelStep
+unfolding if_then_else_ known firstFailed benchTests benchRefusal empty unlessRefused rowStep levelStep
 empty-refused = record { rows = λ r. refl; levels = refl }

@@ -12,29 +12,113 @@ use lib.Seq.{sets, drop-drop, drop-set-lt, take-set-lt, take-take, getD-take, ex
 use Rattle.field.specs.Lists.{if_then_else_, upFrom}
 use Rattle.field.specs.Field.{size, dot}
 use Rattle.field.proofs.Lists.{getD-map-below, map-up-same}
-use Rattle.linear.specs.Lists.{all, zeros}
-use Rattle.linear.specs.Marks.{bitsOf}
-use Rattle.linear.specs.Fill.{dependent, Fill, none, tied, one, fill, vectorIn}
-use Rattle.linear.proofs.Tests.{either}
+use Rattle.fills.specs.Lists.{all, zeros}
+use Rattle.fills.specs.Marks.{bitsOf}
+use Rattle.fills.specs.Fill.{dependent, Fill, none, tied, one, fill, vectorIn}
+use Rattle.fills.proofs.Tests.{either}
 use Rattle.plans.specs.Plan.{Plan, Level, known, planOf, levelOf, checksTo, rowAt, marksAt, across}
-use Rattle.plans.specs.Refusal.{sumPlaces, unasked, inMemory, marksFit, allBelow, unmarkedBelow, symbolsFit, sumsAt, sumsFit, levelFits, benchRefusal}
+use Rattle.plans.specs.Refusal.{unasked, marksFit, allBelow, unmarkedBelow, symbolsFit, sumsAt, sumsFit, levelFits, benchRefusal, firstFailed, benchTests}
+use Rattle.plans.specs.Rooms.{sumRoom}
 use Rattle.steps.specs.Steps.{stepped, unlessRefused, rowFill, putRow, rowStepBy, rowStep, lossy, checkFill, Learned, blocked, failing, learned, levelFill, newSums, raise, levelStepBy, levelStep}
 use Rattle.steps.specs.Parts.{benchOf}
 use Rattle.plans.specs.declared.Bench.{Bench}
 use Rattle.plans.specs.declared.Stepped.{Stepped}
 use Rattle.plans.specs.declared.Step.the-variants.{Whole, Filled, Top}
-use Rattle.plans.proofs.Rows.{row-end, take-sets, drop-sets-before, sets-out}
+use Rattle.plans.proofs.Rows.{row-end}
+use Rattle.words.proofs.Stores.{take-sets, drop-sets-before, sets-out}
 use Rattle.steps.proofs.Sums.{keep-length, keep-part, keep-room}
 use Rattle.plans.proofs.Flat.{rowIn}
 use Rattle.plans.proofs.Parts.{rows-of, rows-front}
 use Rattle.steps.proofs.Levels.{checks-suc, checks-le}
-use Rattle.plans.proofs.Shape.{shape}
+use Rattle.plans.proofs.Plans.{shape}
 use Rattle.steps.proofs.Fit.{BenchFit, bench-fit}
 use Rattle.steps.proofs.Passing.{ends}
 use Rattle.steps.proofs.Sound.{filled-row, learned-length}
-use Rattle.demands.specs.Words.{onRow, onLevel, after, walk}
-use Rattle.demands.specs.Room.{SameRead, SameReadStep, RowStepReads, LevelStepReads, WalkReads, placesAt, RoomKept, StepsKeepRoom, WalksKeepRoom}
-use Rattle.demands.proofs.Blind.{sets-alike, sets-here, all-same}
+use Rattle.demands.specs.Words.{Move, onRow, onLevel, after, walk, SameStep}
+use Rattle.demands.specs.Room.{SameRead, RowStepReads, LevelStepReads, WalkReads, placesAt, RoomKept, StepsKeepRoom, WalksKeepRoom}
+use Rattle.demands.proofs.Blind.{sets-alike, all-same}
+
+-- ---- a step, case by case
+
+-- what holds of a bench, of it with a filled row, and of it raised, holds after each step
+pub by-step : (S : Bench → Type 0) (b : Bench) → S b
+    → (BenchFit b → (r : ℕ) → r < planOf (b .plan) .rows → (row : List ℕ) → rowFill b r ≡ one row → S (putRow b r row))
+    → (BenchFit b → b .level < length (planOf (b .plan) .levels) → (cs : List (List ℕ)) → levelFill b ≡ learned cs → S (raise b cs))
+    → (m : Move) → S (after b m)
+unfolding if_then_else_ rowStep levelStep unlessRefused stepped rowStepBy levelStepBy
+by-step S b same put raised (onRow r) = go (benchRefusal b (ltb r (planOf (b .plan) .rows))) refl (rowFill b r) refl
+  where
+    go : (n : ℕ) → benchRefusal b (ltb r (planOf (b .plan) .rows)) ≡ n → (a : Fill) → rowFill b r ≡ a → S (unlessRefused n b (rowStepBy b r a) .bench)
+    go (suc n) e a d = same
+    go zero e tied d = same
+    go zero e none d = same
+    go zero e (one row) d =
+        let f = bench-fit b (ltb r (planOf (b .plan) .rows)) e in put (f .0) r (ltb→lt r (planOf (b .plan) .rows) (f .1)) row d
+by-step S b same put raised onLevel = go (benchRefusal b unasked) refl (ltb (b .level) (length (planOf (b .plan) .levels))) refl (levelFill b) refl
+  where
+    go : (n : ℕ) → benchRefusal b unasked ≡ n → (low : Bool) → ltb (b .level) (length (planOf (b .plan) .levels)) ≡ low
+        → (a : Learned) → levelFill b ≡ a → S (unlessRefused n b (if low then levelStepBy b a else stepped b Top) .bench)
+    go (suc n) e low q a d = same
+    go zero e false q a d = same
+    go zero e true q blocked d = same
+    go zero e true q failing d = same
+    go zero e true q (learned cs) d =
+        raised (bench-fit b unasked e .0) (ltb→lt (b .level) (length (planOf (b .plan) .levels)) (subst T (sym q) tt)) cs d
+
+-- a bench with other symbols, marks and sums
+abbrev with : Bench → (symbols marks sums : List ℕ) → Bench
+with b s m u = benchOf (b .plan) (b .level) s m u
+
+-- steps on benches that are refused alike and filled alike
+module _ (R : Bench → Bench → Type 0) (b : Bench) (s m u : List ℕ) (own : R b (with b s m u))
+    (refused : (row : Bool) → benchRefusal b row ≡ benchRefusal (with b s m u) row) where
+  abbrev our : Plan
+  our = planOf (b .plan)
+
+  abbrev other : Bench
+  other = with b s m u
+
+  unless-same : (n : ℕ) (x y : Stepped) → (n ≡ 0 → SameStep R x y) → SameStep R (unlessRefused n b x) (unlessRefused n other y)
+  unfolding unlessRefused stepped
+  unless-same zero x y f = f refl
+  unless-same (suc n) x y f = record { answer = refl; bench = own }
+
+  pub row-steps : (r : ℕ) → (r < our .rows → (rowFill b r ≡ rowFill other r) × (getD (b .marks) r 0 ≡ getD m r 0))
+      → (BenchFit b → r < our .rows → (row : List ℕ) → rowFill b r ≡ one row → R (putRow b r row) (putRow other r row))
+      → SameStep R (rowStep b r) (rowStep other r)
+  unfolding if_then_else_ rowStep rowStepBy stepped
+  row-steps r fills puts =
+      subst (λ n. SameStep R (rowStep b r) (unlessRefused n other (rowStepBy other r (rowFill other r)))) (refused (ltb r (our .rows)))
+      (unless-same (benchRefusal b (ltb r (our .rows))) (rowStepBy b r (rowFill b r)) (rowStepBy other r (rowFill other r)) (λ e.
+      let f = bench-fit b (ltb r (our .rows)) e in
+      let l = ltb→lt r (our .rows) (f .1) in
+      subst (λ a. SameStep R (rowStepBy b r (rowFill b r)) (rowStepBy other r a)) (fills l .0) (go (f .0) l (rowFill b r) refl)))
+    where
+      go : BenchFit b → r < our .rows → (a : Fill) → rowFill b r ≡ a → SameStep R (rowStepBy b r a) (rowStepBy other r a)
+      go f l tied e = record { answer = refl; bench = own }
+      go f l none e = record { answer = refl; bench = own }
+      go f l (one row) e = record { answer = ap (λ w. if eqb w 0 then Whole else Filled) (fills l .1); bench = puts f l row e }
+
+  pub level-steps : levelFill b ≡ levelFill other
+      → (BenchFit b → b .level < length (our .levels) → (cs : List (List ℕ)) → levelFill b ≡ learned cs → R (raise b cs) (raise other cs))
+      → SameStep R (levelStep b) (levelStep other)
+  unfolding if_then_else_ levelStep levelStepBy stepped
+  level-steps learns raises =
+      let low = ltb (b .level) (length (our .levels)) in
+      subst (λ n. SameStep R (levelStep b) (unlessRefused n other (end other low (levelFill other)))) (refused unasked)
+      (unless-same (benchRefusal b unasked) (end b low (levelFill b)) (end other low (levelFill other)) (λ e.
+      subst (λ a. SameStep R (end b low (levelFill b)) (end other low a)) learns (go (bench-fit b unasked e .0) low refl (levelFill b) refl)))
+    where
+      end : Bench → Bool → Learned → Stepped
+      end b low a = if low then levelStepBy b a else stepped b Top
+
+      go : BenchFit b → (low : Bool) → ltb (b .level) (length (our .levels)) ≡ low → (a : Learned) → levelFill b ≡ a
+          → SameStep R (end b low a) (end other low a)
+      go f false q a d = record { answer = refl; bench = own }
+      go f true q blocked d = record { answer = refl; bench = own }
+      go f true q failing d = record { answer = refl; bench = own }
+      go f true q (learned cs) d =
+          record { answer = refl; bench = raises f (ltb→lt (b .level) (length (our .levels)) (subst T (sym q) tt)) cs d }
 
 -- ---- not changed
 
@@ -71,7 +155,7 @@ module _ (b : Bench) where
         ap length (checks-suc P (b .level) low) ∙ length-append (checksTo P (b .level)) (levelOf P (suc (b .level)) .checks)
         ∙ ap (λ n. at + n) (sym count)
 
-    narrow : at + length cs ≤ sumPlaces
+    narrow : at + length cs ≤ sumRoom
     narrow = omega (arith, more, checks-le P low, shape (b .plan) plan-known .sums-le)
 
     pub room-raise : RoomKept b (raise b cs)
@@ -84,39 +168,19 @@ module _ (b : Bench) where
       sums = keep-room at cs (P .rows) (b .sums);
       before = λ r l.
           keep-part at cs (P .rows) (b .sums) at r (omega (arith, narrow)) l
-          ∙ sets-out (newSums cs r) (take at (drop (r * sumPlaces) (b .sums))) at (simp length-take (omega arith));
+          ∙ sets-out (newSums cs r) (take at (drop (r * sumRoom) (b .sums))) at (simp length-take (omega arith));
       above = λ r l.
-          ap (drop next) (keep-part at cs (P .rows) (b .sums) sumPlaces r (le-refl sumPlaces) l)
+          ap (drop next) (keep-part at cs (P .rows) (b .sums) sumRoom r (le-refl sumRoom) l)
           ∙ drop-sets-before next (newSums cs r) (placesAt (b .sums) r) at (omega (arith, more, length-map cs (λ c. getD c r 0)));
     }
 
 pub steps-keep-room : StepsKeepRoom
-unfolding if_then_else_ rowStep levelStep unlessRefused stepped rowStepBy levelStepBy
-steps-keep-room b (onRow r) = go (benchRefusal b (ltb r (planOf (b .plan) .rows))) refl
-  where
-    by : BenchFit b → r < planOf (b .plan) .rows → (a : Fill) → rowFill b r ≡ a → RoomKept b (rowStepBy b r a .bench)
-    by f l tied e = room-refl b
-    by f l none e = room-refl b
-    by f l (one row) e = room-put b r row l (filled-row b f r l row e .0)
-
-    go : (n : ℕ) → benchRefusal b (ltb r (planOf (b .plan) .rows)) ≡ n → RoomKept b (unlessRefused n b (rowStepBy b r (rowFill b r)) .bench)
-    go zero e =
-        let f = bench-fit b (ltb r (planOf (b .plan) .rows)) e in by (f .0) (ltb→lt r (planOf (b .plan) .rows) (f .1)) (rowFill b r) refl
-    go (suc n) e = room-refl b
-steps-keep-room b onLevel = go (benchRefusal b unasked) refl (ltb (b .level) (length (planOf (b .plan) .levels))) refl (levelFill b) refl
-  where
-    go : (n : ℕ) → benchRefusal b unasked ≡ n → (low : Bool) → ltb (b .level) (length (planOf (b .plan) .levels)) ≡ low
-        → (a : Learned) → levelFill b ≡ a → RoomKept b (unlessRefused n b (if low then levelStepBy b a else stepped b Top) .bench)
-    go (suc n) e low q a d = room-refl b
-    go zero e false q a d = room-refl b
-    go zero e true q blocked d = room-refl b
-    go zero e true q failing d = room-refl b
-    go zero e true q (learned cs) d =
-        let f = bench-fit b unasked e .0 in
-        room-raise b (f .plan-known) (ltb→lt (b .level) (length (planOf (b .plan) .levels)) (subst T (sym q) tt)) cs (learned-length b f cs d)
+steps-keep-room b =
+    by-step (RoomKept b) b (room-refl b) (λ f r l row e. room-put b r row l (filled-row b f r l row e .0))
+    (λ f low cs e. room-raise b (f .plan-known) low cs (learned-length b f cs e))
 
 -- lists that agree from n on agree from any later place on
-pub drop-later : {n m : ℕ} (x y : List ℕ) → n ≤ m → drop n x ≡ drop n y → drop m x ≡ drop m y
+drop-later : {n m : ℕ} (x y : List ℕ) → n ≤ m → drop n x ≡ drop n y → drop m x ≡ drop m y
 drop-later {n} {m} x y h e =
     ap (λ k. drop k x) (sym (add-sub-of-le h)) ∙ sym (drop-drop (m - n) n x) ∙ ap (drop (m - n)) e ∙ drop-drop (m - n) n y
     ∙ ap (λ k. drop k y) (add-sub-of-le h)
@@ -127,7 +191,7 @@ unfolding sumsAt
 sums-lower P {t} {u} x y r h e =
     let n = length (checksTo P t) in
     let m = length (checksTo P u) in
-    sym (take-take n m (drop (r * sumPlaces) x) (checks-le P h)) ∙ ap (take n) e ∙ take-take n m (drop (r * sumPlaces) y) (checks-le P h)
+    sym (take-take n m (drop (r * sumRoom) x) (checks-le P h)) ∙ ap (take n) e ∙ take-take n m (drop (r * sumRoom) y) (checks-le P h)
 
 room-trans : (b c d : Bench) → RoomKept b c → RoomKept c d → RoomKept b d
 room-trans b c d k j =
@@ -154,7 +218,7 @@ walks-keep-room (m ∷ ms) b =
 -- ---- not read
 
 -- row r stands in the first R rows
-row-front : (N R : ℕ) (l : List ℕ) (r : ℕ) → r < R → take N (drop (r * N) (take (R * N) l)) ≡ take N (drop (r * N) l)
+pub row-front : (N R : ℕ) (l : List ℕ) (r : ℕ) → r < R → take N (drop (r * N) (take (R * N) l)) ≡ take N (drop (r * N) l)
 row-front N R l r h =
     sym (getD-map-below (rowIn N (take (R * N) l)) R r [] h)
     ∙ ap (λ rows. getD rows r []) (sym (rows-of R N (take (R * N) l)) ∙ rows-front R N l ∙ rows-of R N l)
@@ -164,17 +228,13 @@ row-front N R l r h =
 sets-agree : (x s t : List ℕ) (at : ℕ) → length s ≡ length t → length s ≤ at + length x → take at s ≡ take at t → sets s at x ≡ sets t at x
 sets-agree x s t at long short e =
     ext-getD 0 (sets s at x) (sets t at x) (length-sets s at x ∙ long ∙ sym (length-sets t at x)) (λ i l.
+    sets-alike s t at x i long (λ out.
     elim (either (ltb i at)) [
-      | inl b ↦
-          let h = ltb→lt i at b in
-          sets-alike s t at x i long (sym (getD-take at s i 0 h) ∙ ap (λ l. getD l i 0) e ∙ getD-take at t i 0 h)
-      | inr b ↦ sets-here s t at x i long (nltb→le i at b) (omega (arith, length-sets s at x))
-    ])
+      | inl b ↦ let h = ltb→lt i at b in sym (getD-take at s i 0 h) ∙ ap (λ l. getD l i 0) e ∙ getD-take at t i 0 h
+      | inr b ↦ absurd (out (nltb→le i at b) (omega (arith, length-sets s at x)))
+    ]))
 
 -- the other bench is the first with other symbols, marks and sums
-abbrev with : Bench → (symbols marks sums : List ℕ) → Bench
-with b s m u = benchOf (b .plan) (b .level) s m u
-
 other-is : (b c : Bench) → SameRead b c → c ≡ with b (c .symbols) (c .marks) (c .sums)
 other-is b c h = λ i. record {
   plan = sym (h .plan) i;
@@ -208,7 +268,7 @@ module _ (b : Bench) (s m u : List ℕ) (h : SameRead b (with b s m u)) where
   marks-read r l = ap (bitsOf (Q .columns)) (word-read r l)
 
   refusal-read : (row : Bool) → benchRefusal b row ≡ benchRefusal c row
-  unfolding benchRefusal marksFit symbolsFit sumsFit
+  unfolding benchTests benchRefusal marksFit symbolsFit sumsFit
   refusal-read row =
       let q = size (Q .field) in
       let below : symbolsFit Q (b .marks) (b .symbols) ≡ symbolsFit Q m s =
@@ -217,7 +277,7 @@ module _ (b : Bench) (s m u : List ℕ) (h : SameRead b (with b s m u)) where
       let sums : sumsFit Q (b .level) (b .sums) ≡ sumsFit Q (b .level) u =
       all-same (λ r. allBelow q (sumsAt Q (b .level) (b .sums) r)) (λ r. allBelow q (sumsAt Q (b .level) u r)) 0 (Q .rows)
       (λ r l. ap (allBelow q) (h .sums r (omega arith))) in
-      ap₂ (λ w z. inMemory (known (b .plan)) unasked (levelFits Q (b .level)) (all (λ x. ltb x (2 ^ Q .columns)) w) z row unasked)
+      ap₂ (λ w z. firstFailed ((10, known (b .plan)) ∷ (15, levelFits Q (b .level)) ∷ (12, all (λ x. ltb x (2 ^ Q .columns)) w) ∷ (13, z) ∷ (14, row) ∷ []))
       (h .marks) (ap₂ _&&_ below sums)
 
   row-fill-read : (r : ℕ) → r < Q .rows → rowFill b r ≡ rowFill c r
@@ -277,11 +337,11 @@ module _ (b : Bench) (s m u : List ℕ) (h : SameRead b (with b s m u)) where
         marks = h .marks;
         sums = λ r l.
             let x = newSums cs r in
-            let here = drop (r * sumPlaces) (b .sums) in
-            let there = drop (r * sumPlaces) u in
+            let here = drop (r * sumRoom) (b .sums) in
+            let there = drop (r * sumRoom) u in
             keep-part n cs (Q .rows) (b .sums) n′ r (omega (arith, up, slim)) l
             ∙ sets-agree x (take n′ here) (take n′ there) n
-            (simp (length-take, length-drop) (ap (λ k. min n′ (k - r * sumPlaces)) (h .places)))
+            (simp (length-take, length-drop) (ap (λ k. min n′ (k - r * sumRoom)) (h .places)))
             (simp length-take (omega (arith, up, length-map cs (λ c. getD c r 0))))
             (take-take n n′ here (omega (arith, up)) ∙ h .sums r l ∙ sym (take-take n n′ there (omega (arith, up))))
             ∙ sym (keep-part n cs (Q .rows) u n′ r (omega (arith, up, slim)) l);
@@ -289,47 +349,12 @@ module _ (b : Bench) (s m u : List ℕ) (h : SameRead b (with b s m u)) where
             let news = map (newSums cs) (upFrom 0 (Q .rows)) in keep-length n news (b .sums) ∙ h .places ∙ sym (keep-length n news u);
       }
 
-  -- refused alike
-  unless-read : (n : ℕ) (x y : Stepped) → (n ≡ 0 → SameReadStep x y) → SameReadStep (unlessRefused n b x) (unlessRefused n c y)
-  unfolding unlessRefused stepped
-  unless-read zero x y f = f refl
-  unless-read (suc n) x y f = record { answer = refl; bench = h }
+  row-step-read : (r : ℕ) → SameStep SameRead (rowStep b r) (rowStep c r)
+  row-step-read r = row-steps SameRead b s m u h refusal-read r (λ l. (row-fill-read r l, word-read r l)) (λ f l row e. put-read r row l)
 
-  row-step-read : (r : ℕ) → SameReadStep (rowStep b r) (rowStep c r)
-  unfolding rowStep rowStepBy stepped
-  row-step-read r =
-      subst (λ n. SameReadStep (rowStep b r) (unlessRefused n c (rowStepBy c r (rowFill c r)))) (refusal-read (ltb r (Q .rows)))
-      (unless-read (benchRefusal b (ltb r (Q .rows))) (rowStepBy b r (rowFill b r)) (rowStepBy c r (rowFill c r)) (λ e.
-      let l : r < Q .rows = ltb→lt r (Q .rows) (bench-fit b (ltb r (Q .rows)) e .1) in
-      subst (λ a. SameReadStep (rowStepBy b r (rowFill b r)) (rowStepBy c r a)) (row-fill-read r l) (go l (rowFill b r))))
-    where
-      go : r < Q .rows → (a : Fill) → SameReadStep (rowStepBy b r a) (rowStepBy c r a)
-      go l tied = record { answer = refl; bench = h }
-      go l none = record { answer = refl; bench = h }
-      go l (one row) = record { answer = ap (λ w. if eqb w 0 then Whole else Filled) (word-read r l); bench = put-read r row l }
-
-  level-step-read : SameReadStep (levelStep b) (levelStep c)
-  unfolding if_then_else_ levelStep levelStepBy stepped
+  level-step-read : SameStep SameRead (levelStep b) (levelStep c)
   level-step-read =
-      let low = ltb (b .level) (length (Q .levels)) in
-      subst (λ n. SameReadStep (levelStep b) (unlessRefused n c (end c low (levelFill c)))) (refusal-read unasked)
-      (unless-read (benchRefusal b unasked) (end b low (levelFill b)) (end c low (levelFill c)) (λ e.
-      subst (λ a. SameReadStep (end b low (levelFill b)) (end c low a)) level-fill-read
-      (go (bench-fit b unasked e .0) low refl (levelFill b) refl)))
-    where
-      end : Bench → Bool → Learned → Stepped
-      end b low a = if low then levelStepBy b a else stepped b Top
-
-      go : BenchFit b → (low : Bool) → ltb (b .level) (length (Q .levels)) ≡ low → (a : Learned) → levelFill b ≡ a
-          → SameReadStep (end b low a) (end c low a)
-      go f false q a d = record { answer = refl; bench = h }
-      go f true q blocked d = record { answer = refl; bench = h }
-      go f true q failing d = record { answer = refl; bench = h }
-      go f true q (learned cs) d = record {
-        answer = refl;
-        bench =
-            raise-read (f .plan-known) (ltb→lt (b .level) (length (Q .levels)) (subst T (sym q) tt)) cs (learned-length b f cs d);
-      }
+      level-steps SameRead b s m u h refusal-read level-fill-read (λ f low cs e. raise-read (f .plan-known) low cs (learned-length b f cs e))
 
 -- the same of any two benches
 module _ (b c : Bench) (h : SameRead b c) where
@@ -341,11 +366,11 @@ module _ (b c : Bench) (h : SameRead b c) where
 
 pub row-step-reads : RowStepReads
 row-step-reads b c r h =
-    of-own b c h (λ c. SameReadStep (rowStep b r) (rowStep c r)) (row-step-read b (c .symbols) (c .marks) (c .sums) (own b c h) r)
+    of-own b c h (λ c. SameStep SameRead (rowStep b r) (rowStep c r)) (row-step-read b (c .symbols) (c .marks) (c .sums) (own b c h) r)
 
 pub level-step-reads : LevelStepReads
 level-step-reads b c h =
-    of-own b c h (λ c. SameReadStep (levelStep b) (levelStep c)) (level-step-read b (c .symbols) (c .marks) (c .sums) (own b c h))
+    of-own b c h (λ c. SameStep SameRead (levelStep b) (levelStep c)) (level-step-read b (c .symbols) (c .marks) (c .sums) (own b c h))
 
 pub walk-reads : WalkReads
 walk-reads [] b c h = h

@@ -13,11 +13,11 @@ use lib.ListN.{length, getD, set, replicate}
 use lib.Seq.{set-getD}
 use Rattle.field.specs.Lists.{if_then_else_, upFrom}
 use Rattle.field.specs.Field.{size}
-use Rattle.linear.specs.Fill.{sumsOf, Fill, none, tied, one, fill}
-use Rattle.linear.proofs.Tests.{either}
-use Rattle.linear.proofs.Choices.{alike-agrees}
-use Rattle.linear.proofs.Filling.{Means, in-dependent, fill-means, fill-one}
-use Rattle.linear.proofs.Weights.{marked}
+use Rattle.fills.specs.Fill.{sumsOf, Fill, none, tied, one, fill}
+use Rattle.fills.proofs.Tests.{either}
+use Rattle.fills.proofs.Choices.{alike-agrees}
+use Rattle.fills.proofs.Filling.{Means, in-dependent, fill-means, fill-one}
+use Rattle.fills.proofs.Weights.{marked}
 use Rattle.plans.specs.Plan.{Plan, planOf, checksTo, rowAt, marksAt}
 use Rattle.plans.specs.Refusal.{allBelow, sumsAt}
 use Rattle.steps.specs.Steps.{fresh, stepped, rowFill, putRow, rowStepBy, rowStep, Learned, blocked, failing, learned, levelFill, raise, levelStepBy, levelStep}
@@ -112,7 +112,7 @@ module _ (b : Bench) (s : Sound b) (r : ℕ) (l : r < planOf (b .plan) .rows) wh
   target = sumsAt P (b .level) (b .sums) r
 
   long : length v ≡ length ms
-  long = row-length P (b .symbols) r (row-place b (s .fit) r l (s .sized)) ∙ sym (marks-length P (b .marks) r)
+  long = row-length P (b .symbols) r (row-place b (s .fit) r l (s .room)) ∙ sym (marks-length P (b .marks) r)
 
   -- a row without marks that is put again
   put-again : getD (b .marks) r 0 ≡ 0 → putRow b r v ≡ b
@@ -120,7 +120,7 @@ module _ (b : Bench) (s : Sound b) (r : ℕ) (l : r < planOf (b .plan) .rows) wh
   put-again z = λ i. record {
     plan = b .plan;
     level = b .level;
-    symbols = row-again P r v (b .symbols) (long ∙ marks-length P (b .marks) r) (row-place b (s .fit) r l (s .sized)) refl i;
+    symbols = row-again P r v (b .symbols) (long ∙ marks-length P (b .marks) r) (row-place b (s .fit) r l (s .room)) refl i;
     marks = (ap (set (b .marks) r) (sym z) ∙ set-getD (b .marks) r 0) i;
     sums = b .sums;
   }
@@ -142,11 +142,7 @@ module _ (b : Bench) (s : Sound b) (r : ℕ) (l : r < planOf (b .plan) .rows) wh
       }))
       ∙ put-again z
 
-  -- a row that is tied or filled is settled
-  tied-settled : rowFill b r ≡ tied → Settled (b .plan) b r
-  unfolding rowFill
-  tied-settled e = inl e
-
+  -- a row that is filled is settled
   module _ (row : List ℕ) (e : rowFill b r ≡ one row) where
     wide : length row ≡ P .columns
     wide = filled-row b (s .fit) r l row e .0
@@ -155,12 +151,12 @@ module _ (b : Bench) (s : Sound b) (r : ℕ) (l : r < planOf (b .plan) .rows) wh
     unfolding rowFill putRow
     put-settled =
         let m = subst (Means (P .field) C target ms v) e (fill-means (P .field) C target ms v) in
-        inr (put-mark b (s .fit) r l (s .sized) row wide, rw (put-row b (s .fit) r l (s .sized) row wide) (sym (m .1 .meets)))
+        inr (put-mark b (s .fit) r l (s .room) row wide, rw (put-row b (s .fit) r l (s .room) row wide) (sym (m .1 .meets)))
 
     -- and what was settled before stays so
     put-settled-other : (k : ℕ) → k ≢ r → Settled (b .plan) b k → Settled (b .plan) (putRow b r row) k
     unfolding putRow marksAt
-    put-settled-other k ne h = rw (put-mark-other b (s .fit) r l (s .sized) row wide k ne, put-row-other b (s .fit) r l (s .sized) row wide k ne) h
+    put-settled-other k ne h = rw (put-mark-other b (s .fit) r l (s .room) row wide k ne, put-row-other b (s .fit) r l (s .room) row wide k ne) h
 
 -- ---- turns
 
@@ -255,10 +251,10 @@ module _ (p : ℕ) (stripe marks : List ℕ) (fit : Fit p stripe marks) where
       }
 
       row-goes : (a : Fill) → rowFill b k ≡ a → Goes (Round n) Out (afterRow m (rowStepBy b k a .answer) (rowStepBy b k a .bench))
-      unfolding if_then_else_ afterRow rowStepBy stepped putRow
+      unfolding if_then_else_ afterRow rowFill rowStepBy stepped putRow
       row-goes tied e =
           next-row b (ap (λ (c : Stepped). c .bench) (row-step b (i .reached .sound .fit) k (own-rows l) ∙ ap (rowStepBy b k) e)) refl (i .reached)
-          (tied-settled b (i .reached .sound) k (own-rows l) e) (λ r j h. h) (m .restored)
+          (inl e) (λ r j h. h) (m .restored)
       row-goes none e = λ X word agree.
           never-none (rowTied p (b .level) (b .marks) k) (rowAt Q X k) (sym (row-finds p X b (i .reached .held X word agree) k l) ∙ e)
       row-goes (one row) e = by (eqb (getD (b .marks) k 0) 0) refl

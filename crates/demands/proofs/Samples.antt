@@ -9,12 +9,12 @@ use lib.Dec.{T, ltb}
 use lib.ListN.{length, getD, replicate, set}
 use Rattle.field.specs.Lists.{if_then_else_, upFrom, weight}
 use Rattle.field.specs.Field.{_⊕_, size, double, times, mul, dot, gf2}
-use Rattle.linear.specs.Lists.{any, all, only, same, zeros, vanish, first, rest, beside}
-use Rattle.linear.specs.Marks.{bitsOf}
-use Rattle.linear.specs.Fill.{sumsOf, options, before, oneOfEach, choices, loose, dependent, fillings, fillBy, fill, isNone, vectorIn}
-use Rattle.linear.proofs.Choices.{alike-at}
+use Rattle.fills.specs.Lists.{any, all, only, same, zeros, vanish, first, rest, beside}
+use Rattle.fills.specs.Marks.{bitsOf}
+use Rattle.fills.specs.Fill.{sumsOf, options, before, oneOfEach, choices, loose, dependent, fillings, fillBy, fill, isNone, vectorIn}
+use Rattle.fills.proofs.Choices.{alike-at}
 use Rattle.plans.specs.Plan.{allOnes, bitChecks, wordOf, locations1, plan1, known, noPlan, planOf, noLevel, levelOf, checksTo, rowAt, marksAt, marksOf, across, checkPlacesOf, carried, marksOffset, symbolsOffset, fileLength}
-use Rattle.plans.specs.Refusal.{firstFailed, unasked, inMemory, inFile, stripeFits, wordsFit, marksFit, allBelow, unmarkedBelow, symbolsFit, sumsAt, sumsFit, levelFits, lentRefusal, benchRefusal}
+use Rattle.plans.specs.Refusal.{firstFailed, unasked, stripeFits, wordsFit, marksFit, allBelow, unmarkedBelow, symbolsFit, sumsAt, sumsFit, levelFits, lentRefusal, benchRefusal, lentTests, benchTests}
 use Rattle.steps.specs.Steps.{fresh, empty, stepped, unlessRefused, rowFill, putRow, rowStepBy, rowStep, lossy, checkFill, levelFill, keepSums, raise, levelStepBy, levelStep}
 use Rattle.steps.specs.Rounds.{Standing, on, more, afterRow, afterLevel, takeTurn, goOn, turns}
 use Rattle.steps.specs.Parts.{standingOf}
@@ -22,14 +22,17 @@ use Rattle.repair.specs.Mending.{mendReport, mendMarks}
 use Rattle.codewords.specs.Codeword.{rowsHold, totalsHold, isCodeword}
 use Rattle.encoding.specs.Data.{taken, encodeRefusal, extractRefusal}
 use Rattle.encoding.proofs.Data.{taken-alike}
-use Rattle.repair.specs.File.{bytes2, headerOf, blanked, writeRefusal, planIn, wordAt, marksIn, symbolsIn, fileRefusal, readRefusal}
+use Rattle.words.specs.Words.{bytes2, wordAt}
+use Rattle.files.specs.File.{headerOf, blanked, writeRefusal, planIn, marksIn, symbolsIn, fileRefusal, readRefusal}
 use Rattle.plans.specs.declared.Bench.{Bench}
 use Rattle.plans.specs.declared.Answer.{Answer}
 use Rattle.plans.specs.declared.Answer.the-variants.{Restored, Stuck, Clash}
 use Rattle.plans.specs.declared.Place.the-variants.{Row}
-use Rattle.repair.specs.Sheet.{Case, restored, stuck, clashed, blank, unchanged, blankRestored, row1, exampleStripe, exampleMarks, exampleAfter, exampleFile, exampleData, cases, done}
+use Rattle.repair.specs.Sheet.{Case, restored, stuck, clashed, blank, unchanged, blankRestored, row1, exampleStripe, exampleMarks, exampleAfter, exampleData, cases, done}
+use Rattle.files.specs.Example.{exampleFile}
 use Rattle.repair.proofs.Sheet.{sheet}
-use Rattle.repair.proofs.Samples.{noMarks, withByte, withBytes, file-order}
+use Rattle.repair.proofs.Samples.{noMarks}
+use Rattle.files.proofs.Samples.{withByte, withBytes, file-order}
 use Rattle.steps.proofs.Sound.{row-outside}
 use Rattle.demands.specs.Published.{counts, rowDistance, distance}
 use Rattle.demands.specs.Words.{Codeword, Agree, Fit, Move, onRow, onLevel, walk, Quiet, rounds, rowsWith, MeetsCounts, total}
@@ -42,11 +45,16 @@ use Rattle.demands.specs.Parameters.{RowWord}
 use Rattle.demands.proofs.Encoding.{codewords-are-encodings}
 use Rattle.demands.proofs.Third.{rounds-suffice}
 use Rattle.demands.proofs.Silence.{fresh-same}
+use Rattle.demands.proofs.Distance.{blankOf, blank-codeword}
 
 -- the plans' numbers
 pub plans-known : T (known 1) × T (known 2) × T (known 3)
 unfolding known
 plans-known = (tt, tt, tt)
+
+-- stripes agree where their unmarked symbols are the same
+pub agree : (p : ℕ) (marks X Y : List ℕ) → let ms = marksOf (planOf p) marks in taken ms X ≡ taken ms Y → Agree p marks X Y
+agree p marks X Y e = let ms = marksOf (planOf p) marks in alike-at ms X Y (taken-alike ms X Y e)
 
 -- ---- the third demand's premise: the example's stripe, 1?00000 ?0?0?10 00?0000
 
@@ -57,13 +65,12 @@ example-word = record { long = refl; symbols = tt; holds = tt }
 
 pub example : Premise 1 exampleStripe exampleMarks
 unfolding if_then_else_ upFrom flatMap size gf2 all first rest beside bitsOf plan1 known planOf rowAt marksAt marksOf
-    firstFailed unasked inMemory stripeFits wordsFit marksFit unmarkedBelow symbolsFit lentRefusal exampleStripe exampleMarks exampleAfter taken
+    firstFailed unasked stripeFits wordsFit marksFit unmarkedBelow symbolsFit lentTests lentRefusal exampleStripe exampleMarks exampleAfter taken
 example = record {
   fit = refl;
   true-stripe = exampleAfter;
   codeword = example-word;
-  agrees =
-      let ms = marksOf (planOf 1) exampleMarks in alike-at ms exampleAfter exampleStripe (taken-alike ms exampleAfter exampleStripe refl);
+  agrees = agree 1 exampleMarks exampleAfter exampleStripe refl;
 }
 
 -- two sequences of steps that end quiet: the rounds, and a shorter one in another order
@@ -80,55 +87,6 @@ exampleEnd =
     let sums : List ℕ = (0 ∷ 1 ∷ 1 ∷ 0 ∷ []) ++ replicate 12 0 in
     record { plan = 1; level = 2; symbols = exampleAfter ++ replicate 235 0; marks = replicate 8 0; sums = sums ++ sums ++ replicate 96 0 }
 
-other-ends : walk otherOrder (fresh 1 exampleStripe exampleMarks) ≡ exampleEnd
-unfolding if_then_else_ upFrom _⊕_ size double times mul dot gf2 flatMap
-    any all only same zeros vanish first rest beside bitsOf sumsOf options before oneOfEach choices loose dependent fillings fillBy fill
-    allOnes bitChecks locations1 plan1 known planOf noLevel levelOf checksTo rowAt marksAt
-    firstFailed unasked inMemory marksFit allBelow unmarkedBelow symbolsFit sumsAt sumsFit levelFits benchRefusal
-    fresh stepped unlessRefused rowFill putRow rowStepBy rowStep lossy across checkFill isNone vectorIn levelFill keepSums raise levelStepBy levelStep
-    exampleStripe exampleMarks exampleAfter exampleEnd
-other-ends = refl
-
-end-quiet : Quiet exampleEnd
-unfolding if_then_else_ upFrom _⊕_ size double times mul dot gf2 flatMap
-    any all only same zeros vanish first rest beside bitsOf sumsOf options before oneOfEach choices loose dependent fillings fillBy fill
-    allOnes bitChecks locations1 plan1 known planOf noLevel levelOf checksTo rowAt marksAt
-    firstFailed unasked inMemory marksFit allBelow unmarkedBelow symbolsFit sumsAt sumsFit levelFits benchRefusal
-    stepped unlessRefused rowFill putRow rowStepBy rowStep levelStep exampleAfter exampleEnd
-end-quiet (onRow zero) = refl
-end-quiet (onRow (suc zero)) = refl
-end-quiet (onRow (suc (suc zero))) = refl
-end-quiet (onRow (suc (suc (suc r)))) = row-outside exampleEnd (suc (suc (suc r))) (omega arith)
-end-quiet onLevel = refl
-
-pub other-quiet : Quiet (walk otherOrder (fresh 1 exampleStripe exampleMarks))
-other-quiet = subst Quiet (sym other-ends) end-quiet
-
--- ---- the second demand's: an answer of each kind, out of the bench sheet's table
-
-module _ (i : ℕ) where
-  -- what mending answers in case i
-  abbrev answers : List Case → Answer
-  answers cs = getD (map (λ (c : Case). c .report .answer) cs) i Stuck
-
-pub is-restored : mendReport 1 exampleStripe exampleMarks .answer ≡ Restored
-unfolding restored stuck clashed unchanged blankRestored cases done
-is-restored = ap (answers 1) (sheet .mending)
-
-pub is-stuck : mendReport 1 blank (row1 (0 ∷ 1 ∷ 3 ∷ 6 ∷ [])) .answer ≡ Stuck
-unfolding restored stuck clashed unchanged blankRestored cases done
-is-stuck = ap (answers 3) (sheet .mending)
-
--- and a codeword that agrees with what is Stuck: the stripe itself
-pub blank-word : Codeword 1 blank
-unfolding if_then_else_ upFrom _⊕_ size double times mul dot gf2 all vanish sumsOf allOnes bitChecks locations1 plan1 planOf noLevel levelOf rowAt
-    allBelow across rowsHold totalsHold isCodeword blank
-blank-word = record { long = refl; symbols = tt; holds = tt }
-
-pub is-clash : mendReport 1 (set blank 0 1) (0 ∷ 0 ∷ 0 ∷ []) .answer ≡ Clash (Row 0 1)
-unfolding restored stuck clashed unchanged blankRestored cases done
-is-clash = ap (answers 7) (sheet .mending)
-
 -- ---- the stopping's: the standing of the example after its first round, rows 0 and 2 restored
 
 unfoldable pub exampleRound : Standing
@@ -142,14 +100,50 @@ exampleRound = standingOf
     }
     0 (2 ∷ 0 ∷ 0 ∷ [])
 
-pub goes-on : turns 4 (begun 1 exampleStripe exampleMarks) ≡ on exampleRound
+pub example-walks :
+    (walk otherOrder (fresh 1 exampleStripe exampleMarks) ≡ exampleEnd) × (turns 4 (begun 1 exampleStripe exampleMarks) ≡ on exampleRound)
+    -- and silence's: a place that is still marked after a step, column 0 of row 1, once row 0 is filled
+    × (getD (marksOf (planOf 1) (walk (onRow 0 ∷ []) (fresh 1 exampleStripe exampleMarks) .marks)) 7 true ≡ true)
 unfolding if_then_else_ upFrom _⊕_ size double times mul dot gf2 flatMap
-    any all only same zeros vanish first rest bitsOf sumsOf options before choices loose dependent fillings fillBy fill
-    allOnes bitChecks locations1 plan1 known planOf noLevel levelOf checksTo rowAt marksAt
-    firstFailed unasked inMemory marksFit allBelow unmarkedBelow symbolsFit sumsAt sumsFit levelFits benchRefusal
+    any all only same zeros vanish first rest beside bitsOf sumsOf options before oneOfEach choices loose dependent fillings fillBy fill
+    allOnes bitChecks locations1 plan1 known planOf noLevel levelOf checksTo rowAt marksAt marksOf
+    firstFailed unasked marksFit allBelow unmarkedBelow symbolsFit sumsAt sumsFit levelFits benchTests benchRefusal
     fresh stepped unlessRefused rowFill putRow rowStepBy rowStep lossy across checkFill isNone vectorIn levelFill keepSums raise levelStepBy levelStep
-    more afterRow afterLevel takeTurn goOn turns exampleStripe exampleMarks exampleAfter exampleEnd exampleRound beside oneOfEach
-goes-on = refl
+    more afterRow afterLevel takeTurn goOn turns exampleStripe exampleMarks exampleAfter exampleEnd exampleRound
+example-walks = (refl, refl, refl)
+
+end-quiet : Quiet exampleEnd
+unfolding if_then_else_ upFrom _⊕_ size double times mul dot gf2 flatMap
+    any all only same zeros vanish first rest beside bitsOf sumsOf options before oneOfEach choices loose dependent fillings fillBy fill
+    allOnes bitChecks locations1 plan1 known planOf noLevel levelOf checksTo rowAt marksAt
+    firstFailed unasked marksFit allBelow unmarkedBelow symbolsFit sumsAt sumsFit levelFits benchTests benchRefusal
+    stepped unlessRefused rowFill putRow rowStepBy rowStep levelStep exampleAfter exampleEnd
+end-quiet (onRow zero) = refl
+end-quiet (onRow (suc zero)) = refl
+end-quiet (onRow (suc (suc zero))) = refl
+end-quiet (onRow (suc (suc (suc r)))) = row-outside exampleEnd (suc (suc (suc r))) (omega arith)
+end-quiet onLevel = refl
+
+pub other-quiet : Quiet (walk otherOrder (fresh 1 exampleStripe exampleMarks))
+other-quiet = subst Quiet (sym (example-walks .0)) end-quiet
+
+-- ---- the second demand's: an answer of each kind, out of the bench sheet's table
+
+module _ (i : ℕ) where
+  -- what mending answers in case i
+  abbrev answers : List Case → Answer
+  answers cs = getD (map (λ (c : Case). c .report .answer) cs) i Stuck
+
+pub answered :
+    (mendReport 1 exampleStripe exampleMarks .answer ≡ Restored) × (mendReport 1 blank (row1 (0 ∷ 1 ∷ 3 ∷ 6 ∷ [])) .answer ≡ Stuck)
+    × (mendReport 1 (set blank 0 1) (0 ∷ 0 ∷ 0 ∷ []) .answer ≡ Clash (Row 0 1))
+unfolding restored stuck clashed unchanged blankRestored cases done
+answered = (ap (answers 1) (sheet .mending), ap (answers 3) (sheet .mending), ap (answers 7) (sheet .mending))
+
+-- and a codeword that agrees with what is Stuck: the stripe itself
+pub blank-word : Codeword 1 blank
+unfolding plan1 planOf blankOf blank
+blank-word = blank-codeword 1
 
 -- ---- the counts' premises: the example again, which has 1, 3 and 1 marks in a row
 
@@ -162,18 +156,11 @@ counts-met = (omega arith, (omega arith, tt))
 unfoldable pub fewMarks : List ℕ
 fewMarks = 2 ∷ 16 ∷ 4 ∷ []
 
-pub few-fit : Fit 1 exampleStripe fewMarks
-unfolding if_then_else_ upFrom size gf2 all first rest beside bitsOf plan1 known planOf rowAt marksAt
-    firstFailed unasked inMemory stripeFits wordsFit marksFit unmarkedBelow symbolsFit lentRefusal exampleStripe fewMarks
-few-fit = refl
-
-pub few-agree : Agree 1 fewMarks exampleAfter exampleStripe
-unfolding if_then_else_ upFrom flatMap first rest beside bitsOf plan1 planOf marksAt marksOf exampleStripe exampleAfter fewMarks taken
-few-agree = let ms = marksOf (planOf 1) fewMarks in alike-at ms exampleAfter exampleStripe (taken-alike ms exampleAfter exampleStripe refl)
-
-pub few-enough : total fewMarks < distance 1
-unfolding ones onesIn total distance fewMarks
-few-enough = omega arith
+pub few-marks : Fit 1 exampleStripe fewMarks × Agree 1 fewMarks exampleAfter exampleStripe × (total fewMarks < distance 1)
+unfolding if_then_else_ upFrom flatMap size gf2 all first rest beside bitsOf plan1 known planOf rowAt marksAt marksOf
+    firstFailed unasked stripeFits wordsFit marksFit unmarkedBelow symbolsFit lentTests lentRefusal exampleStripe exampleAfter fewMarks taken
+    ones onesIn total distance
+few-marks = (refl, agree 1 fewMarks exampleAfter exampleStripe refl, omega arith)
 
 -- ---- encoding's and extraction's: the bench sheet's data, the example's codeword, and buffers of the plan's lengths
 
@@ -194,46 +181,28 @@ otherStripe = set (set exampleStripe 1 255) 7 7
 
 pub same-unmarked : SameUnmarked 1 exampleMarks exampleStripe otherStripe
 unfolding if_then_else_ upFrom flatMap first rest beside bitsOf plan1 planOf marksAt marksOf exampleStripe exampleMarks otherStripe taken
-same-unmarked = record {
-  long = refl;
-  agree = let ms = marksOf (planOf 1) exampleMarks in alike-at ms exampleStripe otherStripe (taken-alike ms exampleStripe otherStripe refl);
-}
+same-unmarked = record { long = refl; agree = agree 1 exampleMarks exampleStripe otherStripe refl }
 
 pub same-benches : SameButMarks (fresh 1 exampleStripe exampleMarks) (fresh 1 otherStripe exampleMarks)
 same-benches = fresh-same 1 exampleMarks exampleStripe otherStripe same-unmarked (example .fit)
 
--- files that differ in a byte under a mark: one is read, the other is refused with 22
-pub same-file : SameFile exampleFile (withByte 21 1)
-unfolding upFrom flatMap first rest bitsOf plan1 planOf marksAt marksOf marksOffset symbolsOffset planIn wordAt marksIn symbolsIn
-    exampleFile withByte taken beside if_then_else_
-same-file = record {
-  long = refl;
-  before = refl;
-  agree =
-      let ms = marksOf (planOf 1) (marksIn exampleFile) in
-      alike-at ms (symbolsIn exampleFile) (symbolsIn (withByte 21 1)) (taken-alike ms (symbolsIn exampleFile) (symbolsIn (withByte 21 1)) refl);
-}
-
-pub read-and-22 : (readRefusal exampleFile blank noMarks ≡ 0) × (readRefusal (withByte 21 1) blank noMarks ≡ 22)
-read-and-22 = (file-order .8, file-order .7)
-
--- and two that are both refused, with 13: the first unmarked symbol is 2
-pub same-unfit : SameFile (withByte 20 2) (withBytes 20 2 21 1)
+-- files that differ in a byte under a mark: one is read, the other is refused with 22; and two whose first unmarked symbol is 2
+pub same-files : SameFile exampleFile (withByte 21 1) × SameFile (withByte 20 2) (withBytes 20 2 21 1)
 unfolding upFrom flatMap first rest bitsOf plan1 planOf marksAt marksOf marksOffset symbolsOffset planIn wordAt marksIn symbolsIn
     exampleFile withByte withBytes taken beside if_then_else_
-same-unfit = record {
-  long = refl;
-  before = refl;
-  agree =
-      let ms = marksOf (planOf 1) (marksIn exampleFile) in
-      let f = symbolsIn (withByte 20 2) in
-      let g = symbolsIn (withBytes 20 2 21 1) in
-      alike-at ms f g (taken-alike ms f g refl);
-}
+same-files = (
+  record { long = refl; before = refl; agree = agree 1 (marksIn exampleFile) (symbolsIn exampleFile) (symbolsIn (withByte 21 1)) refl },
+  record { long = refl; before = refl; agree = agree 1 (marksIn exampleFile) (symbolsIn (withByte 20 2)) (symbolsIn (withBytes 20 2 21 1)) refl },
+)
 
+pub read-and-22 : (readRefusal exampleFile blank noMarks ≡ 0) × (readRefusal (withByte 21 1) blank noMarks ≡ 22)
+unfolding blank noMarks
+read-and-22 = (file-order .8, file-order .7)
+
+-- the two are both refused, with 13
 pub both-13 : (fileRefusal (withByte 20 2) unasked ≡ 13) × (fileRefusal (withBytes 20 2 21 1) unasked ≡ 13)
 unfolding if_then_else_ upFrom size gf2 flatMap all same bitsOf plan1 known noPlan planOf rowAt marksAt marksOf
-    firstFailed unasked inFile marksFit unmarkedBelow symbolsFit
+    firstFailed unasked marksFit unmarkedBelow symbolsFit
     bytes2 marksOffset symbolsOffset fileLength headerOf blanked planIn wordAt marksIn symbolsIn fileRefusal exampleFile withByte withBytes first rest beside
 both-13 = (refl, refl)
 
@@ -242,15 +211,6 @@ pub still-marked : getD (marksOf (planOf 1) (mendMarks 1 blank (row1 (0 ∷ 1 �
 unfolding upFrom flatMap bitsOf plan1 planOf marksAt marksOf wordOf restored stuck clashed unchanged blankRestored row1 cases done
 still-marked =
     ap (λ (cs : List Case). getD (marksOf (planOf 1) (getD (map (λ (c : Case). c .marksAfter) cs) 3 [])) 7 true) (sheet .mending)
-
--- a place that is still marked after a step: the same column, once row 0 is filled
-pub marked-after : getD (marksOf (planOf 1) (walk (onRow 0 ∷ []) (fresh 1 exampleStripe exampleMarks) .marks)) 7 true ≡ true
-unfolding if_then_else_ upFrom _⊕_ size double times mul dot gf2 flatMap
-    any all only same zeros vanish first rest beside bitsOf sumsOf options before oneOfEach choices loose dependent fillings fillBy fill
-    allOnes bitChecks locations1 plan1 known planOf noLevel levelOf checksTo rowAt marksAt marksOf
-    firstFailed unasked inMemory marksFit allBelow unmarkedBelow symbolsFit sumsAt sumsFit levelFits benchRefusal
-    fresh stepped unlessRefused rowFill putRow rowStepBy rowStep exampleStripe exampleMarks
-marked-after = refl
 
 -- ---- the room's: a bench that differs from the example's fresh one wherever a step may not read
 
@@ -285,17 +245,13 @@ pub refusals :
     × (benchRefusal otherRoom (ltb 3 (planOf (otherRoom .plan) .rows)) ≡ 14) × (benchRefusal empty unasked ≡ 10)
 unfolding if_then_else_ upFrom _⊕_ size double times mul dot gf2 flatMap all only vanish first rest beside bitsOf sumsOf
     allOnes bitChecks wordOf locations1 plan1 known planOf noLevel levelOf checksTo rowAt marksAt marksOf
-    firstFailed unasked inMemory inFile stripeFits wordsFit marksFit allBelow unmarkedBelow symbolsFit sumsAt sumsFit levelFits lentRefusal benchRefusal
+    firstFailed unasked stripeFits wordsFit marksFit allBelow unmarkedBelow symbolsFit sumsAt sumsFit levelFits lentTests lentRefusal benchTests benchRefusal
     empty across rowsHold totalsHold isCodeword checkPlacesOf carried encodeRefusal extractRefusal
     marksOffset symbolsOffset fileLength writeRefusal planIn fileRefusal readRefusal blank exampleStripe exampleMarks otherRoom
 refusals = (refl, refl, refl, refl, refl, refl, refl)
 
 -- ---- the parameters': the zero row and stripe, which are light
 
-pub light-row : RowWord 1 (replicate 7 0) × (weight (replicate 7 0) < rowDistance 1)
-unfolding if_then_else_ _⊕_ size double times mul dot gf2 all vanish sumsOf allOnes plan1 planOf levelOf allBelow weight rowDistance
-light-row = (record { long = refl; symbols = tt; holds = tt }, omega arith)
-
-pub light-word : Codeword 1 blank × (weight blank < distance 1)
-unfolding weight distance blank
-light-word = (blank-word, omega arith)
+pub light : RowWord 1 (replicate 7 0) × (weight (replicate 7 0) < rowDistance 1) × Codeword 1 blank × (weight blank < distance 1)
+unfolding if_then_else_ _⊕_ size double times mul dot gf2 all vanish sumsOf allOnes plan1 planOf levelOf allBelow weight rowDistance distance blank
+light = (record { long = refl; symbols = tt; holds = tt }, omega arith, blank-word, omega arith)

@@ -8,18 +8,19 @@ use lib.ListN.{length, replicate, set}
 use Rattle.field.specs.Lists.{if_then_else_, upFrom}
 use Rattle.field.specs.Field.{_⊕_, size, double, times, mul, dot, gf16}
 use Rattle.field.specs.Power.{power}
-use Rattle.linear.specs.Lists.{any, all, only, same, zeros, vanish, first, rest, beside}
-use Rattle.linear.specs.Marks.{bitsOf}
-use Rattle.linear.specs.Fill.{sumsOf, options, before, choices, loose, dependent, fillings, fillBy, fill, oneOfEach}
-use Rattle.plans.specs.Plan.{allOnes, wordOf, locations3, powers3, plan3, known, noPlan, planOf, noLevel, levelOf, checksTo, rowAt, marksAt, marksOf, across, checkPlacesOf, carried, marksOffset, symbolsOffset, fileLength}
-use Rattle.plans.specs.Refusal.{firstFailed, unasked, inMemory, inFile, stripeFits, wordsFit, marksFit, allBelow, unmarkedBelow, symbolsFit, sumsAt, sumsFit, levelFits, lentRefusal, benchRefusal}
+use Rattle.fills.specs.Lists.{any, all, only, same, zeros, vanish, first, rest, beside}
+use Rattle.fills.specs.Marks.{bitsOf}
+use Rattle.fills.specs.Fill.{sumsOf, options, before, choices, loose, dependent, fillings, fillBy, fill, oneOfEach}
+use Rattle.plans.specs.Plan.{allOnes, wordOf, locations3, powers3, plan3, known, noPlan, planOf, noLevel, levelOf, checksTo, rowAt, marksAt, marksOf, checkPlacesOf, carried, marksOffset, symbolsOffset, fileLength}
+use Rattle.plans.specs.Refusal.{firstFailed, unasked, stripeFits, wordsFit, marksFit, allBelow, unmarkedBelow, symbolsFit, sumsAt, sumsFit, levelFits, lentRefusal, benchRefusal, lentTests, benchTests}
 use Rattle.steps.specs.Steps.{fresh, stepped, unlessRefused, rowFill, putRow, rowStepBy, rowStep}
 use Rattle.steps.specs.Rounds.{on, more, afterRow, takeTurn, goOn, turns}
 use Rattle.steps.specs.Parts.{standingOf}
-use Rattle.repair.specs.Mending.{mended, bare, turnReport, mendReport}
-use Rattle.codewords.specs.Codeword.{rowsHold, totalsHold, isCodeword}
+use Rattle.repair.specs.Mending.{mended, turnReport, mendReport}
+use Rattle.rounds.specs.Reports.{bare}
 use Rattle.encoding.specs.Data.{encodeRefusal}
-use Rattle.repair.specs.File.{bytes2, headerOf, blanked, planIn, wordAt, marksIn, symbolsIn, fileRefusal, readRefusal}
+use Rattle.words.specs.Words.{bytes2, wordAt}
+use Rattle.files.specs.File.{headerOf, blanked, planIn, marksIn, symbolsIn, fileRefusal, readRefusal}
 use Rattle.plans.specs.declared.Answer.the-variants.{Clash}
 use Rattle.plans.specs.declared.Place.the-variants.{Row}
 use Rattle.repair.proofs.Samples.{rowOf, sample3, samples}
@@ -28,26 +29,23 @@ use Rattle.demands.specs.Second.{IsEncoding}
 use Rattle.demands.specs.Stopping.{begun}
 use Rattle.demands.specs.Silence.{SameFile}
 use Rattle.demands.proofs.Encoding.{codewords-are-encodings}
+use Rattle.demands.proofs.Distance.{blankOf, blank-codeword}
 use Rattle.demands.proofs.Samples.{plans-known}
 
 unfoldable pub blank3 : List ℕ
 blank3 = replicate 120 0
 
 pub blank-word : Codeword 3 blank3
-unfolding if_then_else_ upFrom _⊕_ size double times mul dot gf16 power all vanish sumsOf allOnes locations3 powers3 plan3 planOf noLevel levelOf rowAt
-    allBelow across rowsHold totalsHold isCodeword blank3
-blank-word = record { long = refl; symbols = tt; holds = tt }
+unfolding plan3 planOf blankOf blank3
+blank-word = blank-codeword 3
 
 -- ---- encoding and extraction
 
-pub encode-fits : encodeRefusal 3 (replicate 98 0) blank3 ≡ 0
-unfolding if_then_else_ upFrom size gf16 flatMap all only bitsOf plan3 wordOf known planOf marksAt marksOf
-    firstFailed unasked inMemory stripeFits allBelow checkPlacesOf carried encodeRefusal blank3
-encode-fits = refl
-
 pub lengths-fit : (length (replicate {A = ℕ} 98 0) ≡ carried (planOf 3)) × (length blank3 ≡ planOf 3 .rows * planOf 3 .columns)
-unfolding if_then_else_ upFrom flatMap only bitsOf plan3 wordOf planOf marksAt marksOf checkPlacesOf carried blank3
-lengths-fit = (refl, refl)
+    × (encodeRefusal 3 (replicate 98 0) blank3 ≡ 0)
+unfolding if_then_else_ upFrom size gf16 flatMap all only bitsOf plan3 wordOf known planOf marksAt marksOf
+    firstFailed unasked stripeFits allBelow checkPlacesOf carried encodeRefusal blank3
+lengths-fit = (refl, refl, refl)
 
 pub sample-word : Codeword 3 sample3
 unfolding upFrom flatMap size gf16 all plan3 planOf allBelow rowOf sample3
@@ -66,26 +64,20 @@ firstMark = 1 ∷ replicate 7 0
 
 pub lost-fit : Fit 3 lostFirst firstMark
 unfolding if_then_else_ upFrom size gf16 all bitsOf plan3 known planOf rowAt marksAt
-    firstFailed unasked inMemory stripeFits wordsFit marksFit unmarkedBelow symbolsFit lentRefusal blank3 lostFirst firstMark first rest beside
+    firstFailed unasked stripeFits wordsFit marksFit unmarkedBelow symbolsFit lentTests lentRefusal blank3 lostFirst firstMark first rest beside
 lost-fit = refl
 
--- its first turn restores row 0
-pub goes-on : turns 1 (begun 3 lostFirst firstMark) ≡ on (standingOf (fresh 3 blank3 (replicate 8 0)) 1 (1 ∷ 0 ∷ 0 ∷ []))
+-- its first turn restores row 0; and a Clash: one symbol of row 0 is not 0
+pub mends :
+    (turns 1 (begun 3 lostFirst firstMark) ≡ on (standingOf (fresh 3 blank3 (replicate 8 0)) 1 (1 ∷ 0 ∷ 0 ∷ [])))
+    × (mendReport 3 (set blank3 0 1) (replicate 8 0) .answer ≡ Clash (Row 0 1))
 unfolding if_then_else_ upFrom _⊕_ size double times mul dot gf16 power flatMap
     any all only same zeros vanish first rest bitsOf sumsOf options before choices loose dependent fillings fillBy fill
     allOnes locations3 powers3 plan3 known planOf noLevel levelOf checksTo rowAt marksAt
-    firstFailed unasked inMemory marksFit allBelow unmarkedBelow symbolsFit sumsAt sumsFit levelFits benchRefusal
-    fresh stepped unlessRefused rowFill putRow rowStepBy rowStep more afterRow takeTurn goOn turns blank3 lostFirst firstMark beside oneOfEach
-goes-on = refl
-
--- a Clash: one symbol of row 0 is not 0
-pub is-clash : mendReport 3 (set blank3 0 1) (replicate 8 0) .answer ≡ Clash (Row 0 1)
-unfolding if_then_else_ upFrom _⊕_ size double times mul dot gf16 power flatMap
-    any all only same zeros vanish first rest bitsOf sumsOf options before choices loose dependent fillings fillBy fill
-    allOnes locations3 powers3 plan3 known planOf noLevel levelOf checksTo rowAt marksAt
-    firstFailed unasked inMemory stripeFits wordsFit marksFit allBelow unmarkedBelow symbolsFit sumsAt sumsFit levelFits lentRefusal benchRefusal
-    fresh stepped unlessRefused rowFill rowStepBy rowStep more afterRow takeTurn goOn turns mended bare turnReport mendReport blank3 beside oneOfEach
-is-clash = refl
+    firstFailed unasked stripeFits wordsFit marksFit allBelow unmarkedBelow symbolsFit sumsAt sumsFit levelFits lentTests lentRefusal benchTests benchRefusal
+    fresh stepped unlessRefused rowFill putRow rowStepBy rowStep more afterRow takeTurn goOn turns mended bare turnReport mendReport
+    blank3 lostFirst firstMark beside oneOfEach
+mends = (refl, refl)
 
 -- ---- reading: files of zeros with a mark on the first symbol
 
@@ -106,6 +98,6 @@ pub reads :
     (readRefusal (file3 0 0) blank3 (replicate 8 0) ≡ 0) × (readRefusal (file3 5 0) blank3 (replicate 8 0) ≡ 22)
     × (fileRefusal (file3 0 16) unasked ≡ 13) × (fileRefusal (file3 5 16) unasked ≡ 13)
 unfolding if_then_else_ upFrom size gf16 flatMap all same bitsOf plan3 known noPlan planOf rowAt marksAt marksOf
-    firstFailed unasked inFile stripeFits wordsFit marksFit unmarkedBelow symbolsFit
+    firstFailed unasked stripeFits wordsFit marksFit unmarkedBelow symbolsFit
     bytes2 marksOffset symbolsOffset fileLength headerOf blanked planIn wordAt marksIn symbolsIn fileRefusal readRefusal blank3 file3 first rest beside
 reads = (refl, refl, refl, refl)

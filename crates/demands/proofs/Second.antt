@@ -1,5 +1,5 @@
 -- The second demand: what Restored, Clash and Stuck mean. Assumes nothing.
-use mathlib.Core.Path.{_≡_, refl, sym, ap, _∙_, subst, subst₂}
+use mathlib.Core.Path.{_≡_, refl, sym, ap, _∙_, subst}
 use mathlib.Core.Logic.{_⊎_, inl, inr}
 use mathlib.Core.Bool.{Bool, true, false}
 use mathlib.Core.List.{List}
@@ -10,11 +10,12 @@ use borrow.Author.Tests.{eqb-true}
 use lib.Dec.{T, eqb}
 use lib.ListN.{length, getD}
 use Rattle.field.specs.Lists.{if_then_else_}
-use Rattle.linear.specs.Lists.{only}
+use Rattle.fills.specs.Lists.{only}
 use Rattle.plans.specs.Plan.{planOf}
 use Rattle.steps.specs.Steps.{lossy, blocked, learned}
 use Rattle.steps.specs.Rounds.{Turn, on, end, clash}
-use Rattle.repair.specs.Mending.{mended, rowsLeft, endReport, bare, turnReport, turnStripe, turnMarks, mendReport, mendStripe, mendMarks}
+use Rattle.repair.specs.Mending.{mended, turnReport, turnStripe, turnMarks, mendReport, mendStripe}
+use Rattle.rounds.specs.Reports.{rowsLeft, endReport, bare}
 use Rattle.plans.specs.declared.Bench.{Bench}
 use Rattle.plans.specs.declared.Report.{Report}
 use Rattle.plans.specs.declared.Answer.the-variants.{Restored, Stuck}
@@ -24,6 +25,7 @@ use Rattle.demands.specs.Second.{IsRestored, RestoredMeans, ClashMeans, 
 use Rattle.demands.proofs.Held.{Held, rowTied, levelTied, wordSums, held-level, level-finds}
 use Rattle.demands.proofs.Left.{none-lossy, agrees-left, is-restored, not-refused, report-turn, stripe-turn, marks-turn, clash-turn}
 use Rattle.demands.proofs.Rounds.{settled-tied, Out, mended-out}
+use Rattle.demands.proofs.Leaving.{mending-by}
 
 pub restored-means : RestoredMeans
 unfolding if_then_else_ turnReport endReport bare turnStripe turnMarks
@@ -48,18 +50,8 @@ clash-means p stripe marks place e =
     let c = clash-turn p stripe marks place e in subst (Out p stripe marks (c .0)) (c .1) (mended-out p stripe marks (c .0))
 
 pub stuck-means : StuckMeans
-unfolding turnReport bare turnStripe turnMarks
 stuck-means p stripe marks e X word agree =
-    let fit = not-refused p stripe marks Stuck e (λ n q. let z : _≡_ {A = ℕ} 0 1 = cc in omega arith) in
-    go fit (mended p stripe marks) refl (mended-out p stripe marks fit)
-  where
-    go : (fit : Fit p stripe marks) (t : Turn) → mended p stripe marks ≡ t → Out p stripe marks fit t
-        → Agree p (mendMarks p stripe marks) X (mendStripe p stripe marks)
-    go fit (on m) q h = absurd h
-    go fit (end m) q h =
-        subst₂ (λ ms Y. Agree p ms X Y) (sym (marks-turn p stripe marks fit ∙ ap (λ t. turnMarks t marks) q))
-        (sym (stripe-turn p stripe marks fit ∙ ap (λ t. turnStripe t stripe) q)) (agrees-left p stripe marks fit m h X word agree)
-    go fit (clash place) q h = absurd (h X word agree)
+    mending-by p stripe marks (λ Y M. Agree p M X Y) agree (λ fit m h. agrees-left p stripe marks fit m h X word agree)
 
 -- ---- how Restored is shown
 

@@ -1,44 +1,43 @@
 -- Silence: what is answered and left behind does not depend on the bytes under marks. Assumes nothing.
-use mathlib.Core.Path.{_≡_, refl, sym, ap, ap₂, _∙_, subst, subst₂}
+use mathlib.Core.Path.{_≡_, refl, sym, ap, _∙_, subst, subst₂}
 use mathlib.Core.Logic.{inl, inr}
 use mathlib.Core.Bool.{Bool, true, false, _&&_}
 use mathlib.Core.List.{List, [], _∷_, _++_}
 use Prim.Native.Nat.{ℕ, zero, suc, _+_, _*_, _-_, _<_, _≤_}
 use native.Mathlib.Nat.{eq-zero-or-pos}
 use native.Mathlib.Omega.{arith}
-use lib.Dec.{T, eqb, ltb, eqb→eq, ltb→lt}
+use lib.Dec.{T, eqb, ltb, eqb→eq}
 use lib.ListN.{length, take, getD, set, replicate, length-append, length-take}
 use lib.Seq.{sets, length-sets, getD-set-other, getD-take}
 use Rattle.field.specs.Lists.{if_then_else_}
 use Rattle.field.specs.Field.{dot}
-use Rattle.linear.specs.Lists.{zeros}
-use Rattle.linear.specs.Marks.{bitsOf}
-use Rattle.linear.specs.Fill.{dependent, Fill, none, tied, one, vectorIn}
-use Rattle.linear.proofs.Choices.{Alike}
-use Rattle.linear.proofs.Filling.{fill-alike}
+use Rattle.fills.specs.Lists.{zeros}
+use Rattle.fills.specs.Marks.{bitsOf}
+use Rattle.fills.specs.Fill.{dependent, Fill, vectorIn}
+use Rattle.fills.proofs.Choices.{Alike}
+use Rattle.fills.proofs.Filling.{fill-alike}
 use Rattle.plans.specs.Plan.{Plan, Level, known, planOf, levelOf, checksTo, rowAt, marksAt, marksOf, across}
-use Rattle.plans.specs.Answers.{answerNumber, reportValues}
-use Rattle.plans.specs.Refusal.{unasked, inMemory, marksFit, sumsAt, sumsFit, levelFits, lentRefusal, benchRefusal}
-use Rattle.steps.specs.Steps.{fresh, empty, startedBy, started, stepped, unlessRefused, rowFill, putRow, rowStepBy, rowStep, lossy, checkFill, Learned, failing, blocked, learned, levelFill, raise, levelStepBy, levelStep}
+use Rattle.plans.specs.Refusal.{marksFit, sumsAt, sumsFit, levelFits, lentRefusal, benchRefusal, firstFailed, benchTests}
+use Rattle.steps.specs.Steps.{fresh, empty, startedBy, started, rowFill, putRow, rowStep, lossy, checkFill, levelFill, raise, levelStep}
 use Rattle.steps.specs.Rounds.{Standing, Turn, on, end, clash, more, nextRow, afterRow, afterLevel, takeTurn, goOn, turns}
-use Rattle.repair.specs.Mending.{mended, rowsLeft, endReport, turnReport, turnStripe, turnMarks, bare, mendStripe, mendMarks}
-use Rattle.repair.specs.Text.{item, grid, answerText, mendText}
+use Rattle.repair.specs.Mending.{mended, turnReport, turnStripe, turnMarks, mendStripe}
+use Rattle.rounds.specs.Reports.{rowsLeft, endReport, bare}
 use Rattle.steps.specs.Parts.{benchOf, standingOf}
 use Rattle.plans.specs.declared.Bench.{Bench}
 use Rattle.plans.specs.declared.Stepped.{Stepped}
 use Rattle.plans.specs.declared.Step.{Step}
 use Rattle.plans.specs.declared.Step.the-variants.{Whole, Filled, Tied, Raised, Blocked, Top, Clash, Refused}
 use Rattle.plans.specs.declared.Place.{Place}
-use Rattle.plans.specs.declared.Report.{Report}
 use Rattle.plans.specs.declared.Answer.the-variants.{Refused as Unmended}
 use Rattle.plans.proofs.Rows.{of-rows, row-other, marks-length}
-use Rattle.steps.proofs.Fit.{BenchFit, lent-fit, bench-fit, fresh-mark, fresh-row}
+use Rattle.steps.proofs.Fit.{lent-fit, fresh-mark, fresh-row}
 use Rattle.steps.proofs.Passing.{ends}
 use Rattle.steps.proofs.Sound.{filled-row}
-use Rattle.demands.specs.Words.{Fit, onRow, onLevel}
-use Rattle.demands.specs.Silence.{SameUnmarked, SameButMarks, SameStart, SilentStart, SameStep, SilentRowStep, SilentLevelStep, SilentWalk, SameMending, SilentMending, SilentText}
-use Rattle.demands.proofs.Alike.{alike-refl, alike-unmarked, rows-agree, clear-unmarked}
-use Rattle.demands.proofs.Blind.{sets-alike, sets-here, take-alike, append-behind, row-le, row-lengths, row-equal, marks-same, rows-alike, symbols-same, lent-same, grid-same}
+use Rattle.demands.specs.Words.{Fit, onRow, onLevel, SameStep}
+use Rattle.demands.specs.Silence.{SameUnmarked, SameButMarks, SameStart, SilentStart, SilentRowStep, SilentLevelStep, SilentWalk, SameMending, SilentMending}
+use Rattle.demands.proofs.Alike.{alike-refl, alike-unmarked, rows-agree, clear-unmarked, unmarked-in}
+use Rattle.demands.proofs.Blind.{sets-alike, append-behind, row-le, row-lengths, row-equal, marks-same, rows-alike, symbols-same, lent-same}
+use Rattle.demands.proofs.Room.{row-steps, level-steps}
 use Rattle.demands.proofs.Held.{alike-up}
 use Rattle.demands.proofs.Rounds.{Out, mended-out}
 use Rattle.demands.proofs.Left.{report-turn, stripe-turn, marks-turn}
@@ -125,9 +124,9 @@ module _ (b : Bench) (t : List ℕ) (h : SameUnmarked (b .plan) (b .marks) (b .s
   self = record { plan = refl; level = refl; marks = refl; sums = refl; stripe = h; beyond = beyond }
 
   refusal-same : (row : Bool) → benchRefusal b row ≡ benchRefusal c row
-  unfolding benchRefusal
+  unfolding benchTests benchRefusal
   refusal-same row =
-      ap (λ z. inMemory (known (b .plan)) unasked (levelFits P (b .level)) (marksFit P (b .marks)) (z && sumsFit P (b .level) (b .sums)) row unasked)
+      ap (λ z. firstFailed ((10, known (b .plan)) ∷ (15, levelFits P (b .level)) ∷ (12, marksFit P (b .marks)) ∷ (13, z && sumsFit P (b .level) (b .sums)) ∷ (14, row) ∷ []))
       (symbols-same (b .plan) (b .marks) s t h)
 
   row-fill-same : (r : ℕ) → r < P .rows → rowFill b r ≡ rowFill c r
@@ -162,7 +161,7 @@ module _ (b : Bench) (t : List ℕ) (h : SameUnmarked (b .plan) (b .marks) (b .s
       let l : length S ≡ length T = length-sets s (r * P .columns) row ∙ h .long ∙ sym (length-sets t (r * P .columns) row) in
       let ms = set (b .marks) r 0 in
       let here : rowAt P S r ≡ rowAt P T r =
-      row-equal P S T r l (λ x g. sets-here s t (r * P .columns) row (r * P .columns + x) (h .long) (omega arith) (omega (arith, wide))) in
+      row-equal P S T r l (λ x g. sets-alike s t (r * P .columns) row (r * P .columns + x) (h .long) (λ out. absurd (out (omega arith) (omega (arith, wide))))) in
       record {
         plan = refl;
         level = refl;
@@ -179,57 +178,27 @@ module _ (b : Bench) (t : List ℕ) (h : SameUnmarked (b .plan) (b .marks) (b .s
               (subst (λ w. Alike (bitsOf (P .columns) w) (rowAt P s k) (rowAt P t k)) (sym (getD-set-other (b .marks) r k 0 0 ne))
               (rows-alike (b .plan) (b .marks) s t h k g))));
         };
-        beyond = λ i g. sets-alike s t (r * P .columns) row i (h .long) (beyond i g);
+        beyond = λ i g. sets-alike s t (r * P .columns) row i (h .long) (λ out. beyond i g);
       }
 
-  -- refused alike
-  unless-same : (n : ℕ) (x y : Stepped) → (n ≡ 0 → SameStep x y) → SameStep (unlessRefused n b x) (unlessRefused n c y)
-  unfolding unlessRefused stepped
-  unless-same zero x y f = f refl
-  unless-same (suc n) x y f = record { answer = refl; bench = self }
-
-  own-row : (r : ℕ) → SameStep (rowStep b r) (rowStep c r)
-  unfolding rowStep rowStepBy stepped
+  own-row : (r : ℕ) → SameStep SameButMarks (rowStep b r) (rowStep c r)
   own-row r =
-      subst (λ n. SameStep (rowStep b r) (unlessRefused n c (rowStepBy c r (rowFill c r)))) (refusal-same (ltb r (P .rows)))
-      (unless-same (benchRefusal b (ltb r (P .rows))) (rowStepBy b r (rowFill b r)) (rowStepBy c r (rowFill c r)) (λ e.
-      let f = bench-fit b (ltb r (P .rows)) e in
-      let l : r < P .rows = ltb→lt r (P .rows) (f .1) in
-      subst (λ a. SameStep (rowStepBy b r (rowFill b r)) (rowStepBy c r a)) (row-fill-same r l) (go (f .0) l (rowFill b r) refl)))
-    where
-      go : BenchFit b → r < P .rows → (a : Fill) → rowFill b r ≡ a → SameStep (rowStepBy b r a) (rowStepBy c r a)
-      go f l tied e = record { answer = refl; bench = self }
-      go f l none e = record { answer = refl; bench = self }
-      go f l (one row) e = record { answer = refl; bench = put-same r row (filled-row b f r l row e .0) }
+      row-steps SameButMarks b t (b .marks) (b .sums) self refusal-same r (λ l. (row-fill-same r l, refl))
+      (λ f l row e. put-same r row (filled-row b f r l row e .0))
 
-  own-level : SameStep (levelStep b) (levelStep c)
-  unfolding if_then_else_ levelStep levelStepBy stepped raise
+  own-level : SameStep SameButMarks (levelStep b) (levelStep c)
+  unfolding raise
   own-level =
-      subst (λ n. SameStep (levelStep b) (unlessRefused n c (next c (ltb (b .level) (length (P .levels))) (levelFill c)))) (refusal-same unasked)
-      (unless-same (benchRefusal b unasked) (next b (ltb (b .level) (length (P .levels))) (levelFill b))
-      (next c (ltb (b .level) (length (P .levels))) (levelFill c)) (λ e.
-      subst (λ a. SameStep (next b (ltb (b .level) (length (P .levels))) (levelFill b)) (next c (ltb (b .level) (length (P .levels))) a))
-      level-fill-same (go (ltb (b .level) (length (P .levels))) (levelFill b))))
-    where
-      next : Bench → Bool → Learned → Stepped
-      next b low a = if low then levelStepBy b a else stepped b Top
-
-      go : (low : Bool) (a : Learned) → SameStep (next b low a) (next c low a)
-      go false a = record { answer = refl; bench = self }
-      go true blocked = record { answer = refl; bench = self }
-      go true failing = record { answer = refl; bench = self }
-      go true (learned cs) = record {
-        answer = refl;
-        bench = record { plan = refl; level = refl; marks = refl; sums = refl; stripe = h; beyond = beyond };
-      }
+      level-steps SameButMarks b t (b .marks) (b .sums) self refusal-same level-fill-same (λ f low cs e.
+      record { plan = refl; level = refl; marks = refl; sums = refl; stripe = h; beyond = beyond })
 
 pub silent-row-step : SilentRowStep
 silent-row-step b c r h =
-    subst (λ c. SameStep (rowStep b r) (rowStep c r)) (sym (other-is b c h)) (own-row b (c .symbols) (h .stripe) (h .beyond) r)
+    subst (λ c. SameStep SameButMarks (rowStep b r) (rowStep c r)) (sym (other-is b c h)) (own-row b (c .symbols) (h .stripe) (h .beyond) r)
 
 pub silent-level-step : SilentLevelStep
 silent-level-step b c h =
-    subst (λ c. SameStep (levelStep b) (levelStep c)) (sym (other-is b c h)) (own-level b (c .symbols) (h .stripe) (h .beyond))
+    subst (λ c. SameStep SameButMarks (levelStep b) (levelStep c)) (sym (other-is b c h)) (own-level b (c .symbols) (h .stripe) (h .beyond))
 
 pub silent-walk : SilentWalk
 silent-walk [] b c h = h
@@ -255,7 +224,7 @@ module _ (m : Standing) (t : List ℕ) (h : SameUnmarked (m .bench .plan) (m .be
   abbrev n : Standing
   n = standingOf other (m .turn) (m .restored)
 
-  after-row : (x y : Stepped) → SameStep x y → SameTurn (afterRow m (x .answer) (x .bench)) (afterRow n (y .answer) (y .bench))
+  after-row : (x y : Stepped) → SameStep SameButMarks x y → SameTurn (afterRow m (x .answer) (x .bench)) (afterRow n (y .answer) (y .bench))
   unfolding afterRow
   after-row x y e =
       subst (λ a. SameTurn (afterRow m (x .answer) (x .bench)) (afterRow n a (y .bench))) (e .answer) (go (x .answer))
@@ -273,7 +242,7 @@ module _ (m : Standing) (t : List ℕ) (h : SameUnmarked (m .bench .plan) (m .be
       go Top = next (m .restored)
       go (Refused k) = next (m .restored)
 
-  after-level : (x y : Stepped) → SameStep x y → SameTurn (afterLevel m (x .answer) (x .bench)) (afterLevel n (y .answer) (y .bench))
+  after-level : (x y : Stepped) → SameStep SameButMarks x y → SameTurn (afterLevel m (x .answer) (x .bench)) (afterLevel n (y .answer) (y .bench))
   unfolding afterLevel
   after-level x y e =
       subst (λ a. SameTurn (afterLevel m (x .answer) (x .bench)) (afterLevel n a (y .bench))) (e .answer) (go (x .answer))
@@ -341,12 +310,14 @@ module _ (p : ℕ) (marks s t : List ℕ) (h : SameUnmarked p marks s t) (fit : 
       long =
           length-take (length s) (m .bench .symbols) ∙ omega (arith, h .long, g .long) ∙ sym (length-take (length t) T);
       agree = λ i e.
-          take-alike (length s) (m .bench .symbols) T i (g .long)
-          (g .agree i
+          let l = unmarked-in (planOf p) (take (length marks) (m .bench .marks)) i e in
+          let f = lent-fit p s marks fit in
+          getD-take (length s) (m .bench .symbols) i 0 (omega (arith, f .long))
+          ∙ g .agree i
           (subst (λ q. getD (marksOf (planOf q) (m .bench .marks)) i true ≡ false) (sym q)
           (ap (λ ms. getD ms i true) (marks-same (planOf p) (m .bench .marks) (take (length marks) (m .bench .marks)) (λ r l.
-          sym (getD-take (length marks) (m .bench .marks) r 0 (omega (arith, lent-fit p s marks fit .words))))) ∙ e)))
-          ∙ ap (λ n. getD (take n T) i 0) (h .long);
+          sym (getD-take (length marks) (m .bench .marks) r 0 (omega (arith, f .words))))) ∙ e))
+          ∙ sym (getD-take (length t) T i 0 (omega (arith, f .long, h .long)));
     };
   }
 
@@ -392,13 +363,3 @@ silent-mending p marks s t h =
                 (subst₂ (SameUnmarked p marks) (sym (f .stripe-stays)) (sym (g .stripe-stays)) h);
           }
     ]
-
-pub silent-text : SilentText
-unfolding mendText
-silent-text p marks s t h =
-    let m = silent-mending p marks s t h in
-    ap₂ (λ (r : Report) rows.
-    item "plan " p ++ item " answer " (answerNumber (r .answer)) ++ answerText (r .answer) (reportValues (planOf p) r) rows)
-    (m .report)
-    (grid-same p (mendMarks p s marks) (mendStripe p s marks) (mendStripe p t marks) (m .stripes)
-    ∙ ap (grid (planOf p) (mendStripe p t marks)) (m .marks-left))

@@ -9,8 +9,8 @@ use lib.Arith.{le→nltb}
 use lib.Dec.{eqb, ltb, ltb→lt, lt→ltb, nltb→le}
 use lib.ListN.{length, getD}
 use Rattle.field.specs.Lists.{if_then_else_}
-use Rattle.linear.specs.Fill.{Fill, tied, none, one}
-use Rattle.linear.proofs.Tests.{either}
+use Rattle.fills.specs.Fill.{Fill, tied, none, one}
+use Rattle.fills.proofs.Tests.{either}
 use Rattle.plans.specs.Plan.{planOf}
 use Rattle.steps.specs.Steps.{fresh, stepped, rowFill, putRow, rowStepBy, rowStep, Learned, blocked, failing, learned, levelFill, levelStepBy, levelStep}
 use Rattle.steps.specs.Rounds.{Standing, Turn, on, end, clash, afterRow, afterLevel, takeTurn, goOn, turns}

@@ -11,13 +11,13 @@ use lib.ListN.{length, getD}
 use Rattle.field.specs.Lists.{if_then_else_}
 use Rattle.field.specs.Field.{Field, size}
 use Rattle.field.proofs.Laws.{IsField}
-use Rattle.linear.specs.Lists.{zeros, vanish, rest, plus}
-use Rattle.linear.specs.Fill.{sumsOf, Fill, none, tied, one, fill}
-use Rattle.linear.proofs.Choices.{Agrees, getD-first, getD-rest, agrees-length, agrees-alike, alike-at}
-use Rattle.linear.proofs.Vectors.{plus-length, plus-self, plus-cancel, sums-count, sums-plus}
-use Rattle.linear.proofs.Picked.{plus-undo}
-use Rattle.linear.proofs.Filling.{Dependency, Filling, Means, fill-means}
-use Rattle.linear.proofs.Spread.{over-agrees}
+use Rattle.fills.specs.Lists.{zeros, vanish, rest, plus}
+use Rattle.fills.specs.Fill.{sumsOf, Fill, none, tied, one, fill}
+use Rattle.fills.proofs.Choices.{Agrees, getD-first, getD-rest, agrees-length, agrees-alike, alike-at}
+use Rattle.fills.proofs.Vectors.{plus-length, plus-self, plus-cancel, sums-count, sums-plus}
+use Rattle.fills.proofs.Picked.{plus-undo}
+use Rattle.fills.proofs.Filling.{Dependency, Filling, Means, fill-means}
+use Rattle.fills.proofs.Spread.{over-agrees}
 use Rattle.plans.specs.Plan.{Plan, planOf, levelOf, checksTo, rowAt, marksAt}
 use Rattle.plans.specs.Refusal.{unasked, sumsAt, benchRefusal}
 use Rattle.steps.specs.Steps.{stepped, unlessRefused, rowFill, rowStepBy, rowStep, lossy, blocked, levelStepBy, levelStep}
@@ -75,38 +75,27 @@ module _ (b : Bench) (r : ℕ) where
   found = fill-means (P .field) (checksTo P (b .level)) (sumsAt P (b .level) (b .sums) r) (marksAt P (b .marks) r) (rowAt P (b .symbols) r)
 
   -- Tied is answered where the fill is tied, and Clash where it is none
-  answered-tied : (n : ℕ) (f : Fill) → unlessRefused n b (rowStepBy b r f) .answer ≡ Tied → f ≡ tied
+  answered : (n : ℕ) (f : Fill) → let a = unlessRefused n b (rowStepBy b r f) .answer in (a ≡ Tied → f ≡ tied) × (a ≡ Clash → f ≡ none)
   unfolding if_then_else_ unlessRefused rowStepBy stepped
-  answered-tied zero none e = let z : _≡_ {A = ℕ} 0 1 = cc in absurd (omega arith)
-  answered-tied zero tied e = refl
-  answered-tied zero (one row) e = absurd (by (eqb (getD (b .marks) r 0) 0) e)
+  answered zero none = (λ e. let z : _≡_ {A = ℕ} 0 1 = cc in absurd (omega arith), λ e. refl)
+  answered zero tied = (λ e. refl, λ e. let z : _≡_ {A = ℕ} 0 1 = cc in absurd (omega arith))
+  answered zero (one row) = by (eqb (getD (b .marks) r 0) 0)
     where
-      by : (z : Bool) → (if z then Whole else Filled) ≡ Tied → ⊥
-      by true e = let z : _≡_ {A = ℕ} 0 1 = cc in omega arith
-      by false e = let z : _≡_ {A = ℕ} 0 1 = cc in omega arith
-  answered-tied (suc n) f e = let z : _≡_ {A = ℕ} 0 1 = cc in absurd (omega arith)
-
-  answered-clash : (n : ℕ) (f : Fill) → unlessRefused n b (rowStepBy b r f) .answer ≡ Clash → f ≡ none
-  unfolding if_then_else_ unlessRefused rowStepBy stepped
-  answered-clash zero none e = refl
-  answered-clash zero tied e = let z : _≡_ {A = ℕ} 0 1 = cc in absurd (omega arith)
-  answered-clash zero (one row) e = absurd (by (eqb (getD (b .marks) r 0) 0) e)
-    where
-      by : (z : Bool) → (if z then Whole else Filled) ≡ Clash → ⊥
-      by true e = let z : _≡_ {A = ℕ} 0 1 = cc in omega arith
-      by false e = let z : _≡_ {A = ℕ} 0 1 = cc in omega arith
-  answered-clash (suc n) f e = let z : _≡_ {A = ℕ} 0 1 = cc in absurd (omega arith)
+      by : (z : Bool) → let a = if z then Whole else Filled in (a ≡ Tied → one row ≡ tied) × (a ≡ Clash → one row ≡ none)
+      by true = (λ e. let z : _≡_ {A = ℕ} 0 1 = cc in absurd (omega arith), λ e. let z : _≡_ {A = ℕ} 0 1 = cc in absurd (omega arith))
+      by false = (λ e. let z : _≡_ {A = ℕ} 0 1 = cc in absurd (omega arith), λ e. let z : _≡_ {A = ℕ} 0 1 = cc in absurd (omega arith))
+  answered (suc n) f = (λ e. let z : _≡_ {A = ℕ} 0 1 = cc in absurd (omega arith), λ e. let z : _≡_ {A = ℕ} 0 1 = cc in absurd (omega arith))
 
 pub tied-has-filling : TiedHasFilling
 unfolding rowStep
 tied-has-filling b r e =
-    let f = subst (Meaning b r) (answered-tied b r (benchRefusal b (ltb r (planOf (b .plan) .rows))) (rowFill b r) e) (found b r) .1 in
+    let f = subst (Meaning b r) (answered b r (benchRefusal b (ltb r (planOf (b .plan) .rows))) (rowFill b r) .0 e) (found b r) .1 in
     (f .0, filling-fills _ _ _ _ _ (f .0) (f .1))
 
 pub clash-has-none : ClashHasNone
 unfolding rowStep
 clash-has-none b r e w f =
-    subst (Meaning b r) (answered-clash b r (benchRefusal b (ltb r (planOf (b .plan) .rows))) (rowFill b r) e) (found b r) w (fills-filling _ _ _ _ _ w f)
+    subst (Meaning b r) (answered b r (benchRefusal b (ltb r (planOf (b .plan) .rows))) (rowFill b r) .1 e) (found b r) w (fills-filling _ _ _ _ _ w f)
 
 -- ---- two fillings of a tied row
 

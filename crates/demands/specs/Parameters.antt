@@ -6,8 +6,8 @@ use lib.Dec.{T}
 use lib.ListN.{length}
 use Rattle.field.specs.Lists.{weight}
 use Rattle.field.specs.Field.{size}
-use Rattle.linear.specs.Lists.{vanish}
-use Rattle.linear.specs.Fill.{sumsOf}
+use Rattle.fills.specs.Lists.{vanish}
+use Rattle.fills.specs.Fill.{sumsOf}
 use Rattle.plans.specs.Plan.{known, planOf, levelOf, carried}
 use Rattle.plans.specs.Refusal.{allBelow}
 use Rattle.demands.specs.Published.{symbolsCarried, rowDistance, distance}

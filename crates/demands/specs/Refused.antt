@@ -7,10 +7,11 @@ use lib.Dec.{ltb}
 use Rattle.plans.specs.Plan.{planOf}
 use Rattle.plans.specs.Refusal.{unasked, lentRefusal, benchRefusal}
 use Rattle.steps.specs.Steps.{empty, started, stepped, rowStep, levelStep}
-use Rattle.repair.specs.Mending.{bare, mendReport, mendStripe, mendMarks}
+use Rattle.repair.specs.Mending.{mendReport, mendStripe, mendMarks}
+use Rattle.rounds.specs.Reports.{bare}
 use Rattle.encoding.specs.Data.{encodeRefusal, extractRefusal, extractData}
 use Rattle.repair.specs.Encoding.{encodeStripe}
-use Rattle.repair.specs.File.{writeRefusal, writeFile, readRefusal, readStripe, readMarks}
+use Rattle.files.specs.File.{writeRefusal, writeFile, readRefusal, readStripe, readMarks}
 use Rattle.plans.specs.declared.Bench.{Bench}
 use Rattle.plans.specs.declared.Step.the-variants.{Refused}
 use Rattle.plans.specs.declared.Outcome.the-variants.{Refused as Undone}

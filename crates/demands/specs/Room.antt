@@ -4,11 +4,11 @@ use mathlib.Core.Path.{_≡_}
 use mathlib.Core.List.{List}
 use lib.ListN.{length, take, drop}
 use Rattle.plans.specs.Plan.{planOf, checksTo}
-use Rattle.plans.specs.Refusal.{sumPlaces, sumsAt}
+use Rattle.plans.specs.Refusal.{sumsAt}
+use Rattle.plans.specs.Rooms.{sumRoom}
 use Rattle.steps.specs.Steps.{rowStep, levelStep}
 use Rattle.plans.specs.declared.Bench.{Bench}
-use Rattle.plans.specs.declared.Stepped.{Stepped}
-use Rattle.demands.specs.Words.{Move, after, walk}
+use Rattle.demands.specs.Words.{Move, after, walk, SameStep}
 
 -- ---- not read
 
@@ -22,15 +22,11 @@ pub record SameRead (b c : Bench) : Type 0 where
   pub places : length (b .sums) ≡ length (c .sums)
 
 -- a step answers the same, and the benches agree again, at the level then reached
-pub record SameReadStep (x y : Stepped) : Type 0 where
-  pub answer : x .answer ≡ y .answer
-  pub bench : SameRead (x .bench) (y .bench)
-
 abbrev pub RowStepReads : Type 0
-RowStepReads = (b c : Bench) (r : ℕ) → SameRead b c → SameReadStep (rowStep b r) (rowStep c r)
+RowStepReads = (b c : Bench) (r : ℕ) → SameRead b c → SameStep SameRead (rowStep b r) (rowStep c r)
 
 abbrev pub LevelStepReads : Type 0
-LevelStepReads = (b c : Bench) → SameRead b c → SameReadStep (levelStep b) (levelStep c)
+LevelStepReads = (b c : Bench) → SameRead b c → SameStep SameRead (levelStep b) (levelStep c)
 
 -- and so for any sequence of steps
 abbrev pub WalkReads : Type 0
@@ -40,7 +36,7 @@ WalkReads = (ms : List Move) (b c : Bench) → SameRead b c → SameRead (walk m
 
 -- row r's places for sums
 abbrev pub placesAt : List ℕ → ℕ → List ℕ
-placesAt sums r = take sumPlaces (drop (r * sumPlaces) sums)
+placesAt sums r = take sumRoom (drop (r * sumRoom) sums)
 
 -- c came from b: the room beyond the plan's size, the sums learned before, and those of levels above c's are as they were
 pub record RoomKept (b c : Bench) : Type 0 where
@@ -48,7 +44,7 @@ pub record RoomKept (b c : Bench) : Type 0 where
   pub level : b .level ≤ c .level
   pub symbols : let P = planOf (b .plan) in drop (P .rows * P .columns) (c .symbols) ≡ drop (P .rows * P .columns) (b .symbols)
   pub marks : let P = planOf (b .plan) in drop (P .rows) (c .marks) ≡ drop (P .rows) (b .marks)
-  pub sums : let P = planOf (b .plan) in drop (P .rows * sumPlaces) (c .sums) ≡ drop (P .rows * sumPlaces) (b .sums)
+  pub sums : let P = planOf (b .plan) in drop (P .rows * sumRoom) (c .sums) ≡ drop (P .rows * sumRoom) (b .sums)
   pub before : let P = planOf (b .plan) in (r : ℕ) → r < P .rows → sumsAt P (b .level) (c .sums) r ≡ sumsAt P (b .level) (b .sums) r
   pub above : let P = planOf (b .plan) in let n = length (checksTo P (c .level)) in
       (r : ℕ) → r < P .rows → drop n (placesAt (c .sums) r) ≡ drop n (placesAt (b .sums) r)

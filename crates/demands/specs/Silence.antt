@@ -1,20 +1,16 @@
 -- Silence: no answer and no other byte depends on the byte under a mark, but for refusal 22 of a file.
 use Prim.Native.Nat.{ℕ, _*_, _≤_}
 use mathlib.Core.Path.{_≡_}
-use mathlib.Core.Logic.{_≢_}
 use mathlib.Core.Bool.{true}
 use mathlib.Core.List.{List}
 use lib.ListN.{length, take, getD}
 use Rattle.plans.specs.Plan.{planOf, marksOf, symbolsOffset}
-use Rattle.plans.specs.Refusal.{unasked}
 use Rattle.steps.specs.Steps.{started, rowStep, levelStep}
 use Rattle.repair.specs.Mending.{mendReport, mendStripe, mendMarks}
-use Rattle.repair.specs.File.{writeRefusal, writeFile, planIn, marksIn, symbolsIn, fileRefusal, readRefusal, readStripe, readMarks}
-use Rattle.repair.specs.Text.{mendText, printed}
+use Rattle.files.specs.File.{writeRefusal, writeFile, planIn, marksIn, symbolsIn, readRefusal, readStripe, readMarks}
 use Rattle.plans.specs.declared.Bench.{Bench}
-use Rattle.plans.specs.declared.Stepped.{Stepped}
 use Rattle.plans.specs.declared.Started.{Started}
-use Rattle.demands.specs.Words.{Agree, Move, walk}
+use Rattle.demands.specs.Words.{Agree, Move, walk, SameStep}
 
 -- ---- what differs only under marks
 
@@ -41,15 +37,11 @@ pub record SameStart (x y : Started) : Type 0 where
 abbrev pub SilentStart : Type 0
 SilentStart = (p : ℕ) (marks s t : List ℕ) → SameUnmarked p marks s t → SameStart (started p s marks) (started p t marks)
 
-pub record SameStep (x y : Stepped) : Type 0 where
-  pub answer : x .answer ≡ y .answer
-  pub bench : SameButMarks (x .bench) (y .bench)
-
 abbrev pub SilentRowStep : Type 0
-SilentRowStep = (b c : Bench) (r : ℕ) → SameButMarks b c → SameStep (rowStep b r) (rowStep c r)
+SilentRowStep = (b c : Bench) (r : ℕ) → SameButMarks b c → SameStep SameButMarks (rowStep b r) (rowStep c r)
 
 abbrev pub SilentLevelStep : Type 0
-SilentLevelStep = (b c : Bench) → SameButMarks b c → SameStep (levelStep b) (levelStep c)
+SilentLevelStep = (b c : Bench) → SameButMarks b c → SameStep SameButMarks (levelStep b) (levelStep c)
 
 -- and so for any sequence of steps
 abbrev pub SilentWalk : Type 0
@@ -76,10 +68,6 @@ abbrev pub MarkedKeep : Type 0
 MarkedKeep = (p : ℕ) (stripe marks : List ℕ) (i : ℕ) → getD (marksOf (planOf p) (mendMarks p stripe marks)) i true ≡ true
     → getD (mendStripe p stripe marks) i 0 ≡ getD stripe i 0
 
--- the text that is printed is the same
-abbrev pub SilentText : Type 0
-SilentText = (p : ℕ) (marks s t : List ℕ) → SameUnmarked p marks s t → mendText p s marks ≡ mendText p t marks
-
 -- ---- writing a file: the same refusal, and the same bytes
 
 abbrev pub SilentWriting : Type 0
@@ -103,7 +91,3 @@ pub data SameReading (f g stripe marks : List ℕ) : Type 0 where
 
 abbrev pub SilentReading : Type 0
 SilentReading = (f g stripe marks : List ℕ) → SameFile f g → SameReading f g stripe marks
-
--- the same is printed, where neither file is refused with 22
-abbrev pub SilentPrinting : Type 0
-SilentPrinting = (f g : List ℕ) → SameFile f g → fileRefusal f unasked ≢ 22 → fileRefusal g unasked ≢ 22 → printed f ≡ printed g

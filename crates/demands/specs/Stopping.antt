@@ -8,7 +8,8 @@ use Rattle.field.specs.Lists.{if_then_else_}
 use Rattle.plans.specs.Plan.{planOf}
 use Rattle.steps.specs.Steps.{fresh, rowStep, levelStep}
 use Rattle.steps.specs.Rounds.{Standing, Turn, on, end, clash, turns}
-use Rattle.repair.specs.Mending.{begunOn, mended}
+use Rattle.repair.specs.Mending.{mended}
+use Rattle.rounds.specs.Reports.{begunOn}
 use Rattle.plans.specs.declared.Stepped.{Stepped}
 use Rattle.plans.specs.declared.Step.the-variants.{Blocked, Top, Clash, Refused}
 use Rattle.plans.specs.declared.Place.the-variants.{Row, Across}

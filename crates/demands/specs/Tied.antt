@@ -7,8 +7,8 @@ use mathlib.Core.List.{List}
 use lib.Dec.{T}
 use lib.ListN.{length, getD}
 use Rattle.field.specs.Field.{Field, size}
-use Rattle.linear.specs.Lists.{zeros}
-use Rattle.linear.specs.Fill.{sumsOf, dependent}
+use Rattle.fills.specs.Lists.{zeros}
+use Rattle.fills.specs.Fill.{sumsOf, dependent}
 use Rattle.plans.specs.Plan.{planOf, levelOf, checksTo, rowAt, marksAt}
 use Rattle.plans.specs.Refusal.{sumsAt}
 use Rattle.steps.specs.Steps.{rowStep, lossy, levelStep}

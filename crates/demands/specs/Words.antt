@@ -8,12 +8,13 @@ use lib.Dec.{T, leb}
 use lib.ListN.{length, take, getD}
 use Rattle.field.specs.Lists.{upFrom}
 use Rattle.field.specs.Field.{size}
-use Rattle.linear.specs.Lists.{only}
+use Rattle.fills.specs.Lists.{only}
 use Rattle.plans.specs.Plan.{Plan, planOf, marksOf}
 use Rattle.plans.specs.Refusal.{allBelow, lentRefusal}
 use Rattle.steps.specs.Steps.{rowStep, levelStep}
 use Rattle.codewords.specs.Codeword.{isCodeword}
 use Rattle.plans.specs.declared.Bench.{Bench}
+use Rattle.plans.specs.declared.Stepped.{Stepped}
 use Rattle.demands.specs.Published.{counts}
 
 -- X is a codeword of plan p
@@ -48,6 +49,11 @@ walk (m ∷ ms) b = walk ms (after b m)
 -- no step would change anything
 abbrev pub Quiet : Bench → Type 0
 Quiet b = (m : Move) → after b m ≡ b
+
+-- two steps answer the same, and the benches that they leave are related by R
+pub record SameStep (R : Bench → Bench → Type 0) (x y : Stepped) : Type 0 where
+  pub answer : x .answer ≡ y .answer
+  pub bench : R (x .bench) (y .bench)
 
 -- n rounds
 unfoldable pub rounds : Plan → ℕ → List Move

@@ -1,22 +1,27 @@
 -- The check places as they are lent, what a call leaves, and extraction. Assumes nothing.
 use mathlib.Core.Path.{_≡_, refl, sym, ap, ap₂, _∙_}
+use mathlib.Core.Bool.{Bool, true, false, _&&_, and-comm}
 use mathlib.Core.List.{List}
 use Prim.Native.Nat.{ℕ, zero, suc, _*_, _≤_}
-use native.Mathlib.Omega.{arith}
 use borrow.Author.Tests.{eqb-true, eq-eqb, ne-eqb}
 use lib.Dec.{eqb, leb, eqb→eq, leb→le}
 use lib.ListN.{length, take}
 use Rattle.field.specs.Lists.{if_then_else_, upFrom}
 use Rattle.field.proofs.Words.{_&_}
-use Rattle.linear.specs.Lists.{all}
-use Rattle.plans.specs.Plan.{Plan, wordOf, plan1, plan2, plan3, noPlan, planOf, marksOf, checkPlacesOf, carried}
-use Rattle.plans.specs.Refusal.{inMemory, stripeFits}
-use Rattle.encoding.specs.Data.{taken, outcomeOf, extracted, extractRefusal, extractData}
+use Rattle.fills.specs.Lists.{all}
+use Rattle.plans.specs.Plan.{Plan, wordOf, plan1, plan2, plan3, noPlan, known, planOf, marksOf, checkPlacesOf, carried}
+use Rattle.plans.specs.Refusal.{stripeFits, allBelow}
 use Rattle.plans.specs.Tables.{padded, placeTable, unmarked}
+use Rattle.tables.specs.Tables.{FactsOf}
+use Rattle.tables.specs.declared.Facts.{Facts}
+use Rattle.codewords.specs.Codeword.{isCodeword}
+use Rattle.codewords.proofs.Verdicts.{its-symbols}
+use Rattle.plans.proofs.Refusals.{none-fails, passes, fails}
+use Rattle.encoding.specs.Asked.{Fits}
+use Rattle.encoding.specs.Data.{taken, outcomeOf, extracted, extractRefusal, extractData}
 use Rattle.plans.specs.declared.Outcome.the-variants.{Done, Refused}
 use Rattle.plans.proofs.Plans.{of-plans, all-plans}
 use Rattle.plans.proofs.Scan.{true-and}
-use Rattle.plans.proofs.Refusals.{passed}
 
 -- ---- the check places
 
@@ -48,9 +53,9 @@ module _ (p : ℕ) where
     pub lent-words : length (take rows words) ≡ P .rows
     lent-words = ap length lent-places ∙ words-count
 
-    pub lent-count : {n : ℕ} → n ≡ carried P → n ≡ unmarked (marksOf P (take rows words))
+    pub lent-fit : (ds stripe : List ℕ) → length ds ≡ carried P → length stripe ≡ P .rows * P .columns → Fits P (take rows words) ds stripe
     unfolding checkPlacesOf carried
-    lent-count e = e ∙ ap (λ w. unmarked (marksOf P w)) (sym lent-places)
+    lent-fit ds stripe e long = record { high = lent-words; room = e ∙ ap (λ w. unmarked (marksOf P w)) (sym lent-places); long = long }
 
 -- ---- outcomes
 
@@ -79,18 +84,44 @@ module _ {n k : ℕ} (e : n ≡ k) where
 
 -- ---- extraction
 
-module _ (p : ℕ) (stripe ds : List ℕ) {n : ℕ} (e : n ≡ extractRefusal p stripe ds) where
-  pub extract-fits : n ≡ 0 → (length ds ≡ carried (planOf p)) × (length stripe ≡ planOf p .rows * planOf p .columns)
-  unfolding inMemory stripeFits extractRefusal
-  extract-fits z =
-      let t11 = passed 11 _ _ (λ z. omega arith) (passed 10 _ _ (λ z. omega arith) (sym e ∙ z) .1) .0 in
-      let both = true-and _ _ t11 in (eqb-true _ _ (both .1), eqb-true _ _ (both .0))
-
-  pub extract-refused : (n ≡ 0 → ⊥) → (Refused n ≡ outcomeOf (extractRefusal p stripe ds)) × (ds ≡ extractData p stripe ds)
+module _ (p : ℕ) (stripe ds : List ℕ) where
+  -- refused by the number n
+  pub extract-refused : {n : ℕ} → n ≡ extractRefusal p stripe ds → (n ≡ 0 → ⊥)
+      → (Refused n ≡ outcomeOf (extractRefusal p stripe ds)) × (ds ≡ extractData p stripe ds)
   unfolding extractData
-  extract-refused ne = (outcome-refused e ne, left-old e _ _ ne)
+  extract-refused e ne = (outcome-refused e ne, left-old e _ _ ne)
 
-  pub extract-done : {words out : List ℕ} → n ≡ 0 → words ≡ planOf p .checkPlaces → out ≡ taken (marksOf (planOf p) words) stripe
-      → (Done ≡ outcomeOf (extractRefusal p stripe ds)) × (out ≡ extractData p stripe ds)
-  unfolding checkPlacesOf extracted extractData
-  extract-done z ew eo = (outcome-done e z, eo ∙ ap (λ w. taken (marksOf (planOf p) w) stripe) ew ∙ left-new e _ _ z)
+  pub refused-10 : known p ≡ false → 10 ≡ extractRefusal p stripe ds
+  unfolding extractRefusal
+  refused-10 f = sym (fails 10 _ f)
+
+  module _ {a : Bool} (lengths : a ≡ (eqb (length ds) (carried (planOf p)) && stripeFits (planOf p) stripe)) where
+    its-lengths : {b : Bool} → a ≡ b → (stripeFits (planOf p) stripe && eqb (length ds) (carried (planOf p))) ≡ b
+    its-lengths e = and-comm (stripeFits (planOf p) stripe) (eqb (length ds) (carried (planOf p))) ∙ sym lengths ∙ e
+
+    pub extract-fits : a ≡ true → (length stripe ≡ planOf p .rows * planOf p .columns) × (length ds ≡ carried (planOf p))
+    unfolding stripeFits
+    extract-fits fit =
+        let both = true-and (stripeFits (planOf p) stripe) (eqb (length ds) (carried (planOf p))) (its-lengths fit) in (eqb-true _ _ (both .0), eqb-true _ _ (both .1))
+
+    module _ (t : known p ≡ true) where
+      pub refused-11 : a ≡ false → 11 ≡ extractRefusal p stripe ds
+      unfolding extractRefusal
+      refused-11 f = sym (passes 10 _ t ∙ fails 11 _ (its-lengths f))
+
+      module _ (fit : a ≡ true) {f : Facts} (is : FactsOf (planOf p) f) {b : Bool} (below : b ≡ allBelow (f .field) stripe) where
+        pub refused-13 : b ≡ false → 13 ≡ extractRefusal p stripe ds
+        unfolding extractRefusal
+        refused-13 e = sym (passes 10 _ t ∙ passes 11 _ (its-lengths fit) ∙ fails 13 _ (its-symbols is stripe below e))
+
+        module _ (all : b ≡ true) {h : Bool} (holds : h ≡ isCodeword (planOf p) stripe) where
+          pub refused-16 : h ≡ false → 16 ≡ extractRefusal p stripe ds
+          unfolding extractRefusal
+          refused-16 e = sym (passes 10 _ t ∙ passes 11 _ (its-lengths fit) ∙ passes 13 _ (its-symbols is stripe below all) ∙ fails 16 _ (sym holds ∙ e))
+
+          pub extract-done : {words out : List ℕ} → h ≡ true → words ≡ planOf p .checkPlaces → out ≡ taken (marksOf (planOf p) words) stripe
+              → (Done ≡ outcomeOf (extractRefusal p stripe ds)) × (out ≡ extractData p stripe ds)
+          unfolding checkPlacesOf extractRefusal extracted extractData
+          extract-done e ew eo =
+              let none : 0 ≡ extractRefusal p stripe ds = sym (passes 10 _ t ∙ passes 11 _ (its-lengths fit) ∙ passes 13 _ (its-symbols is stripe below all) ∙ passes 16 _ (sym holds ∙ e) ∙ none-fails) in
+              (outcome-done none refl, eo ∙ ap (λ w. taken (marksOf (planOf p) w) stripe) ew ∙ left-new none _ _ refl)

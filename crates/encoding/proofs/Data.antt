@@ -9,13 +9,13 @@ use lib.Dec.{T}
 use lib.ListN.{length, take, drop}
 use Rattle.field.specs.Lists.{if_then_else_}
 use Rattle.field.proofs.Test.{both}
-use Rattle.linear.specs.Lists.{all, only, first, rest, beside}
-use Rattle.linear.proofs.Tests.{all-first, all-rest}
-use Rattle.linear.proofs.Choices.{Alike}
-use Rattle.linear.proofs.Beside.{drop-rest, beside-append, beside-front, beside-alike}
+use Rattle.fills.specs.Lists.{all, only, first, rest, beside}
+use Rattle.fills.proofs.Tests.{all-first, all-rest}
+use Rattle.fills.proofs.Choices.{Alike}
+use Rattle.fills.proofs.Beside.{drop-rest, beside-append, beside-front, beside-alike}
 use Rattle.encoding.specs.Data.{placed, taken}
 use Rattle.plans.specs.Tables.{unmarked}
-use Rattle.plans.proofs.Flat.{flat-append}
+use Rattle.words.proofs.Stores.{flat-append}
 
 -- ---- how much is put and taken
 

@@ -2,28 +2,28 @@
 use mathlib.Core.Path.{_≡_, refl, sym, ap, ap₂, _∙_}
 use mathlib.Core.Bool.{Bool, true, false}
 use mathlib.Core.List.{List, [], _∷_, _++_, map, flatMap, append-nil}
-use Prim.Native.Nat.{ℕ, zero, suc, _+_, _*_, _-_, _/_, _^_, _≤_, _<_}
+use Prim.Native.Nat.{ℕ, zero, suc, _+_, _*_, _-_, _≤_, _<_}
 use native.Mathlib.Nat.{add-zero, zero-add, add-suc, suc-add, le-of-eq}
 use native.Mathlib.Omega.{arith}
-use borrow.Author.Tests.{eq-eqb, ne-eqb}
 use lib.Dec.{eqb}
 use lib.ListN.{length, take, drop, getD, set, length-drop, drop-of-length-le}
 use lib.Seq.{sets, length-sets}
 use Rattle.field.specs.Lists.{if_then_else_, upFrom}
-use Rattle.field.proofs.Sum.{bit}
-use Rattle.linear.specs.Lists.{only, beside}
-use Rattle.basis.specs.Words.{bitAt}
-use Rattle.linear.specs.Marks.{bitsOf}
-use Rattle.linear.proofs.Marked.{length-bits}
-use Rattle.linear.proofs.Beside.{first-drop}
+use Rattle.fills.specs.Lists.{only, beside}
+use Rattle.equations.specs.Words.{bitAt}
+use Rattle.fills.specs.Marks.{bitsOf}
+use Rattle.fills.proofs.Marked.{length-bits}
+use Rattle.fills.proofs.Beside.{first-drop}
 use Rattle.plans.specs.Plan.{Plan, planOf, marksAt, marksOf}
+use Rattle.encoding.specs.Asked.{RowFits}
 use Rattle.encoding.specs.Data.{placed, taken}
 use Rattle.plans.specs.Tables.{unmarked}
-use Rattle.plans.proofs.Rows.{marks-length, sets-append, sets-whole, sets-behind}
-use Rattle.plans.proofs.Flat.{flat-append, flat-length}
-use Rattle.plans.proofs.Plans.{columns-most, symbols-most}
+use Rattle.plans.proofs.Rows.{marks-length}
+use Rattle.words.proofs.Stores.{sets-append, sets-whole, sets-behind, flat-append}
+use Rattle.plans.proofs.Flat.{flat-length}
+use Rattle.plans.proofs.Plans.{columns-most}
 use Rattle.plans.proofs.Parts.{part, part-of, part-length, rest-of, part-back}
-use Rattle.plans.proofs.Numbers.{Numbers, row-within}
+use Rattle.tables.proofs.Numbers.{Numbers, row-within}
 use Rattle.encoding.proofs.Data.{placed-length, taken-length, unmarked-append, placed-append, taken-append, taken-front}
 
 -- ---- the marks of the turns
@@ -144,31 +144,25 @@ pub bits-length : (w n : ℕ) → length (marksTo (bitOf w) n) ≡ n
 bits-length w n = ap length (bits-to w n) ∙ length-bits n w
 
 module _ (w c : ℕ) where
-  marked : (bitAt w c ≡ 0 → ⊥) → true ≡ eqb (bitAt w c) 1
-  marked ne = sym (eq-eqb (bitAt w c) 1 (omega (arith, bit (w / 2 ^ c))))
-
-  clear : bitAt w c ≡ 0 → false ≡ eqb (bitAt w c) 1
-  clear z = sym (ne-eqb (bitAt w c) 1 (λ e. omega arith))
-
   -- there is room for the data of column c
-  pub bit-within : {n m next : ℕ} → bitAt w c ≡ 0 → c < n → unmarked (bitsOf n w) ≤ m → next ≡ unmarked (marksTo (bitOf w) c) → next < m
+  pub bit-within : {n m next : ℕ} → eqb (bitAt w c) 1 ≡ false → c < n → unmarked (bitsOf n w) ≤ m → next ≡ unmarked (marksTo (bitOf w) c) → next < m
   unfolding if_then_else_ only
   bit-within {n} z h room e =
-      let one : 1 ≡ unmarked (bitOf w c) = ap (λ b. unmarked (b ∷ [])) (clear z) in
+      let one : 1 ≡ unmarked (bitOf w c) = ap (λ b. unmarked (b ∷ [])) (sym z) in
       omega (arith, unmarked-within (bitOf w) h, ap unmarked (bits-to w n))
 
   module _ {ds old s : List ℕ} {next : ℕ} (p : Placing (bitOf w) ds old c next s) where
-    pub place-data : bitAt w c ≡ 0 → Placing (bitOf w) ds old (c + 1) (next + 1) (set s c (getD ds next 0))
+    pub place-data : eqb (bitAt w c) 1 ≡ false → Placing (bitOf w) ds old (c + 1) (next + 1) (set s c (getD ds next 0))
     unfolding if_then_else_ only placed
     place-data z =
-        placing-turns p (ap (λ b. next + unmarked (b ∷ [])) (clear z))
-        (ap (set s c) (sym (first-drop next ds)) ∙ ap₂ (λ i b. sets s i (placed (b ∷ []) (drop next ds))) (sym (bits-length w c)) (clear z))
+        placing-turns p (ap (λ b. next + unmarked (b ∷ [])) (sym z))
+        (ap (set s c) (sym (first-drop next ds)) ∙ ap₂ (λ i b. sets s i (placed (b ∷ []) (drop next ds))) (sym (bits-length w c)) (sym z))
 
-    pub place-none : (bitAt w c ≡ 0 → ⊥) → Placing (bitOf w) ds old (c + 1) next (set s c 0)
+    pub place-none : eqb (bitAt w c) 1 ≡ true → Placing (bitOf w) ds old (c + 1) next (set s c 0)
     unfolding if_then_else_ only placed
     place-none nz =
-        placing-turns p (sym (add-zero next) ∙ ap (λ b. next + unmarked (b ∷ [])) (marked nz))
-        (ap₂ (λ i b. sets s i (placed (b ∷ []) (drop next ds))) (sym (bits-length w c)) (marked nz))
+        placing-turns p (sym (add-zero next) ∙ ap (λ b. next + unmarked (b ∷ [])) (sym nz))
+        (ap₂ (λ i b. sets s i (placed (b ∷ []) (drop next ds))) (sym (bits-length w c)) (sym nz))
 
     pub row-placed : c ≡ length old → (next ≡ unmarked (bitsOf (length old) w)) × (s ≡ placed (bitsOf (length old) w) ds)
     row-placed e =
@@ -176,17 +170,17 @@ module _ (w c : ℕ) where
         (p .count ∙ ap unmarked all, placing-ends p (sym (bits-length w c ∙ e)) ∙ ap (λ ms. placed ms ds) all)
 
   module _ {xs old s : List ℕ} {next : ℕ} (t : Taking (bitOf w) xs old c next s) where
-    pub take-symbol : bitAt w c ≡ 0 → Taking (bitOf w) xs old (c + 1) (next + 1) (set s next (getD xs c 0))
+    pub take-symbol : eqb (bitAt w c) 1 ≡ false → Taking (bitOf w) xs old (c + 1) (next + 1) (set s next (getD xs c 0))
     unfolding if_then_else_ only flatMap beside taken
     take-symbol z =
-        taking-turns t (ap (λ b. next + unmarked (b ∷ [])) (clear z))
-        (ap (set s next) (sym (first-drop c xs)) ∙ ap₂ (λ i b. sets s next (taken (b ∷ []) (drop i xs))) (sym (bits-length w c)) (clear z))
+        taking-turns t (ap (λ b. next + unmarked (b ∷ [])) (sym z))
+        (ap (set s next) (sym (first-drop c xs)) ∙ ap₂ (λ i b. sets s next (taken (b ∷ []) (drop i xs))) (sym (bits-length w c)) (sym z))
 
-    pub take-none : (bitAt w c ≡ 0 → ⊥) → Taking (bitOf w) xs old (c + 1) next s
+    pub take-none : eqb (bitAt w c) 1 ≡ true → Taking (bitOf w) xs old (c + 1) next s
     unfolding if_then_else_ only flatMap beside taken
     take-none nz =
-        taking-turns t (sym (add-zero next) ∙ ap (λ b. next + unmarked (b ∷ [])) (marked nz))
-        (ap₂ (λ i b. sets s next (taken (b ∷ []) (drop i xs))) (sym (bits-length w c)) (marked nz))
+        taking-turns t (sym (add-zero next) ∙ ap (λ b. next + unmarked (b ∷ [])) (sym nz))
+        (ap₂ (λ i b. sets s next (taken (b ∷ []) (drop i xs))) (sym (bits-length w c)) (sym nz))
 
     pub row-taken : c ≡ length xs → (next ≡ unmarked (bitsOf (length xs) w)) × (s ≡ sets old 0 (taken (bitsOf (length xs) w) xs))
     row-taken e =
@@ -215,10 +209,8 @@ module _ (P : Plan) (words : List ℕ) where
 -- all, and both can be lent
 pub record AtRow (words xs ds : List ℕ) (n r next : ℕ) : Type 0 where
   pub ends : r * n + n ≤ length xs
-  pub few : length xs ≤ 256
   pub room : next + unmarked (bitsOf (length (part (r * n) n xs)) (getD words r 0)) ≤ length ds
-  pub lent : let row = part (r * n) n xs in
-      (length row ≤ 32) × (unmarked (bitsOf (length row) (getD words r 0)) ≤ length (take (length ds - next) (drop next ds)))
+  pub lent : RowFits (getD words r 0) (part (r * n) n xs) (take (length ds - next) (drop next ds))
 
 module _ {p q rows n : ℕ} (is : Numbers p q rows n) (words xs : List ℕ) (long : length xs ≡ planOf p .rows * planOf p .columns)
     {r : ℕ} (more : r < rows) where
@@ -247,9 +239,8 @@ module _ {p q rows n : ℕ} (is : Numbers p q rows n) (words xs : List ℕ) (lon
       omega (arith, unmarked-within (marksAt P words) h, ap unmarked its-marks) in
       record {
         ends = row-ends;
-        few = omega (arith, symbols-most p);
         room = room;
-        lent = (omega (arith, row-wide, columns-most p), rw (rest-of next ds, length-drop) (omega arith));
+        lent = record { narrow = omega (arith, row-wide, columns-most p); room = rw (rest-of next ds, length-drop) (omega arith) };
       }
 
   pub row-turns : {ds old : List ℕ} {next m : ℕ} {v : List ℕ} → Placing (marksAt P words) ds old r next xs

@@ -6,9 +6,9 @@ use lib.Dec.{eqb}
 use lib.ListN.{length}
 use Rattle.field.specs.Lists.{if_then_else_}
 use Rattle.field.specs.Field.{size}
-use Rattle.linear.specs.Lists.{first, rest, beside}
+use Rattle.fills.specs.Lists.{first, rest, beside}
 use Rattle.plans.specs.Plan.{Plan, planOf, known, checkPlacesOf, carried}
-use Rattle.plans.specs.Refusal.{inMemory, unasked, stripeFits, allBelow}
+use Rattle.plans.specs.Refusal.{stripeFits, allBelow, firstFailed}
 use Rattle.codewords.specs.Codeword.{isCodeword}
 use Rattle.plans.specs.declared.Outcome.{Outcome}
 use Rattle.plans.specs.declared.Outcome.the-variants.{Done, Refused}
@@ -30,7 +30,7 @@ taken ms xs = flatMap (λ l. l) (beside (λ m x. if m then [] else x ∷ []) ms 
 unfoldable pub encodeRefusal : ℕ → List ℕ → List ℕ → ℕ
 encodeRefusal p ds stripe =
     let P = planOf p in
-    inMemory (known p) (eqb (length ds) (carried P) && stripeFits P stripe) unasked unasked (allBelow (size (P .field)) ds) unasked unasked
+    firstFailed ((10, known p) ∷ (11, eqb (length ds) (carried P) && stripeFits P stripe) ∷ (13, allBelow (size (P .field)) ds) ∷ [])
 
 unfoldable pub outcomeOf : (refusal : ℕ) → Outcome
 outcomeOf zero = Done
@@ -44,8 +44,7 @@ extracted P stripe = taken (checkPlacesOf P) stripe
 unfoldable pub extractRefusal : ℕ → List ℕ → List ℕ → ℕ
 extractRefusal p stripe ds =
     let P = planOf p in
-    inMemory (known p) (stripeFits P stripe && eqb (length ds) (carried P)) unasked unasked (allBelow (size (P .field)) stripe)
-    unasked (isCodeword P stripe)
+    firstFailed ((10, known p) ∷ (11, stripeFits P stripe && eqb (length ds) (carried P)) ∷ (13, allBelow (size (P .field)) stripe) ∷ (16, isCodeword P stripe) ∷ [])
 
 -- what the lent data buffer holds afterwards
 unfoldable pub extractData : ℕ → List ℕ → List ℕ → List ℕ

@@ -3,8 +3,8 @@ mod encoding;
 
 pub use crate::encoding::encode_refusal;
 pub use crate::encoding::place;
+use codewords::codeword;
 use plans::Outcome;
-use plans::plan;
 ghost use mathlib.Core.Path.{_≡_};
 ghost use Rattle.encoding.specs.Data.{outcomeOf, extractRefusal, extractData};
 
@@ -13,12 +13,22 @@ pub fn extract(plan: usize, stripe: &[u8], data: &mut [u8]) -> Outcome
     ensures { λ r. ⌜ r ≡ outcomeOf (extractRefusal plan (now (stripe .entry)) (now («data» .entry))) ⌝ }
     ensures { λ _. ⌜ now («data» .exit) ≡ extractData plan (now (stripe .entry)) (now («data» .entry)) ⌝ }
 {
-    let number = encoding::extract_refusal(plan, stripe, &data[..]);
-    if number != 0 {
-        return Outcome::Refused(number);
+    if !tables::is_known(plan) {
+        return Outcome::Refused(10);
     }
-    let words = plan::check_places(plan);
-    let rows = plan::rows(plan);
+    if !encoding::lengths_fit(plan, &data[..], stripe) {
+        return Outcome::Refused(11);
+    }
+    let facts = tables::facts_of(plan);
+    let q = facts.field;
+    let rows = facts.rows;
+    if !refusals::all_below(q, stripe) {
+        return Outcome::Refused(13);
+    }
+    if !codeword::holds(plan, stripe) {
+        return Outcome::Refused(16);
+    }
+    let words = tables::check_places(plan);
     encoding::take(plan, &words[..rows], stripe, data);
     Outcome::Done
 }

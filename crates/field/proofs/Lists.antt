@@ -30,3 +30,9 @@ map-up-same f g k zero h = refl
 map-up-same f g k (suc n) h =
     ap₂ _∷_ (ap f (sym (add-zero k)) ∙ h 0 (omega arith) ∙ ap g (add-zero k))
     (map-up-same f g (suc k) n (λ i l. ap f (suc-add k i ∙ sym (add-suc k i)) ∙ h (suc i) (omega arith) ∙ ap g (add-suc k i ∙ sym (suc-add k i))))
+
+-- a map over the numbers from k + 1 on
+pub map-up-suc : {A : Type 0} (f : ℕ → A) (k n : ℕ) → map f (upFrom (suc k) n) ≡ map (λ i. f (suc i)) (upFrom k n)
+unfolding upFrom
+map-up-suc f k zero = refl
+map-up-suc f k (suc n) = ap (λ l. f (suc k) ∷ l) (map-up-suc f (suc k) n)

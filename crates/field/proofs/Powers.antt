@@ -34,11 +34,6 @@ module _ (F : Field) (K : IsField F) where
   power-add x zero r = ap (power F x) (zero-add r) ∙ sym (unit (power F x r) (power-lt x r))
   power-add x (suc p) r = ap (power F x) (suc-add p r) ∙ ap (mul F x) (power-add x p r) ∙ sym (assoc x (power F x p) (power F x r))
 
-  pub power-≢ : (x p : ℕ) → x < size F → x ≢ 0 → power F x p ≢ 0
-  unfolding power
-  power-≢ x zero h ne = omega arith
-  power-≢ x (suc p) h ne = λ e. ne (domain F K x (power F x p) h (power-lt x p) (power-≢ x p h ne) e)
-
   -- ---- squares
 
   pub square-⊕ : (a b : ℕ) → mul F (a ⊕ b) (a ⊕ b) ≡ mul F a a ⊕ mul F b b
@@ -140,24 +135,3 @@ module _ (F : Field) (K : IsField F) where
       (λ p l. remove-zero x (suc c) xs w p (s p (omega arith)) (s (suc p) (omega arith))) in
       let alone : mul F 1 (suc c) ≡ 0 = ⊕-cancel _ _ (s 0 (omega arith)) ∙ sum-weightless xs w 0 (sym same ∙ none) in
       omega (arith, sym (unit (suc c) (hw .0)) ∙ alone)
-
-  -- ---- power sums that start at another exponent
-
-  raise-sum : (n : ℕ) (xs w : List ℕ) (p : ℕ) → powerSum F xs (scale F (λ x. power F x n) xs w) p ≡ powerSum F xs w (n + p)
-  unfolding scale powerSum dot
-  raise-sum n [] w p = refl
-  raise-sum n (x ∷ xs) [] p = refl
-  raise-sum n (x ∷ xs) (c ∷ w) p =
-      ap₂ _⊕_
-      (mul-left-comm F K (power F x p) (power F x n) c ∙ sym (assoc (power F x n) (power F x p) c)
-      ∙ ap (λ z. mul F z c) (sym (power-add x n p)))
-      (raise-sum n xs w p)
-
-  -- where no location is 0, any m powers in a row will do: the bound of Bose, Chaudhuri and Hocquenghem
-  pub independent-from : (n : ℕ) (xs w : List ℕ) (m : ℕ) → Distinct xs → Apart 0 xs → EachBelow (size F) xs → EachBelow (size F) w → length w ≡ length xs
-      → weight w ≤ m → ((p : ℕ) → p < m → powerSum F xs w (n + p) ≡ 0) → weight w ≡ 0
-  independent-from n xs w m d ne hx hw e h s =
-      let f : ℕ → ℕ = λ x. power F x n in
-      let same : weight (scale F f xs w) ≡ weight w = scale-weight f 0 (λ x l. power-lt x n) (λ x. power-≢ x n) xs w hx ne hw e in
-      sym same
-      ∙ independent xs (scale F f xs w) m d hx (scale-fit f xs w) (scale-length f xs w e) (rw same h) (λ p l. raise-sum n xs w p ∙ s p l)

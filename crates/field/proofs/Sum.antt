@@ -92,9 +92,6 @@ pub ⊕-shr : (a b k : ℕ) → (a ⊕ b) / 2 ^ k ≡ a / 2 ^ k ⊕ b / 2 ^ k
 unfolding _⊕_
 ⊕-shr = xor-shr
 
-pub ⊕-half : (a b : ℕ) → (a ⊕ b) / 2 ≡ a / 2 ⊕ b / 2
-⊕-half a b = ⊕-shr a b 1
-
 pub ⊕-mod : (a b k : ℕ) → (a ⊕ b) % 2 ^ k ≡ a % 2 ^ k ⊕ b % 2 ^ k
 unfolding _⊕_
 ⊕-mod = xor-mod

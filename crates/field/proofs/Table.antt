@@ -1,15 +1,19 @@
 -- What the code's arithmetic reads is the field's: the table at an entry, and the steps of the inverse. Assumes nothing.
-use mathlib.Core.Path.{_≡_, refl, ap, ap₂, _∙_}
-use mathlib.Core.List.{List}
-use Prim.Native.Nat.{ℕ, _+_, _*_, _/_, _%_, _<_}
-use native.Mathlib.Nat.{mod-lt}
+use mathlib.Core.Path.{_≡_, refl, sym, ap, ap₂, _∙_}
+use mathlib.Core.Bool.{Bool, true, false}
+use mathlib.Core.List.{List, []}
+use Prim.Native.Nat.{ℕ, _+_, _*_, _/_, _%_, _≤_, _<_}
+use native.Mathlib.Nat.{mod-lt, le-refl}
+use borrow.Author.Tests.{eq-eqb, ne-eqb}
 use lib.Arith.{digits-lt, digits-div, digits-mod}
-use lib.Dec.{lit<}
-use lib.ListN.{getD}
+use lib.Dec.{eqb, lit<}
+use lib.ListN.{length, length-map, getD, take}
+use lib.Seq.{take-all, length-take-le}
+use Rattle.field.specs.Lists.{if_then_else_, upFrom}
 use Rattle.field.specs.Field.{_⊕_, size, double, times, mul, squares, inverse, gf2, gf16}
-use Rattle.field.specs.Ours.{fieldOf, products}
+use Rattle.field.specs.Ours.{fieldOf, products, tableOf}
 use Rattle.field.proofs.Sum.{of-bits, bit}
-use Rattle.field.proofs.Lists.{getD-map-below}
+use Rattle.field.proofs.Lists.{length-up, getD-map-below}
 use Rattle.field.proofs.Ring.{mul-low}
 use Rattle.field.proofs.Laws.{mul-one}
 use Rattle.field.proofs.Fields.{gf16-field, field-2, field-16}
@@ -23,9 +27,41 @@ entry16 x y =
     getD-map-below (λ k. mul gf16 (k / 16) (k % 16)) 256 (x % 16 * 16 + y % 16) 0 (digits-lt (low4 x) (low4 y))
     ∙ ap₂ (mul gf16) (digits-div (x % 16) (low4 y)) (digits-mod (x % 16) (low4 y)) ∙ mul-low gf16 x y
 
+-- what field 16 is lent is the whole table
+table-16 : (q : ℕ) → (q ≡ 2 → ⊥) → tableOf q ≡ products
+unfolding if_then_else_ tableOf
+table-16 q ne = ap (λ b. if b then [] else products) (ne-eqb q 2 ne)
+
+pub length-products : length products ≡ 256
+unfolding products
+length-products = length-map (upFrom 0 256) (λ k. mul gf16 (k / 16) (k % 16)) ∙ length-up 0 256
+
+-- what is lent from the front of the products
+pub lent : (q : ℕ) {n : ℕ} {t : List ℕ} → t ≡ products → n ≡ length (tableOf q) → take n t ≡ tableOf q
+unfolding if_then_else_ tableOf
+lent q {n} {t} e same = rw (e, same) (go (eqb q 2))
+  where
+    go : (b : Bool) → take (length (if b then [] else products)) products ≡ (if b then [] else products)
+    go true = refl
+    go false = take-all _ products (le-refl _)
+
+pub lent-length : {n : ℕ} {t : List ℕ} → t ≡ products → n ≤ 256 → length (take n t) ≡ n
+lent-length {t = t} e l = length-take-le _ t (rw (e, length-products) l)
+
 -- entry 16 x + y, of the low bits of x and y, is their product
-pub entry : (t : List ℕ) (q x y : ℕ) → t ≡ products → (q ≡ 2 → ⊥) → getD t (x % 16 * 16 + y % 16) 0 ≡ mul (fieldOf q) x y
-entry t q x y e ne = rw (e, field-16 q ne) (entry16 x y)
+pub entry : (t : List ℕ) (q x y : ℕ) → t ≡ tableOf q → (q ≡ 2 → ⊥) → getD t (x % 16 * 16 + y % 16) 0 ≡ mul (fieldOf q) x y
+entry t q x y e ne = rw (e, table-16 q ne, field-16 q ne) (entry16 x y)
+
+pub entry-there : (t : List ℕ) (q x y : ℕ) → t ≡ tableOf q → (q ≡ 2 → ⊥) → x % 16 * 16 + y % 16 < length t
+entry-there t q x y e ne = rw (e, table-16 q ne, length-products) (digits-lt (low4 x) (low4 y))
+
+-- how many numbers are lent
+pub none-lent : (q : ℕ) → q ≡ 2 → 0 ≡ length (tableOf q)
+unfolding if_then_else_ tableOf
+none-lent q e = ap (λ b. length (if b then [] else products)) (sym (eq-eqb q 2 e))
+
+pub all-lent : (q : ℕ) → (q ≡ 2 → ⊥) → 256 ≡ length (tableOf q)
+all-lent q ne = rw (table-16 q ne, length-products)
 
 bits-times : (x y : ℕ) → x % 2 * (y % 2) ≡ mul gf2 x y
 unfolding _⊕_ size double times mul gf2

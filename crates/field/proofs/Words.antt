@@ -1,14 +1,13 @@
--- Words and locations, which are lists of numbers: bounds, distinctness, and what weight 0 means, with tests that settle concrete lists. Assumes nothing.
-use mathlib.Core.Path.{_≡_, refl, ap, subst}
+-- Words and locations, which are lists of numbers: bounds and distinctness, with tests that settle concrete lists. Assumes nothing.
+use mathlib.Core.Path.{subst}
 use mathlib.Core.Bool.{Bool, true, not, _&&_}
-use mathlib.Core.List.{List, [], _∷_}
+use mathlib.Core.List.{List, [], _∷_, map}
 use mathlib.Core.Logic.{_≢_}
 use Prim.Native.Nat.{ℕ, zero, suc, _<_, _≤_}
 use native.Mathlib.Nat.{not-suc-le-zero, le-of-suc-le-suc, le-trans}
 use native.Mathlib.Omega.{arith}
 use lib.Dec.{T, T-not, eqb, eqb-refl, ltb, ltb→lt}
-use lib.ListN.{length, getD, replicate}
-use Rattle.field.specs.Lists.{weight}
+use lib.ListN.{length, getD}
 use Rattle.field.proofs.Test.{both-left, both-right}
 
 -- every member of the list has the property
@@ -42,12 +41,16 @@ each-getD P d e [] h i = e
 each-getD P d e (x ∷ xs) h zero = h .0
 each-getD P d e (x ∷ xs) h (suc i) = each-getD P d e xs (h .1) i
 
+pub each-map : {A B : Type 0} (P : A → Type 0) (f : B → A) → ((x : B) → P (f x)) → (l : List B) → Each P (map f l)
+each-map P f h [] = tt
+each-map P f h (x ∷ l) = (h x, each-map P f h l)
+
 module _ (P : ℕ → Type 0) where
   pub each-imp : (Q : ℕ → Type 0) → ((x : ℕ) → P x → Q x) → (xs : List ℕ) → Each P xs → Each Q xs
   each-imp Q f [] h = tt
   each-imp Q f (x ∷ xs) h = (f x (h .0), each-imp Q f xs (h .1))
 
-  -- at each place, and back
+  -- at each place
   pub each-at : (xs : List ℕ) → Each P xs → (i : ℕ) → i < length xs → P (getD xs i 0)
   each-at [] h i l = absurd (not-suc-le-zero l)
   each-at (x ∷ xs) h zero l = h .0
@@ -89,18 +92,3 @@ are-apart a = are-each (λ x. x ≢ a) (λ x. not (eqb x a)) (λ x t e. T-not (e
 pub are-distinct : (xs : List ℕ) → T (distinct xs) → Distinct xs
 are-distinct [] t = tt
 are-distinct (x ∷ xs) t = (are-apart x xs (both-left (apart x xs) (distinct xs) t), are-distinct xs (both-right (apart x xs) (distinct xs) t))
-
--- ---- a word of weight 0 is all zeros
-
-pub weightless-at : (w : List ℕ) → weight w ≡ 0 → (i : ℕ) → getD w i 0 ≡ 0
-unfolding weight
-weightless-at [] e i = refl
-weightless-at (zero ∷ w) e zero = refl
-weightless-at (zero ∷ w) e (suc i) = weightless-at w e i
-weightless-at (suc c ∷ w) e i = omega arith
-
-pub weightless-zeros : (w : List ℕ) → weight w ≡ 0 → w ≡ replicate (length w) 0
-unfolding weight
-weightless-zeros [] e = refl
-weightless-zeros (zero ∷ w) e = ap (λ z. 0 ∷ z) (weightless-zeros w e)
-weightless-zeros (suc c ∷ w) e = absurd (omega arith)

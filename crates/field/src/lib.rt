@@ -1,279 +1,51 @@
 // Arithmetic of our fields. Elements are numbers below the field's size; the sum is `^`. For our own crates, not for scripts.
 ghost use mathlib.Core.Path.{_≡_};
+ghost use Prim.Native.Nat.{_≤_};
 ghost use lib.ListN.{length};
 ghost use Rattle.field.specs.Field.{mul, inverse, dot};
-ghost use Rattle.field.specs.Ours.{fieldOf, «products» as productTable};
+ghost use Rattle.field.specs.Ours.{fieldOf, tableOf, «products» as productTable};
 
-// Entry 16 x + y is x times y in GF(16), modulo x^4 + x + 1.
-const PRODUCTS: [u8; 256] = [
-    0,
-    0,
-    0,
-    0,
-    0,
-    0,
-    0,
-    0,
-    0,
-    0,
-    0,
-    0,
-    0,
-    0,
-    0,
-    0,
-    0,
-    1,
-    2,
-    3,
-    4,
-    5,
-    6,
-    7,
-    8,
-    9,
-    10,
-    11,
-    12,
-    13,
-    14,
-    15,
-    0,
-    2,
-    4,
-    6,
-    8,
-    10,
-    12,
-    14,
-    3,
-    1,
-    7,
-    5,
-    11,
-    9,
-    15,
-    13,
-    0,
-    3,
-    6,
-    5,
-    12,
-    15,
-    10,
-    9,
-    11,
-    8,
-    13,
-    14,
-    7,
-    4,
-    1,
-    2,
-    0,
-    4,
-    8,
-    12,
-    3,
-    7,
-    11,
-    15,
-    6,
-    2,
-    14,
-    10,
-    5,
-    1,
-    13,
-    9,
-    0,
-    5,
-    10,
-    15,
-    7,
-    2,
-    13,
-    8,
-    14,
-    11,
-    4,
-    1,
-    9,
-    12,
-    3,
-    6,
-    0,
-    6,
-    12,
-    10,
-    11,
-    13,
-    7,
-    1,
-    5,
-    3,
-    9,
-    15,
-    14,
-    8,
-    2,
-    4,
-    0,
-    7,
-    14,
-    9,
-    15,
-    8,
-    1,
-    6,
-    13,
-    10,
-    3,
-    4,
-    2,
-    5,
-    12,
-    11,
-    0,
-    8,
-    3,
-    11,
-    6,
-    14,
-    5,
-    13,
-    12,
-    4,
-    15,
-    7,
-    10,
-    2,
-    9,
-    1,
-    0,
-    9,
-    1,
-    8,
-    2,
-    11,
-    3,
-    10,
-    4,
-    13,
-    5,
-    12,
-    6,
-    15,
-    7,
-    14,
-    0,
-    10,
-    7,
-    13,
-    14,
-    4,
-    9,
-    3,
-    15,
-    5,
-    8,
-    2,
-    1,
-    11,
-    6,
-    12,
-    0,
-    11,
-    5,
-    14,
-    10,
-    1,
-    15,
-    4,
-    7,
-    12,
-    2,
-    9,
-    13,
-    6,
-    8,
-    3,
-    0,
-    12,
-    11,
-    7,
-    5,
-    9,
-    14,
-    2,
-    10,
-    6,
-    1,
-    13,
-    15,
-    3,
-    4,
-    8,
-    0,
-    13,
-    9,
-    4,
-    1,
-    12,
-    8,
-    5,
-    2,
-    15,
-    11,
-    6,
-    3,
-    14,
-    10,
-    7,
-    0,
-    14,
-    15,
-    1,
-    13,
-    3,
-    2,
-    12,
-    9,
-    7,
-    6,
-    8,
-    4,
-    10,
-    11,
-    5,
-    0,
-    15,
-    13,
-    2,
-    9,
-    6,
-    4,
-    11,
-    1,
-    14,
-    12,
-    3,
-    8,
-    7,
-    5,
-    10,
-];
+// Entry 16 x + y is x times y in GF(16), modulo x^4 + x + 1: a line has the products of x.
+const PRODUCTS: [u8; 256] = *b"\
+    \x00\x00\x00\x00\x00\x00\x00\x00\x00\x00\x00\x00\x00\x00\x00\x00\
+    \x00\x01\x02\x03\x04\x05\x06\x07\x08\x09\x0a\x0b\x0c\x0d\x0e\x0f\
+    \x00\x02\x04\x06\x08\x0a\x0c\x0e\x03\x01\x07\x05\x0b\x09\x0f\x0d\
+    \x00\x03\x06\x05\x0c\x0f\x0a\x09\x0b\x08\x0d\x0e\x07\x04\x01\x02\
+    \x00\x04\x08\x0c\x03\x07\x0b\x0f\x06\x02\x0e\x0a\x05\x01\x0d\x09\
+    \x00\x05\x0a\x0f\x07\x02\x0d\x08\x0e\x0b\x04\x01\x09\x0c\x03\x06\
+    \x00\x06\x0c\x0a\x0b\x0d\x07\x01\x05\x03\x09\x0f\x0e\x08\x02\x04\
+    \x00\x07\x0e\x09\x0f\x08\x01\x06\x0d\x0a\x03\x04\x02\x05\x0c\x0b\
+    \x00\x08\x03\x0b\x06\x0e\x05\x0d\x0c\x04\x0f\x07\x0a\x02\x09\x01\
+    \x00\x09\x01\x08\x02\x0b\x03\x0a\x04\x0d\x05\x0c\x06\x0f\x07\x0e\
+    \x00\x0a\x07\x0d\x0e\x04\x09\x03\x0f\x05\x08\x02\x01\x0b\x06\x0c\
+    \x00\x0b\x05\x0e\x0a\x01\x0f\x04\x07\x0c\x02\x09\x0d\x06\x08\x03\
+    \x00\x0c\x0b\x07\x05\x09\x0e\x02\x0a\x06\x01\x0d\x0f\x03\x04\x08\
+    \x00\x0d\x09\x04\x01\x0c\x08\x05\x02\x0f\x0b\x06\x03\x0e\x0a\x07\
+    \x00\x0e\x0f\x01\x0d\x03\x02\x0c\x09\x07\x06\x08\x04\x0a\x0b\x05\
+    \x00\x0f\x0d\x02\x09\x06\x04\x0b\x01\x0e\x0c\x03\x08\x07\x05\x0a";
 
-// The table of products, to be copied to a local once and lent to `product`, `inverse` and `dot`.
+// The table of products, to be copied to a local once. Its first `entries(q)` numbers are what field `q` is computed with, and are
+// lent to `product`, `inverse` and `dot`.
 pub fn products() -> [u8; 256]
     ensures { λ r. ⌜ r ≡ productTable ⌝ }
 {
     PRODUCTS
 }
 
+// How many numbers of the table field `q` is computed with.
+pub fn entries(q: usize) -> usize
+    ensures { λ r. ⌜ r ≤ 256 ⌝ }
+    ensures { λ r. ⌜ r ≡ length (tableOf q) ⌝ }
+{
+    if q == 2 {
+        return 0;
+    }
+    256
+}
+
 // x times y in field `q`. Of each the low bits count.
-pub fn product(q: usize, table: &[u8; 256], x: u8, y: u8) -> u8
-    requires { ⌜ now table ≡ productTable ⌝ }
+pub fn product(q: usize, table: &[u8], x: u8, y: u8) -> u8
+    requires { ⌜ now table ≡ tableOf q ⌝ }
     ensures { λ r. ⌜ r ≡ mul (fieldOf q) x y ⌝ }
 {
     if q == 2 {
@@ -284,8 +56,8 @@ pub fn product(q: usize, table: &[u8; 256], x: u8, y: u8) -> u8
 }
 
 // What inverts x in field `q`, where x is not 0: x to the power of the field's size less 2.
-pub fn inverse(q: usize, table: &[u8; 256], x: u8) -> u8
-    requires { ⌜ now table ≡ productTable ⌝ }
+pub fn inverse(q: usize, table: &[u8], x: u8) -> u8
+    requires { ⌜ now table ≡ tableOf q ⌝ }
     ensures { λ r. ⌜ r ≡ inverse (fieldOf q) x ⌝ }
 {
     if q == 2 {
@@ -310,8 +82,8 @@ fn dot_bits(check: &[u8], row: &[u8]) -> u8
 }
 
 // The sum of each symbol times its coefficient, by `product`.
-fn dot_table(q: usize, table: &[u8; 256], check: &[u8], row: &[u8]) -> u8
-    requires { ⌜ now table ≡ productTable ⌝ }
+fn dot_table(q: usize, table: &[u8], check: &[u8], row: &[u8]) -> u8
+    requires { ⌜ now table ≡ tableOf q ⌝ }
     requires { ⌜ length (now check) ≡ length (now row) ⌝ }
     ensures { λ r. ⌜ r ≡ dot (fieldOf q) (now (check .entry)) (now (row .entry)) ⌝ }
 {
@@ -325,8 +97,8 @@ fn dot_table(q: usize, table: &[u8; 256], check: &[u8], row: &[u8]) -> u8
 }
 
 // The sum of each symbol times its coefficient, in field `q`. GF(2) has a call of its own, whose loop is compiled without the table.
-pub fn dot(q: usize, table: &[u8; 256], check: &[u8], row: &[u8]) -> u8
-    requires { ⌜ now table ≡ productTable ⌝ }
+pub fn dot(q: usize, table: &[u8], check: &[u8], row: &[u8]) -> u8
+    requires { ⌜ now table ≡ tableOf q ⌝ }
     requires { ⌜ length (now check) ≡ length (now row) ⌝ }
     ensures { λ r. ⌜ r ≡ dot (fieldOf q) (now (check .entry)) (now (row .entry)) ⌝ }
 {

@@ -1,5 +1,5 @@
 -- Facts about stripe files. Assumes nothing.
-pub mod Writing
 pub mod Stripes
 pub mod Files
 pub mod Laws
+pub mod Samples

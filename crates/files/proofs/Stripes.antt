@@ -1,8 +1,8 @@
 -- A stripe row by row, and its symbols with 0 under marks. Assumes nothing.
-use mathlib.Core.Path.{_≡_, refl, sym, ap, ap₂, _∙_, subst}
+use mathlib.Core.Path.{_≡_, refl, sym, ap, _∙_, subst}
 use mathlib.Core.Bool.{Bool, true, false}
 use mathlib.Core.List.{List, [], _∷_, _++_, flatMap}
-use Prim.Native.Nat.{ℕ, zero, suc, _+_, _*_, _/_, _%_, _^_, _≤_, _<_, suc-le-suc}
+use Prim.Native.Nat.{ℕ, zero, suc, _+_, _*_, _/_, _%_, _^_, _<_, suc-le-suc}
 use native.Mathlib.Nat.{zero-mul, suc-mul, add-comm, add-zero, zero-add, not-suc-le-zero, le-of-suc-le-suc}
 use native.Mathlib.Omega.{arith}
 use lib.Dec.{T, eqb, leb, ltb, leb→le}
@@ -11,50 +11,21 @@ use lib.Seq.{take-at, drop-at, drop-drop}
 use Rattle.field.specs.Lists.{if_then_else_, upFrom}
 use Rattle.field.specs.Field.{size}
 use Rattle.field.proofs.Test.{both-right}
-use Rattle.linear.specs.Lists.{first, rest, beside}
-use Rattle.linear.specs.Marks.{bitsOf}
-use Rattle.linear.proofs.Choices.{Alike}
-use Rattle.linear.proofs.Beside.{length-beside, beside-rows, beside-alike, length-beside-bits, beside-bits-at}
+use Rattle.fills.specs.Lists.{first, rest, beside}
+use Rattle.fills.specs.Marks.{bitsOf}
+use Rattle.fills.proofs.Choices.{Alike}
+use Rattle.fills.proofs.Beside.{length-beside, beside-rows, beside-alike, length-beside-bits, beside-bits-at}
 use Rattle.plans.specs.Plan.{Plan, known, rowAt, marksAt, marksOf}
 use Rattle.plans.specs.Refusal.{unmarkedBelow, symbolsFit}
-use Rattle.repair.specs.File.{blanked}
+use Rattle.files.specs.File.{blanked}
 use Rattle.plans.proofs.Flat.{flat-length}
-use Rattle.plans.proofs.Parts.{part, part-of}
-use Rattle.plans.proofs.Rows.{marks-length, row-end, row-length}
+use Rattle.plans.proofs.Rows.{marks-length}
 use Rattle.plans.proofs.Refusals.{unmarked-alike}
 use Rattle.steps.proofs.Fit.{symbols-fit, fit-symbols}
 
 pub known-below : (p : ℕ) → T (known p) → p < 4
 unfolding known
 known-below p t = suc-le-suc (leb→le p 3 (both-right (ltb 0 p) (leb p 3) t))
-
--- ---- rows
-
-row-inside : (P : Plan) (l : List ℕ) {r : ℕ} → length l ≡ P .rows * P .columns → r < P .rows → r * P .columns + P .columns ≤ length l
-row-inside P l {r} e h = subst (λ n. r * P .columns + P .columns ≤ n) (sym e) (row-end (P .columns) h)
-
--- row r of a stripe, as code that knows its columns cuts it out
-pub record Cut (P : Plan) (l : List ℕ) (r n : ℕ) : Type 0 where
-  pub long : length l ≡ P .rows * P .columns
-  pub below : r < P .rows
-  pub wide : n ≡ P .columns
-
-module _ {P : Plan} {l : List ℕ} {r n : ℕ} (k : Cut P l r n) where
-  pub cut-inside : r * n + n ≤ length l
-  cut-inside = subst (λ m. r * m + m ≤ length l) (sym (k .wide)) (row-inside P l (k .long) (k .below))
-
-  pub cut-row : part (r * n) n l ≡ rowAt P l r
-  unfolding rowAt
-  cut-row = part-of (r * n) n l ∙ ap (λ m. take m (drop (r * m) l)) (k .wide)
-
-  pub cut-length : length (part (r * n) n l) ≡ n
-  cut-length = ap length cut-row ∙ row-length P l r (row-inside P l (k .long) (k .below)) ∙ sym (k .wide)
-
-  -- what a function of a mark word and a row gives
-  pub cut-marks : {A : Type 0} (f : List Bool → List ℕ → A) (marks : List ℕ) → let row = part (r * n) n l in
-      f (bitsOf (length row) (getD marks r 0)) row ≡ f (marksAt P marks r) (rowAt P l r)
-  unfolding marksAt
-  cut-marks f marks = ap₂ (λ m row. f (bitsOf m (getD marks r 0)) row) (cut-length ∙ k .wide) cut-row
 
 -- ---- 0 under marks
 
@@ -97,32 +68,22 @@ unfolding if_then_else_ blanked
 blanked-twice ms xs = beside-alike _ (λ x y. refl) ms (blanked ms xs) xs (alike-blanked ms xs)
 
 -- a row of lists that are as long as the columns
-row-flat : (P : Plan) (f : ℕ → List ℕ) (k n : ℕ) → ((i : ℕ) → i < n → length (f (k + i)) ≡ P .columns)
-    → (r : ℕ) → r < n → rowAt P (flatMap f (upFrom k n)) r ≡ f (k + r)
+row-flat : (P : Plan) (f : ℕ → List ℕ) → ((i : ℕ) → length (f i) ≡ P .columns) → (k n r : ℕ) → r < n → rowAt P (flatMap f (upFrom k n)) r ≡ f (k + r)
 unfolding flatMap upFrom rowAt
-row-flat P f k zero long r h = absurd (not-suc-le-zero h)
-row-flat P f k (suc n) long zero h =
-    ap (λ i. take (P .columns) (drop i (f k ++ flatMap f (upFrom (suc k) n)))) (zero-mul (P .columns))
-    ∙ take-at (f k) (flatMap f (upFrom (suc k) n)) (P .columns) (ap (λ i. length (f i)) (sym (add-zero k)) ∙ long 0 (omega arith))
-    ∙ ap f (sym (add-zero k))
-row-flat P f k (suc n) long (suc r) h =
-    ap (λ i. take (P .columns) (drop i (f k ++ flatMap f (upFrom (suc k) n)))) (suc-mul r (P .columns) ∙ add-comm (r * P .columns) (P .columns))
-    ∙ ap (take (P .columns)) (sym (drop-drop (r * P .columns) (P .columns) (f k ++ flatMap f (upFrom (suc k) n))))
-    ∙ ap (λ l. take (P .columns) (drop (r * P .columns) l))
-    (drop-at (f k) (flatMap f (upFrom (suc k) n)) (P .columns) (ap (λ i. length (f i)) (sym (add-zero k)) ∙ long 0 (omega arith)))
-    ∙ row-flat P f (suc k) n (λ i l. ap (λ j. length (f j)) (next i) ∙ long (suc i) (omega arith)) r (le-of-suc-le-suc h)
-    ∙ ap f (next r)
-  where
-    next : (i : ℕ) → suc k + i ≡ k + suc i
-    next i = omega arith
+row-flat P f long k zero r h = absurd (not-suc-le-zero h)
+row-flat P f long k (suc n) zero h = rw (zero-mul, add-zero) (take-at (f k) _ (P .columns) (long k))
+row-flat P f long k (suc n) (suc r) h =
+    let N = P .columns in
+    let next : suc k + r ≡ k + suc r = omega arith in
+    rw (suc-mul, add-comm (r * N) N, ← drop-drop (r * N) N, drop-at (f k) _ N (long k)) (row-flat P f long (suc k) n r (le-of-suc-le-suc h) ∙ ap f next)
 
 -- a row of the blanked stripe
 pub row-blanked : (P : Plan) (marks stripe : List ℕ) (r : ℕ) → r < P .rows
     → rowAt P (blanked (marksOf P marks) stripe) r ≡ blanked (marksAt P marks r) (rowAt P stripe r)
 row-blanked P marks stripe r h =
     ap (λ l. rowAt P l r) (blanked-rows P marks stripe)
-    ∙ row-flat P (λ r. blanked (marksAt P marks r) (rowAt P stripe r)) 0 (P .rows)
-    (λ i l. length-blanked (marksAt P marks (0 + i)) (rowAt P stripe (0 + i)) ∙ marks-length P marks (0 + i)) r h
+    ∙ row-flat P (λ r. blanked (marksAt P marks r) (rowAt P stripe r))
+    (λ i. length-blanked (marksAt P marks i) (rowAt P stripe i) ∙ marks-length P marks i) 0 (P .rows) r h
     ∙ ap (λ r. blanked (marksAt P marks r) (rowAt P stripe r)) (zero-add r)
 
 -- what stands under marks is not looked at

@@ -6,7 +6,8 @@ use lib.Dec.{T}
 use lib.ListN.{length}
 use Rattle.plans.specs.Plan.{planOf, marksOf}
 use Rattle.plans.specs.Refusal.{allBelow}
-use Rattle.repair.specs.File.{blanked, writeRefusal, writeFile, planIn, readRefusal, readStripe, readMarks}
+use Rattle.words.specs.Words.{byteRange}
+use Rattle.files.specs.File.{blanked, writeRefusal, writeFile, planIn, readRefusal, readStripe, readMarks}
 
 -- what was written is read, into buffers that fit: the stripe with 0 under marks, and the marks
 abbrev pub ReadsWhatWasWritten : Type 0
@@ -18,6 +19,6 @@ ReadsWhatWasWritten =
 -- bytes that were read are written, into a buffer as long, as they were
 abbrev pub WritesWhatWasRead : Type 0
 WritesWhatWasRead =
-    (file s m old : List ℕ) → T (allBelow 256 file) → readRefusal file s m ≡ 0 → length old ≡ length file
+    (file s m old : List ℕ) → T (allBelow byteRange file) → readRefusal file s m ≡ 0 → length old ≡ length file
     → let stripe = readStripe file s m in let marks = readMarks file s m in
     (writeRefusal (planIn file) stripe marks old ≡ 0) × (writeFile (planIn file) stripe marks old ≡ file)

@@ -1,42 +1,114 @@
-// Stripe files: reading one and writing one.
-pub mod buffer;
-pub mod file;
-pub mod marks;
-pub mod numbers;
-pub mod words;
-
-use plans::refusal;
-use repair::Outcome;
-use repair::plan;
+// Stripe files: what one is, and writing one.
+use plans::Outcome;
 ghost use mathlib.Core.Path.{_≡_};
+ghost use Prim.Native.Nat.{_/_, _%_, _^_, _<_};
+ghost use lib.Dec.{T, eqb};
+ghost use lib.ListN.{length};
+ghost use Rattle.field.specs.Lists.{if_then_else_};
+ghost use Rattle.fills.specs.Marks.{bitsOf};
+ghost use Rattle.plans.specs.Plan.{planOf, known, marksOf};
 ghost use Rattle.encoding.specs.Data.{outcomeOf};
-ghost use Rattle.repair.specs.File.{writeRefusal, writeFile, readRefusal, readStripe, readMarks};
+ghost use Rattle.words.specs.Words.{wordBits};
+ghost use Rattle.words.specs.Written.{Put};
+ghost use Rattle.files.specs.File.{headerOf, blanked, fileOf, writeRefusal, writeFile};
+ghost use Rattle.files.specs.Parts.{RowPut, SymbolsPut};
+
+// How many bytes a header has: the mark words begin behind it.
+pub const HEADER: usize = 8;
+
+// The header of a plan's file: offsets low byte first.
+pub fn header_of(plan: usize) -> [u8; HEADER]
+    requires { ⌜ T (known plan) ⌝ }
+    ensures { λ r. ⌜ r ≡ headerOf plan ⌝ }
+{
+    let facts = tables::facts_of(plan);
+    let symbols = words::size_bytes(HEADER + 4 * facts.rows);
+    [
+        plan as u8,
+        facts.rows as u8,
+        facts.columns as u8,
+        0,
+        HEADER as u8,
+        0,
+        symbols[0],
+        symbols[1],
+    ]
+}
+
+// ---- symbols
+
+// A symbol as a file holds it: 0 where its column is marked.
+fn kept(word: u32, column: usize, symbol: u8) -> u8
+    requires { ⌜ column < wordBits ⌝ }
+    ensures { λ r. ⌜ r ≡ (if eqb (word / 2 ^ column % 2) 1 then 0 else symbol) ⌝ }
+{
+    if words::is_marked(word, column) {
+        return 0;
+    }
+    symbol
+}
+
+// Writes a row from `at` on, 0 under its marks, and gives the place behind it. The rest of the file is unchanged.
+fn put_row(word: u32, row: &[u8], file: &mut [u8], at: usize) -> usize
+    requires { ⌜ RowPut (now row) (now file) at ⌝ }
+    ensures { λ r. ⌜ Put (now (file .entry)) at (blanked (bitsOf (length (now (row .entry))) word) (now (row .entry))) r (now (file .exit)) ⌝ }
+{
+    for c in 0..row.len() {
+        file[at + c] = kept(word, c, row[c]);
+    }
+    at + row.len()
+}
+
+// Writes the symbols from `at` on, 0 under marks, and gives the place behind them. The rest of the file is unchanged.
+pub fn put_symbols(plan: usize, stripe: &[u8], marks: &[u32], file: &mut [u8], at: usize) -> usize
+    requires { ⌜ SymbolsPut plan (now stripe) (now marks) (now file) at ⌝ }
+    ensures { λ r. ⌜ Put (now (file .entry)) at (blanked (marksOf (planOf plan) (now (marks .entry))) (now (stripe .entry))) r (now (file .exit)) ⌝ }
+{
+    let columns = tables::facts_of(plan).columns;
+    let mut next = at;
+    for r in 0..marks.len() {
+        let start = r * columns;
+        let end = start + columns;
+        next = put_row(marks[r], &stripe[start..end], file, next);
+    }
+    next
+}
+
+// ---- the file
+
+// What writing refuses; 0 where it does not.
+fn write_refusal(plan: usize, stripe: &[u8], marks: &[u32], file: &[u8]) -> usize
+    ensures { λ r. ⌜ r ≡ writeRefusal plan (now (stripe .entry)) (now (marks .entry)) (now (file .entry)) ⌝ }
+{
+    if !tables::is_known(plan) {
+        return 10;
+    }
+    if file.len() != tables::facts_of(plan).file_length {
+        return 11; // the buffer for the file
+    }
+    refusals::lent_refusal(plan, stripe, marks)
+}
+
+// Writes the whole file of a stripe and its marks that are not refused.
+fn put_file(plan: usize, stripe: &[u8], marks: &[u32], file: &mut [u8])
+    requires { ⌜ writeRefusal plan (now stripe) (now marks) (now file) ≡ 0 ⌝ }
+    ensures { λ _. ⌜ now (file .exit) ≡ fileOf plan (now (stripe .entry)) (now (marks .entry)) ⌝ }
+{
+    let header = header_of(plan);
+    let at_marks = words::put(&header, file, 0);
+    let at_symbols = words::put_words(marks, file, at_marks);
+    put_symbols(plan, stripe, marks, file, at_symbols);
+}
 
 // Writes a stripe and its marks as a file, 0 under marks. Where it is refused the file is unchanged.
 pub fn write_file(plan: usize, stripe: &[u8], marks: &[u32], file: &mut [u8]) -> Outcome
     ensures { λ r. ⌜ r ≡ outcomeOf (writeRefusal plan (now (stripe .entry)) (now (marks .entry)) (now (file .entry))) ⌝ }
     ensures { λ _. ⌜ now (file .exit) ≡ writeFile plan (now (stripe .entry)) (now (marks .entry)) (now (file .entry)) ⌝ }
 {
-    let number = file::write_refusal(plan, stripe, marks, file);
+    let number = write_refusal(plan, stripe, marks, file);
     if number != 0 {
         return Outcome::Refused(number);
     }
-    file::put_file(plan, stripe, marks, file);
-    Outcome::Done
-}
-
-// Reads a file into a stripe and its marks. Where it is refused both are unchanged.
-pub fn read_file(file: &[u8], stripe: &mut [u8], marks: &mut [u32]) -> Outcome
-    ensures { λ r. ⌜ r ≡ outcomeOf (readRefusal (now (file .entry)) (now (stripe .entry)) (now (marks .entry))) ⌝ }
-    ensures { λ _. ⌜ now (stripe .exit) ≡ readStripe (now (file .entry)) (now (stripe .entry)) (now (marks .entry)) ⌝ }
-    ensures { λ _. ⌜ now (marks .exit) ≡ readMarks (now (file .entry)) (now (stripe .entry)) (now (marks .entry)) ⌝ }
-{
-    let plan = file::plan_in(file);
-    let lengths = refusal::lengths_fit(plan, stripe, marks);
-    let number = file::file_refusal(file, lengths);
-    if number != 0 {
-        return Outcome::Refused(number);
-    }
-    file::load(file, stripe, marks);
+    put_file(plan, stripe, marks, file);
     Outcome::Done
 }

@@ -11,9 +11,9 @@ use Rattle.field.proofs.Sum.{⊕-self}
 use Rattle.field.proofs.Test.{both-left, both-right}
 use Rattle.field.proofs.Laws.{mul-zero, dot-lt}
 use Rattle.field.proofs.Fields.{gf16-field}
-use Rattle.linear.specs.Lists.{all, plus}
-use Rattle.linear.proofs.Tests.{all-in, in-all}
-use Rattle.linear.proofs.Vectors.{dot-comm, dot-plus}
+use Rattle.fills.specs.Lists.{all, plus}
+use Rattle.fills.proofs.Tests.{all-in, in-all}
+use Rattle.fills.proofs.Vectors.{dot-comm, dot-plus}
 use Rattle.codewords.proofs.Totals.{dot-times}
 use Rattle.interleaved.specs.Interleaved.{locations, inCode, sum}
 

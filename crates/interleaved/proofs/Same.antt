@@ -9,15 +9,15 @@ use lib.ListN.{drop}
 use Rattle.field.specs.Lists.{if_then_else_, upFrom}
 use Rattle.field.specs.Field.{size, dot, gf16}
 use Rattle.field.specs.Power.{power, powerSum}
-use Rattle.linear.specs.Lists.{all, vanish}
-use Rattle.linear.specs.Fill.{sumsOf}
+use Rattle.fills.specs.Lists.{all, vanish}
+use Rattle.fills.specs.Fill.{sumsOf}
 use Rattle.plans.specs.Plan.{Level, allOnes, locations3, powers3, plan3, known, planOf, levelOf, rowAt, across}
-use Rattle.plans.specs.Refusal.{unasked, inMemory, stripeFits}
+use Rattle.plans.specs.Refusal.{firstFailed, stripeFits}
 use Rattle.plans.specs.declared.Verdict.the-variants.{Yes, No, Refused}
 use Rattle.codewords.specs.Codeword.{rowsHold, totalsHold, isCodeword, testRefusal, tested}
 use Rattle.codewords.proofs.Walk.{all-map}
 use Rattle.codewords.proofs.Holding.{vanish-turned}
-use Rattle.interleaved.specs.Interleaved.{a^, row, locations, inCode, plainSum, weightedSum}
+use Rattle.interleaved.specs.Interleaved.{rows, a^, row, locations, inCode, plainSum, weightedSum}
 use Rattle.interleaved.specs.Interleaved.{isInterleaved, interleavedRefusal, interleaved}
 use Rattle.interleaved.specs.Same.{SameCode, SameVerdict}
 use Rattle.interleaved.proofs.Linear.{dot-plain, dot-weighted, sum-in, weighted-in}
@@ -51,26 +51,26 @@ in-code last word = in-sums 0 (suc last) word
 
 -- ---- rows
 
-pub rows-same : (stripe : List ℕ) → rowsHold plan3 stripe ≡ all (λ r. inCode 1 (row stripe r)) (upFrom 0 8)
+pub rows-same : (stripe : List ℕ) → rowsHold plan3 stripe ≡ all (λ r. inCode 1 (row stripe r)) (upFrom 0 rows)
 unfolding plan3 levelOf rowAt rowsHold row
-rows-same stripe = ap (λ f. all f (upFrom 0 8)) (fun-ext (λ r. in-code 1 (row stripe r)))
+rows-same stripe = ap (λ f. all f (upFrom 0 rows)) (fun-ext (λ r. in-code 1 (row stripe r)))
 
 -- ---- totals
 
-ones-8 : allOnes 8 ≡ map (λ r. 1) (upFrom 0 8)
+its-ones : allOnes rows ≡ map (λ r. 1) (upFrom 0 rows)
 unfolding upFrom allOnes
-ones-8 = refl
+its-ones = refl
 
-plain-total : (stripe : List ℕ) (p : ℕ) → dot gf16 (allOnes 8) (across plan3 stripe (powers3 p)) ≡ powerSum gf16 locations (plainSum stripe) p
+plain-total : (stripe : List ℕ) (p : ℕ) → dot gf16 (allOnes rows) (across plan3 stripe (powers3 p)) ≡ powerSum gf16 locations (plainSum stripe) p
 unfolding plan3 rowAt across row plainSum
 plain-total stripe p =
-    ap (λ w. dot gf16 w (across plan3 stripe (powers3 p))) ones-8
-    ∙ sym (dot-plain (powers3 p) (row stripe) (upFrom 0 8)) ∙ power-check (plainSum stripe) p
+    ap (λ w. dot gf16 w (across plan3 stripe (powers3 p))) its-ones
+    ∙ sym (dot-plain (powers3 p) (row stripe) (upFrom 0 rows)) ∙ power-check (plainSum stripe) p
 
 weighted-total : (stripe : List ℕ) (p : ℕ)
-    → dot gf16 (map (power gf16 2) (upFrom 0 8)) (across plan3 stripe (powers3 p)) ≡ powerSum gf16 locations (weightedSum stripe) p
+    → dot gf16 (map (power gf16 2) (upFrom 0 rows)) (across plan3 stripe (powers3 p)) ≡ powerSum gf16 locations (weightedSum stripe) p
 unfolding plan3 rowAt across a^ row weightedSum
-weighted-total stripe p = sym (dot-weighted (powers3 p) a^ (row stripe) (upFrom 0 8)) ∙ power-check (weightedSum stripe) p
+weighted-total stripe p = sym (dot-weighted (powers3 p) a^ (row stripe) (upFrom 0 rows)) ∙ power-check (weightedSum stripe) p
 
 -- a level's totals are zero, weights by weights
 by-weights : (stripe : List ℕ) (L : Level)
@@ -84,8 +84,8 @@ totals-same : (stripe : List ℕ)
     ≡ zeroFrom 2 1 (plainSum stripe) && (zeroFrom 2 1 (weightedSum stripe) && true) && (zeroFrom 3 4 (plainSum stripe) && true && true)
 unfolding upFrom all plan3
 totals-same stripe =
-    let plain : List ℕ → ℕ = λ c. dot gf16 (allOnes 8) (across plan3 stripe c) in
-    let weighted : List ℕ → ℕ = λ c. dot gf16 (map (power gf16 2) (upFrom 0 8)) (across plan3 stripe c) in
+    let plain : List ℕ → ℕ = λ c. dot gf16 (allOnes rows) (across plan3 stripe c) in
+    let weighted : List ℕ → ℕ = λ c. dot gf16 (map (power gf16 2) (upFrom 0 rows)) (across plan3 stripe c) in
     ap₂ (λ a b. a && (b && true)) (by-weights stripe _) (by-weights stripe _)
     ∙ ap₂ (λ a b. a && b && (vanish (map plain (map powers3 (upFrom 3 4))) && true && true))
     (vanish-powers plain (plainSum stripe) (plain-total stripe) 2 1)
@@ -96,14 +96,14 @@ totals-same stripe =
 -- ---- both
 
 -- power sums 0 and 1 of both sums of the rows are 0 where the rows' are
-module _ (stripe : List ℕ) (rows : T (all (λ r. inCode 1 (row stripe r)) (upFrom 0 8))) where
+module _ (stripe : List ℕ) (held : T (all (λ r. inCode 1 (row stripe r)) (upFrom 0 rows))) where
   pub plain-in : T (inCode 1 (plainSum stripe))
   unfolding plainSum
-  plain-in = sum-in 1 (row stripe) (upFrom 0 8) rows
+  plain-in = sum-in 1 (row stripe) (upFrom 0 rows) held
 
   pub weighted-sum-in : T (inCode 1 (weightedSum stripe))
   unfolding weightedSum
-  weighted-sum-in = weighted-in 1 a^ (row stripe) (upFrom 0 8) rows
+  weighted-sum-in = weighted-in 1 a^ (row stripe) (upFrom 0 rows) held
 
 -- where power sums 0 and 1 are 0 if the rows hold, only the others count
 others-count : (r s0 s1 w0 w1 s2 w2 more : Bool) → (T r → T (s0 && (s1 && true))) → (T r → T (w0 && (w1 && true)))
@@ -120,15 +120,15 @@ others-count true true true true true true true more s w = sym (and-true (more &
 pub same-code : SameCode
 unfolding upFrom all inCode zeroFrom isCodeword isInterleaved
 same-code stripe =
-    let rows : Bool = all (λ r. inCode 1 (row stripe r)) (upFrom 0 8) in
+    let held : Bool = all (λ r. inCode 1 (row stripe r)) (upFrom 0 rows) in
     let plain : ℕ → Bool = λ p. eqb (powerSum gf16 locations (plainSum stripe) p) 0 in
     let weighted : ℕ → Bool = λ p. eqb (powerSum gf16 locations (weightedSum stripe) p) 0 in
-    others-count rows (plain 0) (plain 1) (weighted 0) (weighted 1) (plain 2) (weighted 2) (zeroFrom 3 4 (plainSum stripe))
+    others-count held (plain 0) (plain 1) (weighted 0) (weighted 1) (plain 2) (weighted 2) (zeroFrom 3 4 (plainSum stripe))
     (plain-in stripe) (weighted-sum-in stripe)
     ∙ sym (ap₂ _&&_ (rows-same stripe) (totals-same stripe))
 
 pub same-verdict : SameVerdict
-unfolding size gf16 plan3 known planOf unasked inMemory stripeFits testRefusal tested interleavedRefusal interleaved
+unfolding if_then_else_ size gf16 plan3 known planOf firstFailed stripeFits testRefusal tested interleavedRefusal interleaved
 same-verdict stripe =
     let n : ℕ = interleavedRefusal stripe in
     ap (λ b. if eqb n 0 then if b then Yes else No else Refused n) (same-code stripe)

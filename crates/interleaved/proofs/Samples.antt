@@ -6,8 +6,8 @@ use lib.ListN.{take, set}
 use Rattle.field.specs.Lists.{if_then_else_, upFrom}
 use Rattle.field.specs.Field.{_⊕_, size, double, times, mul, dot, gf16}
 use Rattle.field.specs.Power.{power, powerSum}
-use Rattle.linear.specs.Lists.{all}
-use Rattle.plans.specs.Refusal.{firstFailed, unasked, inMemory, allBelow}
+use Rattle.fills.specs.Lists.{all}
+use Rattle.plans.specs.Refusal.{firstFailed, allBelow}
 use Rattle.plans.specs.declared.Verdict.the-variants.{Yes, No, Refused}
 use Rattle.interleaved.specs.Interleaved.{a^, row, locations, inCode, sum, plainSum, weightedSum}
 use Rattle.interleaved.specs.Interleaved.{isInterleaved, interleavedRefusal, interleaved}
@@ -35,6 +35,6 @@ pub samples :
     × (interleaved (sample 0x4346dfdabe852f5 0x1f2a8115f357270 0xb8e34e8647c73ef) ≡ No)
     -- a symbol too few and a symbol 16; a symbol 16
     × (interleaved (take 119 (set codeword 0 16)) ≡ Refused 11) × (interleaved (set codeword 0 16) ≡ Refused 13)
-unfolding if_then_else_ upFrom _⊕_ size double times mul dot gf16 power powerSum flatMap all firstFailed unasked inMemory allBelow
+unfolding if_then_else_ upFrom _⊕_ size double times mul dot gf16 power powerSum flatMap all firstFailed allBelow
     a^ row locations inCode sum plainSum weightedSum isInterleaved interleavedRefusal interleaved digits sample codeword
 samples = (refl, refl, refl, refl, refl, refl)

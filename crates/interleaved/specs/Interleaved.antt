@@ -5,15 +5,21 @@ use mathlib.Core.Bool.{Bool, _&&_}
 use mathlib.Core.List.{List, [], _∷_, map}
 use lib.Dec.{eqb}
 use lib.ListN.{length, take, drop}
-use Rattle.field.specs.Lists.{if_then_else_, upFrom, _to_}
-use Rattle.field.specs.Field.{mul, gf16}
+use Rattle.field.specs.Lists.{if_then_else_, upFrom}
+use Rattle.field.specs.Field.{size, mul, gf16}
 use Rattle.field.specs.Power.{power, powerSum}
-use Rattle.linear.specs.Lists.{all, plus}
-use Rattle.plans.specs.Refusal.{inMemory, unasked, allBelow}
+use Rattle.fills.specs.Lists.{all, plus}
+use Rattle.plans.specs.Refusal.{firstFailed, allBelow}
 use Rattle.plans.specs.declared.Verdict.{Verdict}
 use Rattle.plans.specs.declared.Verdict.the-variants.{Yes, No, Refused}
 
--- ---- the stripe: 8 rows of 15 symbols of GF(16), row after row
+-- ---- the stripe: rows of symbols of GF(16), row after row
+
+abbrev pub rows : ℕ
+rows = 8
+
+abbrev pub columns : ℕ
+columns = 15
 
 -- a ^ r, where a is 2
 unfoldable pub a^ : ℕ → ℕ
@@ -21,12 +27,12 @@ a^ r = power gf16 2 r
 
 -- row r of a stripe
 unfoldable pub row : List ℕ → ℕ → List ℕ
-row stripe r = take 15 (drop (r * 15) stripe)
+row stripe r = take columns (drop (r * columns) stripe)
 
--- ---- the codes of words of 15 symbols: column c has location a ^ c
+-- ---- the codes of words as long as a row: column c has location a ^ c
 
 unfoldable pub locations : List ℕ
-locations = map a^ (0 to 14)
+locations = map a^ (upFrom 0 columns)
 
 -- a word is in the code with power sums 0 to `last` where each of these is 0
 unfoldable pub inCode : (last : ℕ) → List ℕ → Bool
@@ -41,21 +47,21 @@ sum (word ∷ words) = plus word (sum words)
 
 -- the plain sum of all rows
 unfoldable pub plainSum : List ℕ → List ℕ
-plainSum stripe = sum (map (row stripe) (0 to 7))
+plainSum stripe = sum (map (row stripe) (upFrom 0 rows))
 
 -- the sum of a ^ r times row r
 unfoldable pub weightedSum : List ℕ → List ℕ
-weightedSum stripe = sum (map (λ r. map (mul gf16 (a^ r)) (row stripe r)) (0 to 7))
+weightedSum stripe = sum (map (λ r. map (mul gf16 (a^ r)) (row stripe r)) (upFrom 0 rows))
 
 -- ---- the test
 
 -- the rows are in the code with power sums 0, 1; their plain sum in that with 0 to 6; the sum of a ^ r times row r in that with 0 to 2
 unfoldable pub isInterleaved : List ℕ → Bool
-isInterleaved stripe = all (λ r. inCode 1 (row stripe r)) (0 to 7) && (inCode 6 (plainSum stripe) && inCode 2 (weightedSum stripe))
+isInterleaved stripe = all (λ r. inCode 1 (row stripe r)) (upFrom 0 rows) && (inCode 6 (plainSum stripe) && inCode 2 (weightedSum stripe))
 
 -- no plan number is asked: 11, then 13
 unfoldable pub interleavedRefusal : List ℕ → ℕ
-interleavedRefusal stripe = inMemory unasked (eqb (length stripe) 120) unasked unasked (allBelow 16 stripe) unasked unasked
+interleavedRefusal stripe = firstFailed ((11, eqb (length stripe) (rows * columns)) ∷ (13, allBelow (size gf16) stripe) ∷ [])
 
 unfoldable pub interleaved : List ℕ → Verdict
 interleaved stripe =

@@ -2,3 +2,5 @@
 pub mod Interleaved
 -- that it is plan 3's code
 pub mod Same
+-- what the contracts of inner functions cite
+pub mod Asked

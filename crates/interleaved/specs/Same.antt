@@ -6,7 +6,7 @@ use Rattle.plans.specs.Plan.{plan3}
 use Rattle.codewords.specs.Codeword.{isCodeword, tested}
 use Rattle.interleaved.specs.Interleaved.{isInterleaved, interleaved}
 
--- the partner's test accepts the stripes that ours accepts: every stripe of 120 symbols, and any other numbers too
+-- the partner's test accepts the stripes that ours accepts: every stripe of the plan's length, and any other numbers too
 abbrev pub SameCode : Type 0
 SameCode = (stripe : List ℕ) → isInterleaved stripe ≡ isCodeword plan3 stripe
 

@@ -13,7 +13,8 @@ use Rattle.plans.specs.Tables.{padded}
 use Rattle.plans.specs.declared.Report.{Report}
 use Rattle.plans.proofs.Padded.{Padding}
 use Rattle.plans.proofs.Plans.{levels-most}
-use Rattle.texts.proofs.Texts.{below-at}
+use Rattle.numbers.proofs.Values.{below-at}
+use Rattle.layout.specs.Layout.{reportSize}
 
 three-are : (l : List ℕ) → length l ≡ 3 → l ≡ getD l 0 0 ∷ getD l 1 0 ∷ getD l 2 0 ∷ []
 three-are [] e = absurd (omega arith)
@@ -41,5 +42,5 @@ module _ (p : ℕ) (r : Report) (three : length (r .rows) ≡ 3) {n : ℕ} (e : 
       omega (arith, small, getD-take (n + 2) five k 0 h)
 
   -- after n + 2 turns of the loop that writes the five
-  pub end-padded : {k : ℕ} {bytes : List ℕ} → Padding 8 five k bytes → k ≡ n + 2 → bytes ≡ padded 8 (endValues (planOf p) r)
-  end-padded h all = h .copied ∙ ap (λ k. padded 8 (take k five)) all ∙ ap (padded 8) end-first
+  pub end-padded : {k : ℕ} {bytes : List ℕ} → Padding reportSize five k bytes → k ≡ n + 2 → bytes ≡ padded reportSize (endValues (planOf p) r)
+  end-padded h all = h .copied ∙ ap (λ k. padded reportSize (take k five)) all ∙ ap (padded reportSize) end-first

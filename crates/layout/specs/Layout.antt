@@ -1,12 +1,12 @@
 -- A report and a bench as bytes.
 use Prim.Native.Nat.{ℕ, _+_, _*_}
-use mathlib.Core.List.{List, [], _∷_, _++_, map, flatMap}
+use mathlib.Core.List.{List, [], _∷_, _++_, flatMap}
 use lib.ListN.{take, drop, getD, replicate}
-use Rattle.field.specs.Lists.{upFrom}
 use Rattle.plans.specs.Plan.{Plan}
+use Rattle.plans.specs.Rooms.{rowRoom, symbolRoom, learnedRoom}
 use Rattle.plans.specs.Answers.{reportValues}
 use Rattle.plans.specs.Tables.{padded}
-use Rattle.repair.specs.File.{bytes4, wordAt}
+use Rattle.words.specs.Words.{bytes4, wordsAt}
 use Rattle.plans.specs.declared.Bench.{Bench}
 use Rattle.plans.specs.declared.Report.{Report}
 use Rattle.plans.specs.declared.Answer.{Answer}
@@ -14,7 +14,7 @@ use Rattle.plans.specs.declared.Answer.the-variants.{Restored, Stuck, Clash, Re
 use Rattle.plans.specs.declared.Place.{Place}
 use Rattle.plans.specs.declared.Place.the-variants.{Row, Across}
 
--- ---- a report: 8 bytes
+-- ---- a report
 
 abbrev pub reportSize : ℕ
 reportSize = 8
@@ -34,10 +34,20 @@ answerBytes (Refused n) values = replicate reportSize 0
 unfoldable pub reportBytes : Plan → Report → List ℕ
 reportBytes P r = answerBytes (r .answer) (reportValues P r)
 
--- ---- a bench: 418 bytes
+-- ---- a bench
+
+-- where its symbols, its mark words and its sums begin, and how many bytes it has
+abbrev pub symbolsFrom : ℕ
+symbolsFrom = 2
+
+abbrev pub marksFrom : ℕ
+marksFrom = symbolsFrom + symbolRoom
+
+abbrev pub sumsFrom : ℕ
+sumsFrom = marksFrom + 4 * rowRoom
 
 abbrev pub benchSize : ℕ
-benchSize = 418
+benchSize = sumsFrom + learnedRoom
 
 -- plan, level, symbols, mark words of four bytes each, low byte first, and sums
 unfoldable pub benchBytes : Bench → List ℕ
@@ -47,7 +57,7 @@ unfoldable pub benchIn : List ℕ → Bench
 benchIn bytes = record {
   plan = getD bytes 0 0;
   level = getD bytes 1 0;
-  symbols = take 256 (drop 2 bytes);
-  marks = map (λ r. wordAt bytes (258 + 4 * r)) (upFrom 0 8);
-  sums = take 128 (drop 290 bytes);
+  symbols = take symbolRoom (drop symbolsFrom bytes);
+  marks = wordsAt bytes marksFrom rowRoom;
+  sums = take learnedRoom (drop sumsFrom bytes);
 }

@@ -1,3 +1,4 @@
--- What a script's report and bench mean as bytes, which answers are refusals, and by what a buffer of a wrong size is refused.
+-- What a script's report and bench mean as bytes.
 pub mod Layout
-pub mod Numbers
+-- what the contracts of inner functions cite
+pub mod Parts

@@ -1,2 +1,2 @@
--- What the contracts of the crate `levels` cite.
+-- what the contracts of inner functions cite
 pub mod Learned

@@ -1,6 +1,6 @@
 -- The gathered system answers `fill`: its solutions are the fillings, and its dependencies those of the marked columns. Assumes nothing.
 use Prim.Native.Nat.{ℕ, _^_, _<_}
-use mathlib.Core.Path.{_≡_, refl, sym, ap, ap₂, _∙_, subst}
+use mathlib.Core.Path.{_≡_, refl, sym, ap, _∙_, subst}
 use mathlib.Core.Bool.{Bool, true, false}
 use mathlib.Core.Logic.{_≢_}
 use mathlib.Core.List.{List}
@@ -15,21 +15,23 @@ use Rattle.field.proofs.Sum.{⊕-comm, ⊕-undo, zero-⊕}
 use Rattle.field.specs.Ours.{fieldOf}
 use Rattle.field.proofs.Laws.{IsField, mul-zero}
 use Rattle.field.proofs.Fields.{our-field}
-use Rattle.linear.specs.Lists.{same, zeros, vanish}
-use Rattle.linear.specs.Fill.{sumsOf, none, tied, one, fill}
-use Rattle.systems.specs.System.{vec, Matrix, ent, inner, Elements, Ker, Solves, Consistency, Dependence}
-use Rattle.basis.specs.Words.{bitAt}
-use Rattle.linear.specs.Marks.{rowsOf, bitsOf, fillOf, answerOf, vectorOf, Places, hidden, Gathered, scattered}
+use Rattle.fills.specs.Lists.{same, zeros, vanish}
+use Rattle.fills.specs.Fill.{sumsOf, none, tied, one, fill}
+use Rattle.equations.specs.System.{vec, Matrix, ent, inner, Elements, Ker, Solves, Consistency, Dependence}
+use Rattle.equations.specs.Words.{bitAt}
+use Rattle.fills.specs.Marks.{rowsOf, bitsOf}
+use Rattle.linear.specs.Answer.{fillOf, answerOf, vectorOf}
+use Rattle.gathering.specs.Steps.{Places, hidden, Gathered, scattered}
 use Rattle.linear.specs.declared.FillAnswer.{FillAnswer}
 use Rattle.linear.specs.declared.FillAnswer.the-variants.{Tied, None, One}
-use Rattle.linear.proofs.Tests.{same→eq, same-refl}
-use Rattle.linear.proofs.Filling.{Dependency, Independent, independent-of, Filling, fill-none, fill-tied, fill-one}
-use Rattle.linear.proofs.Choices.{Agrees}
-use Rattle.systems.proofs.Inner.{inner-same, inner-zero, inner-split}
-use Rattle.linear.proofs.Flat.{length-sums, sums-at, sums-are}
-use Rattle.basis.proofs.Bits.{bit-bound, bit-of-none}
-use Rattle.linear.proofs.Columns.{hidden-marked, hidden-unmarked, length-scattered, scattered-at, scattered-off}
-use Rattle.linear.proofs.Marked.{zeros-at, length-zeros, vanish-at, vanish-of, length-bits, agrees-size, agrees-marked, agrees-unmarked, agrees-bits}
+use Rattle.fills.proofs.Tests.{same→eq, same-refl}
+use Rattle.fills.proofs.Filling.{Dependency, Independent, independent-of, Filling, fill-none, fill-tied, fill-one}
+use Rattle.fills.proofs.Choices.{Agrees}
+use Rattle.equations.proofs.Inner.{inner-same, inner-zero, inner-split}
+use Rattle.fills.proofs.Flat.{length-sums, sums-at, sums-are}
+use Rattle.equations.proofs.Bits.{bit-bound, bit-of-none}
+use Rattle.gathering.proofs.Columns.{hidden-marked, hidden-unmarked, length-scattered, scattered-at, scattered-off}
+use Rattle.fills.proofs.Marked.{zeros-at, length-zeros, vanish-at, vanish-of, length-bits, agrees-size, agrees-marked, agrees-unmarked, agrees-bits}
 
 module _ (F : Field) (K : IsField F) (m n : ℕ) (checks target v : List ℕ) (marks k : ℕ) (at b : ℕ → ℕ) (M : Matrix)
     (P : Places marks k at) (fit : marks < 2 ^ n) (G : Gathered F checks target b n k at M m)
@@ -55,55 +57,58 @@ module _ (F : Field) (K : IsField F) (m n : ℕ) (checks target v : List ℕ) (m
   off : (c : ℕ) → bitAt marks c ≢ 1 → (t : ℕ) → t < k → at t ≢ c
   off c ne t l e = ne (ap (bitAt marks) (sym e) ∙ P .marked t l)
 
-  -- the sum of a vector, in the two parts that the system has apart
-  split : (w : List ℕ) → Agrees F ms v w → (i : ℕ) → i < m → sum i (vec w) ≡ sum i b ⊕ inner F (M i) (λ t. vec w (at t)) k
+  -- the sum of a vector, in the two parts that the system has apart: d has its unmarked symbols, and 0 at the places
+  split : (u w : List ℕ) (d : ℕ → ℕ) → ((t : ℕ) → t < k → d (at t) ≡ 0) → ((c : ℕ) → c < n → bitAt marks c ≢ 1 → d c ≡ vec u c)
+      → Agrees F ms u w → (i : ℕ) → i < m → sum i (vec w) ≡ sum i d ⊕ inner F (M i) (λ t. vec w (at t)) k
   unfolding ms sum
-  split w a i l =
-      inner-split F K at k n (ent checks n i) (vec w) b within (P .apart) hole
-      (λ c lc free. agrees-unmarked F n marks v w a c lc (unplaced c free) ∙ sym (shown c lc (unplaced c free)))
-      ∙ ap (λ x. sum i b ⊕ x) (inner-same F _ _ _ _ k (λ t lt. ap (λ x. mul F x (vec w (at t))) (sym (G .coefficient i l t lt))))
+  split u w d gone same a i l =
+      inner-split F K at k n (ent checks n i) (vec w) d within (P .apart) gone
+      (λ c lc free. agrees-unmarked F n marks u w a c lc (unplaced c free) ∙ sym (same c lc (unplaced c free)))
+      ∙ ap (λ x. sum i d ⊕ x) (inner-same F _ _ _ _ k (λ t lt. ap (λ x. mul F x (vec w (at t))) (sym (G .coefficient i l t lt))))
 
   split-zeros : (w : List ℕ) → Agrees F ms (zeros ms) w → (i : ℕ) → i < m → sum i (vec w) ≡ inner F (M i) (λ t. vec w (at t)) k
   unfolding ms sum
   split-zeros w a i l =
-      inner-split F K at k n (ent checks n i) (vec w) (λ _. 0) within (P .apart) (λ t _. refl)
-      (λ c lc free. agrees-unmarked F n marks (zeros ms) w a c lc (unplaced c free) ∙ zeros-at ms c)
-      ∙ ap₂ _⊕_ (inner-zero F _ _ n (λ c _. mul-zero F K _))
-      (inner-same F _ _ _ _ k (λ t lt. ap (λ x. mul F x (vec w (at t))) (sym (G .coefficient i l t lt))))
-      ∙ zero-⊕ _
+      split (zeros ms) w (λ _. 0) (λ t _. refl) (λ c _ _. sym (zeros-at ms c)) a i l
+      ∙ ap (λ s. s ⊕ inner F (M i) (λ t. vec w (at t)) k) (inner-zero F _ _ n (λ c _. mul-zero F K _)) ∙ zero-⊕ _
+
+  -- elements written into a vector at the places
+  module _ (u : List ℕ) (size-u : length u ≡ n) (x : ℕ → ℕ) where
+    written-size : length (scattered u at x k) ≡ n
+    written-size = length-scattered u at x k ∙ size-u
+
+    written-at : (t : ℕ) → t < k → vec (scattered u at x k) (at t) ≡ x t
+    written-at t l = scattered-at u at x k (λ t l. rw size-u (within t l)) (P .apart) t l
+
+    written-agrees : Elements F x → Agrees F ms u (scattered u at x k)
+    unfolding ms
+    written-agrees small = agrees-bits F n marks u (scattered u at x k) written-size
+        (λ c l e. let r = P .every c e in rw (← r .2, written-at (r .0) (r .1)) (small (r .0))) (λ c l ne. scattered-off u at x k c (off c ne))
+
+    written-row : (i : ℕ) → inner F (M i) (λ t. vec (scattered u at x k) (at t)) k ≡ inner F (M i) x k
+    written-row i = inner-same F _ _ _ _ k (λ t lt. ap (mul F (M i t)) (written-at t lt))
 
   -- ---- fillings and solutions
 
   filling-solves : (w : List ℕ) → Filling F rows target ms v w → Solves F M m k (λ t. vec w (at t))
   unfolding ms rows sum
   filling-solves w f i l =
-      sym (⊕-undo (sum i b) _) ∙ ap (λ x. sum i b ⊕ x) (sym (split w (f .agrees) i l) ∙ met) ∙ ⊕-comm _ _ ∙ sym (G .remainder i l)
+      sym (⊕-undo (sum i b) _) ∙ ap (λ x. sum i b ⊕ x) (sym (split v w b hole shown (f .agrees) i l) ∙ met) ∙ ⊕-comm _ _ ∙ sym (G .remainder i l)
     where
       met : sum i (vec w) ≡ vec target i
       met = sym (sums-at F K m n checks w (le-of-eq (agrees-size F n marks v w (f .agrees))) i l) ∙ ap (λ s. vec s i) (f .meets)
 
   solves-filling : (x : ℕ → ℕ) → Elements F x → Solves F M m k x → Filling F rows target ms v (scattered v at x k)
   unfolding ms rows sum
-  solves-filling x small h = record { agrees = agrees; meets = sums-are F K m n checks w target (le-of-eq size-w) size-target met }
+  solves-filling x small h = record {
+    agrees = agrees;
+    meets = sums-are F K m n checks (scattered v at x k) target (le-of-eq (written-size v size-v x)) size-target (λ i l.
+        split v (scattered v at x k) b hole shown agrees i l
+        ∙ ap (λ y. sum i b ⊕ y) (written-row v size-v x i ∙ h i l ∙ G .remainder i l ∙ ⊕-comm _ _) ∙ ⊕-undo _ _);
+  }
     where
-      w : List ℕ
-      w = scattered v at x k
-
-      size-w : length w ≡ n
-      size-w = length-scattered v at x k ∙ size-v
-
-      placed : (t : ℕ) → t < k → vec w (at t) ≡ x t
-      placed t l = scattered-at v at x k (λ t l. rw size-v (within t l)) (P .apart) t l
-
-      agrees : Agrees F ms v w
-      agrees = agrees-bits F n marks v w size-w
-          (λ c l e. let r = P .every c e in rw (← r .2, placed (r .0) (r .1)) (small (r .0))) (λ c l ne. scattered-off v at x k c (off c ne))
-
-      met : (i : ℕ) → i < m → sum i (vec w) ≡ vec target i
-      met i l =
-          split w agrees i l
-          ∙ ap (λ y. sum i b ⊕ y) (inner-same F _ _ _ _ k (λ t lt. ap (mul F (M i t)) (placed t lt)) ∙ h i l ∙ G .remainder i l ∙ ⊕-comm _ _)
-          ∙ ⊕-undo _ _
+      agrees : Agrees F ms v (scattered v at x k)
+      agrees = written-agrees v size-v x small
 
   -- ---- dependencies
 
@@ -117,10 +122,10 @@ module _ (F : Field) (K : IsField F) (m n : ℕ) (checks target v : List ℕ) (m
   unfolding ms rows sum
   ker-dependency z small j lj nz h = record {
     agrees = agrees;
-    nonzero = not-T (vanish w) (λ t. nz (sym (placed j lj) ∙ vanish-at w t (at j)));
+    nonzero = not-T (vanish w) (λ t. nz (sym (written-at (zeros ms) size-zeros z j lj) ∙ vanish-at w t (at j)));
     vanishes = vanish-of _ (λ i l. let c : i < m = omega (arith, length-sums F K m n checks w) in
-        sums-at F K m n checks w (le-of-eq size-w) i c ∙ split-zeros w agrees i c
-        ∙ inner-same F _ _ _ _ k (λ t lt. ap (mul F (M i t)) (placed t lt)) ∙ h i c);
+        sums-at F K m n checks w (le-of-eq (written-size (zeros ms) size-zeros z)) i c ∙ split-zeros w agrees i c
+        ∙ written-row (zeros ms) size-zeros z i ∙ h i c);
   }
     where
       w : List ℕ
@@ -129,15 +134,8 @@ module _ (F : Field) (K : IsField F) (m n : ℕ) (checks target v : List ℕ) (m
       size-zeros : length (zeros ms) ≡ n
       size-zeros = length-zeros ms ∙ length-bits n marks
 
-      size-w : length w ≡ n
-      size-w = length-scattered (zeros ms) at z k ∙ size-zeros
-
-      placed : (t : ℕ) → t < k → vec w (at t) ≡ z t
-      placed t l = scattered-at (zeros ms) at z k (λ t l. rw size-zeros (within t l)) (P .apart) t l
-
       agrees : Agrees F ms (zeros ms) w
-      agrees = agrees-bits F n marks (zeros ms) w size-w
-          (λ c l e. let r = P .every c e in rw (← r .2, placed (r .0) (r .1)) (small (r .0))) (λ c l ne. scattered-off (zeros ms) at z k c (off c ne))
+      agrees = written-agrees (zeros ms) size-zeros z small
 
   independent : (z : ℕ → ℕ) → Dependence F M m k false z → Independent F rows ms
   unfolding ms rows

@@ -7,14 +7,14 @@ use native.Mathlib.Omega.{arith}
 use lib.ListN.{length}
 use Rattle.field.specs.Field.{_⊕_}
 use Rattle.field.specs.Ours.{fieldOf}
-use Rattle.systems.specs.System.{vec, Matrix, ent, inner, Elements, Solved}
-use Rattle.basis.specs.Words.{bitAt, columnOf}
-use Rattle.systems.proofs.Inner.{put, put-same, put-other}
+use Rattle.equations.specs.System.{vec, Matrix, ent, inner, Elements, Solved}
+use Rattle.equations.specs.Words.{bitAt, columnOf}
+use Rattle.equations.proofs.Inner.{put, put-same, put-other}
 use Rattle.basis.specs.Span.{Spans}
-use Rattle.basis.proofs.Wording.{column-bit}
+use Rattle.equations.proofs.Wording.{column-bit}
 use Rattle.basis.proofs.Packing.{spans-solved}
-use Rattle.linear.specs.Marks.{Places, hidden, Gathered, scattered}
-use Rattle.linear.proofs.Columns.{gathered-same}
+use Rattle.gathering.specs.Steps.{Places, hidden, Gathered, scattered}
+use Rattle.gathering.proofs.Columns.{gathered-same}
 use Rattle.linear.proofs.Answers.{Outcomes, outcomes}
 
 module _ (checks target v places : List ℕ) (marks k need solution dependency : ℕ) (dependent consistent : Bool) (shown : ℕ → ℕ)

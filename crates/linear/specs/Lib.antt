@@ -1,4 +1,4 @@
--- What the crate `linear` means: filling the marked places of a vector.
-pub mod Lists
-pub mod Fill
-pub mod Marks
+-- What the crate `linear` takes and answers.
+pub mod Answer
+-- what the contracts of inner functions cite
+pub mod Steps

@@ -1,8 +1,7 @@
 // Systems and vectors with known answers, over both fields. What the compiled code answers is held to the file `stdout`.
 ghost use Prim.Native.Nat.{_+_, _*_, _<_, _≤_};
-ghost use Rattle.field.specs.Ours.{fieldOf};
 ghost use lib.Dec.{T};
-ghost use Rattle.linear.proofs.Choices.{areSymbols};
+ghost use Rattle.linear_cases.specs.Symbols.{symbols};
 
 // 0 to 9, then a to f.
 fn digit(x: u8) -> u8 {
@@ -25,16 +24,17 @@ fn flag(b: bool) -> u8 {
 // Answers a system of m equations in k unknowns, and writes a line: whether its columns are dependent, whether it has a solution,
 // a solution, a dependency. The last two are 0 where there is none.
 fn answer(q: usize, system: [u8; 12], m: usize, k: usize)
-    requires { ⌜ (m * (k + 1) ≤ 12) × (k ≤ 5) × T (areSymbols (fieldOf q) system) ⌝ }
+    requires { ⌜ (m * (k + 1) ≤ 12) × (k ≤ 5) × T (symbols q system) ⌝ }
 {
     let table = field::products();
+    let size = field::entries(q);
     let mut a = system;
     let mut pivots: [usize; 5] = [0; 5];
     let mut x: [u8; 5] = [0; 5];
     let mut z: [u8; 5] = [0; 5];
     let s = systems::solve(
         q,
-        &table,
+        &table[..size],
         &mut a[..],
         m,
         k,
@@ -71,11 +71,19 @@ fn outcome(o: linear::FillAnswer) -> u8 {
 
 // Fills v by three checks, and writes a line: the outcome, and v after it.
 fn filling(q: usize, checks: [u8; 15], target: [u8; 3], v: [u8; 5], marks: u32)
-    requires { ⌜ (marks < 32) × T (areSymbols (fieldOf q) checks) × T (areSymbols (fieldOf q) target) ⌝ }
+    requires { ⌜ (marks < 32) × T (symbols q checks) × T (symbols q target) ⌝ }
 {
     let table = field::products();
+    let size = field::entries(q);
     let mut w = v;
-    let o = linear::fill(q, &table, &checks[..], &target[..], &mut w[..], marks);
+    let o = linear::fill(
+        q,
+        &table[..size],
+        &checks[..],
+        &target[..],
+        &mut w[..],
+        marks,
+    );
     let head = [outcome(o), b' '];
     io::write_all(1, &head);
     write_symbols(w, b'\n');

@@ -7,8 +7,9 @@ use native.Mathlib.Omega.{arith}
 use lib.ListN.{length, take, drop, length-drop}
 use lib.Seq.{sets, sets-eq, take-all, take-nil, take-take, drop-drop}
 use Rattle.field.specs.Lists.{upFrom}
-use Rattle.linear.specs.Marks.{rowsOf}
-pub use Rattle.linear.proofs.Flat.{part, part-of, part-length}
+use Rattle.fills.specs.Marks.{rowsOf}
+pub use Rattle.field.proofs.Lists.{map-up-suc as map-up-shift}
+pub use Rattle.fills.proofs.Flat.{part, part-of, part-length}
 use Rattle.plans.proofs.Flat.{rowIn}
 
 -- ---- from a start to an end
@@ -27,11 +28,6 @@ part-back start n l v h e =
     ∙ sym (sets-eq v l start (omega arith))
 
 -- ---- rows
-
-pub map-up-shift : {A : Type 0} (f : ℕ → A) (k n : ℕ) → map f (upFrom (suc k) n) ≡ map (λ i. f (suc i)) (upFrom k n)
-unfolding upFrom
-map-up-shift f k zero = refl
-map-up-shift f k (suc n) = ap (λ l. f (suc k) ∷ l) (map-up-shift f (suc k) n)
 
 -- rows taken off one by one, from row k on, are the rows by their numbers
 pub rows-from : (k m n : ℕ) (l : List ℕ) → rowsOf m n (drop (k * n) l) ≡ map (rowIn n l) (upFrom k m)

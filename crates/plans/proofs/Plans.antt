@@ -1,10 +1,10 @@
--- Plans by their numbers. Assumes nothing.
+-- Plans by their numbers, and what is known of each. Assumes nothing.
 use mathlib.Core.Path.{_≡_, refl, ap, _∙_, sym, subst}
 use mathlib.Core.Logic.{_≢_, _⊎_, inl, inr}
-use mathlib.Core.Bool.{Bool, true, false, _&&_}
+use mathlib.Core.Bool.{Bool}
 use mathlib.Core.List.{List, [], _∷_, flatMap}
-use Prim.Native.Nat.{ℕ, zero, suc, _+_, _*_, _≤_, _<_}
-use native.Mathlib.Nat.{eq-or-lt-of-le}
+use Prim.Native.Nat.{ℕ, zero, suc, _*_, _≤_, _<_, zero-le}
+use native.Mathlib.Nat.{not-suc-le-zero}
 use native.Mathlib.Omega.{arith}
 use lib.Dec.{T, leb, ltb, leb→le, ltb→lt, lt→ltb, nleb→lt}
 use lib.ListN.{length, getD, List·getD-eq-default}
@@ -12,10 +12,16 @@ use lib.Seq.{take-all}
 use Rattle.field.specs.Lists.{upFrom}
 use Rattle.field.proofs.Test.{both-left, both-right, both}
 use Rattle.field.proofs.Words.{Each, _&_, each-getD}
-use Rattle.linear.specs.Lists.{all}
-use Rattle.linear.proofs.Tests.{either}
+use Rattle.fills.specs.Lists.{all}
+use Rattle.fills.proofs.Tests.{either}
+use Rattle.plans.specs.Rooms.{rowRoom, columnRoom, symbolRoom}
 use Rattle.plans.specs.Plan.{Plan, Level, allOnes, plan1, plan2, plan3, plans, known, noPlan, planOf, noLevel, levelOf, checksTo}
-use Rattle.plans.proofs.Flat.{all-getD}
+use Rattle.plans.proofs.Flat.{all-getD, all-at, each-up}
+use Rattle.plans.proofs.Columns.{Columns}
+pub use Rattle.plans.proofs.Known.{Shape, Known}
+use Rattle.plans.proofs.Plan1.{distances-1, plan-1}
+use Rattle.plans.proofs.Plan2.{distances-2, plan-2}
+use Rattle.plans.proofs.Plan3.{distances-3, plan-3}
 
 -- ---- every plan
 
@@ -29,32 +35,7 @@ pub all-plans : (f : Plan → Bool) → T (all f (noPlan ∷ plans)) → (p : �
 unfolding all planOf
 all-plans f t = all-getD f noPlan (both-left (f noPlan) (all f plans) t) (noPlan ∷ plans) t
 
--- and by one test of each plan beside its entry in a table
-abbrev pub pairwise : {A B : Type 0} → (A → B → Bool) → List A → List B → Bool
-pairwise f [] [] = true
-pairwise f [] (y ∷ ys) = false
-pairwise f (x ∷ xs) [] = false
-pairwise f (x ∷ xs) (y ∷ ys) = f x y && pairwise f xs ys
-
-module _ {B : Type 0} (none : B) (table : List B) where
-  pub all-beside : (f : Plan → B → Bool) → T (pairwise f (noPlan ∷ plans) (none ∷ table)) → (p : ℕ) → T (f (planOf p) (getD (none ∷ table) p none))
-  unfolding planOf
-  all-beside f t = go (noPlan ∷ plans) (none ∷ table) t
-    where
-      go : (Ps : List Plan) (xs : List B) → T (pairwise f Ps xs) → (i : ℕ) → T (f (getD Ps i noPlan) (getD xs i none))
-      go [] [] s i = both-left (f noPlan none) (pairwise f plans table) t
-      go [] (x ∷ xs) s i = absurd s
-      go (P ∷ Ps) [] s i = absurd s
-      go (P ∷ Ps) (x ∷ xs) s zero = both-left (f P x) (pairwise f Ps xs) s
-      go (P ∷ Ps) (x ∷ xs) s (suc i) = go Ps xs (both-right (f P x) (pairwise f Ps xs) s) i
-
 -- ---- known numbers
-
-each-up : (Q : ℕ → Type 0) (k n : ℕ) → Each Q (upFrom k n) → (p : ℕ) → k ≤ p → p < k + n → Q p
-unfolding upFrom
-each-up Q k zero each p l h = absurd (omega arith)
-each-up Q k (suc n) each p l h =
-    elim (eq-or-lt-of-le l) [ inl e ↦ subst Q e (each .0) | inr m ↦ each-up Q (suc k) n (each .1) p m (omega arith) ]
 
 -- what holds of the number of each plan holds of every known number
 pub of-known : (Q : ℕ → Type 0) → Each Q (upFrom 1 (length plans)) → (p : ℕ) → T (known p) → Q p
@@ -62,15 +43,6 @@ unfolding known
 of-known Q each p t =
     let most = leb→le p (length plans) (both-right (ltb 0 p) (leb p (length plans)) t) in
     each-up Q 1 (length plans) each p (ltb→lt 0 p (both-left (ltb 0 p) (leb p (length plans)) t)) (omega arith)
-
--- the same by one test
-pub all-known : (f : ℕ → Bool) → T (all f (upFrom 1 (length plans))) → (p : ℕ) → T (known p) → T (f p)
-unfolding all
-all-known f t = of-known (λ p. T (f p)) (all-each (upFrom 1 (length plans)) t)
-  where
-    all-each : (xs : List ℕ) → T (all f xs) → Each (λ x. T (f x)) xs
-    all-each [] s = tt
-    all-each (x ∷ xs) s = (both-left (f x) (all f xs) s, all-each xs (both-right (f x) (all f xs) s))
 
 -- any other reads nothing in a table with an entry for each plan
 pub known-or-past : {A : Type 0} (none : A) (table : List A) → length table ≡ length plans → (p : ℕ) → T (known p) ⊎ (getD (none ∷ table) p none ≡ none)
@@ -91,24 +63,53 @@ known-or-none = known-or-past noPlan plans refl
 pub unknown : (p : ℕ) → Each (λ k. p ≢ k) (upFrom 1 (length plans)) → planOf p ≡ noPlan
 unknown p others = elim (known-or-none p) [ inl t ↦ absurd (of-known (λ k. p ≢ k) others p t refl) | inr e ↦ e ]
 
--- ---- the most that any plan has
+-- ---- what is known of a plan
+
+-- the distances of its row code
+abbrev pub distancesOf : ℕ → List ℕ
+distancesOf p = getD ([] ∷ distances-1 ∷ distances-2 ∷ distances-3 ∷ []) p []
+
+pub known-of : (p : ℕ) → T (known p) → Known (planOf p) (distancesOf p)
+unfolding upFrom planOf
+known-of = of-known (λ p. Known (planOf p) (distancesOf p)) (plan-1 & plan-2 & plan-3 & tt)
+
+pub shape : (p : ℕ) → T (known p) → Shape (planOf p)
+shape p k = known-of p k .shape
+
+-- what follows from it, and holds of the empty plan, holds of every number's plan
+pub by-known : (Q : Plan → Type 0) → Q noPlan → ((P : Plan) (ds : List ℕ) → Known P ds → Q P) → (p : ℕ) → Q (planOf p)
+by-known Q none follows p = elim (known-or-none p) [ inl k ↦ follows (planOf p) (distancesOf p) (known-of p k) | inr e ↦ subst Q (sym e) none ]
 
 module _ (p : ℕ) where
-  pub rows-most : planOf p .rows ≤ 8
-  unfolding all plan1 plan2 plan3 noPlan
-  rows-most = leb→le _ 8 (all-plans (λ P. leb (P .rows) 8) tt p)
+  pub rows-most : planOf p .rows ≤ rowRoom
+  unfolding noPlan
+  rows-most = by-known (λ P. P .rows ≤ rowRoom) zero-le (λ P ds k. k .shape .rows-le) p
 
-  pub columns-most : planOf p .columns ≤ 32
-  unfolding all plan1 plan2 plan3 noPlan
-  columns-most = leb→le _ 32 (all-plans (λ P. leb (P .columns) 32) tt p)
+  pub columns-most : planOf p .columns ≤ columnRoom
+  unfolding noPlan
+  columns-most = by-known (λ P. P .columns ≤ columnRoom) zero-le (λ P ds k. k .shape .columns-le) p
 
-  pub symbols-most : planOf p .rows * planOf p .columns ≤ 256
-  unfolding all plan1 plan2 plan3 noPlan
-  symbols-most = leb→le _ 256 (all-plans (λ P. leb (P .rows * P .columns) 256) tt p)
+  pub symbols-most : planOf p .rows * planOf p .columns ≤ symbolRoom
+  unfolding noPlan
+  symbols-most = by-known (λ P. P .rows * P .columns ≤ symbolRoom) zero-le (λ P ds k. k .shape .symbols-le) p
 
   pub levels-most : length (planOf p .levels) ≤ 3
-  unfolding all plan1 plan2 plan3 noPlan
-  levels-most = leb→le _ 3 (all-plans (λ P. leb (length (P .levels)) 3) tt p)
+  unfolding noPlan
+  levels-most = by-known (λ P. length (P .levels) ≤ 3) zero-le (λ P ds k. k .shape .levels-le) p
+
+-- ---- levels
+
+-- a plan that has levels is known
+pub levels-known : (p t : ℕ) → t < length (planOf p .levels) → T (known p)
+unfolding noPlan
+levels-known p t l =
+    elim (known-or-none p) [ inl k ↦ k | inr e ↦ absurd (not-suc-le-zero (subst (λ (P : Plan). t < length (P .levels)) e l)) ]
+
+-- every level has a check
+pub some-check : (p t : ℕ) → t < length (planOf p .levels) → 0 < length (levelOf (planOf p) (suc t) .checks)
+unfolding levelOf
+some-check p t low =
+    ltb→lt 0 _ (all-at (λ (L : Level). ltb 0 (length (L .checks))) noLevel (planOf p .levels) (shape p (levels-known p t low) .some-checks) t low)
 
 -- from the last level on there is nothing to add
 pub checks-beyond : (P : Plan) (s t : ℕ) → length (P .levels) ≤ s → length (P .levels) ≤ t → checksTo P s ≡ checksTo P t
@@ -118,6 +119,25 @@ checks-beyond P s t hs ht = ap (λ ls. flatMap (λ (L : Level). L .checks) ls) (
 pub level-beyond : (P : Plan) (t : ℕ) → length (P .levels) < t → levelOf P t ≡ noLevel
 unfolding levelOf
 level-beyond P (suc t) h = List·getD-eq-default (P .levels) noLevel (omega arith)
+
+-- the checks of levels 1 to i + 1
+pub checks-at : {P : Plan} {ds : List ℕ} (k : Known P ds) (i : ℕ) → i < length (P .levels)
+    → Columns (P .field) (P .columns) (getD ds i 0) (checksTo P (suc i))
+checks-at {P} {ds} k i h =
+    each-up (λ i. Columns (P .field) (P .columns) (getD ds i 0) (checksTo P (suc i))) 0 (length (P .levels)) (k .checks) i zero-le (omega arith)
+
+-- what holds of no checks, and of those of levels 1 to t for each level t, holds for every t
+pub by-level : (P : Plan) (Q : List (List ℕ) → Type 0) → Q [] → ((i : ℕ) → i < length (P .levels) → Q (checksTo P (suc i))) → (t : ℕ) → Q (checksTo P t)
+unfolding flatMap checksTo
+by-level P Q none each t =
+    elim (either (leb t (length (P .levels)))) [
+      | inl l ↦ go t (leb→le t _ l)
+      | inr l ↦ subst Q (checks-beyond P (length (P .levels)) t (omega arith) (omega (arith, nleb→lt t _ l))) (go (length (P .levels)) (omega arith))
+    ]
+  where
+    go : (t : ℕ) → t ≤ length (P .levels) → Q (checksTo P t)
+    go zero h = none
+    go (suc i) h = each i h
 
 -- level 1 has no weights
 first-none : (p : ℕ) → levelOf (planOf p) 1 .weights ≡ []

@@ -7,15 +7,14 @@ use native.Mathlib.Nat.{lt-trans, lt-of-le-of-lt, not-suc-le-zero, le-of-suc-le-
 use native.Mathlib.Numerals.{add-one}
 use native.Mathlib.Omega.{arith}
 use borrow.Author.Count.{below-none, below-more}
-use borrow.Author.Tests.{ltb-true, lt-ltb, le-ltb, eq-eqb}
-use lib.Dec.{ltb, lit<}
+use borrow.Author.Tests.{ltb-true, lt-ltb, le-ltb}
+use lib.Dec.{eqb, ltb, lit<}
 use lib.ListN.{length, getD, take}
 use lib.Seq.{take-all}
 use Rattle.field.specs.Lists.{upFrom}
-use Rattle.field.proofs.Sum.{bit}
-use Rattle.linear.specs.Lists.{all, first, rest, beside}
-use Rattle.linear.specs.Marks.{bitsOf}
-use Rattle.linear.proofs.Marked.{length-bits, bits-at}
+use Rattle.fills.specs.Lists.{all, first, rest, beside}
+use Rattle.fills.specs.Marks.{bitsOf}
+use Rattle.fills.proofs.Marked.{length-bits, bits-at}
 use Rattle.plans.specs.Refusal.{allBelow, unmarkedBelow}
 
 pub true-and : (a b : Bool) → (a && b) ≡ true → (a ≡ true) × (b ≡ true)
@@ -99,10 +98,10 @@ module _ (q w : ℕ) (row : List ℕ) where
   row-up = unmarked-up q (bitsOf (length row) w) row ∙ ap (λ n. all fitsIn (upFrom 0 n)) (length-bits (length row) w)
 
   module _ (k : ℕ) (within : k < length row) where
-    pub fits-marked : (w / 2 ^ k % 2 ≡ 0 → ⊥) → fitsIn k ≡ true
-    fits-marked ne = rw (bits-at (length row) w k within, eq-eqb (w / 2 ^ k % 2) 1 (omega (arith, bit (w / 2 ^ k))))
+    pub fits-marked : eqb (w / 2 ^ k % 2) 1 ≡ true → fitsIn k ≡ true
+    fits-marked e = rw (bits-at (length row) w k within, e)
 
-    pub fits-not : w / 2 ^ k % 2 ≡ 0 → q ≤ getD row k 0 → fitsIn k ≡ false
+    pub fits-not : eqb (w / 2 ^ k % 2) 1 ≡ false → q ≤ getD row k 0 → fitsIn k ≡ false
     fits-not e h = rw (bits-at (length row) w k within, e, le-ltb (getD row k 0) q h)
 
 -- ---- each number is below q where the highest is

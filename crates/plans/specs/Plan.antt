@@ -7,8 +7,8 @@ use lib.ListN.{length, take, drop, getD, replicate}
 use Rattle.field.specs.Lists.{upFrom, _to_}
 use Rattle.field.specs.Field.{Field, dot, gf2, gf16, gf32}
 use Rattle.field.specs.Power.{power}
-use Rattle.linear.specs.Lists.{only}
-use Rattle.linear.specs.Marks.{bitsOf}
+use Rattle.fills.specs.Lists.{only}
+use Rattle.fills.specs.Marks.{bitsOf}
 
 -- a level's row checks, N coefficients each, and its weights, R each. Level 1 has no weights: its sums are zero in each row
 pub record Level : Type 0 where

@@ -1,16 +1,28 @@
-// The plans, what a bench is, what each call answers, and what is refused.
-pub mod copies;
-pub mod plan;
-pub mod refusal;
-pub mod sums;
+// Rooms, what a bench is, and what each call answers.
 
-// A plan's number, the level t that was reached, symbols and mark words row after row, and each row's learned sums, 16 places a row.
+// The most rows, columns and symbols that a stripe has; learned sums of a row, and of all rows; numbers in a table of row checks, and in
+// one of weights.
+pub const ROWS: usize = 8;
+
+pub const COLUMNS: usize = 32;
+
+pub const SYMBOLS: usize = ROWS * COLUMNS;
+
+pub const SUMS: usize = 16;
+
+pub const LEARNED: usize = ROWS * SUMS;
+
+pub const CHECKS: usize = SUMS * COLUMNS;
+
+pub const WEIGHTS: usize = 16;
+
+// A plan's number, the level t that was reached, symbols and mark words row after row, and each row's learned sums, SUMS places a row.
 pub struct Bench {
     pub plan: usize,
     pub level: usize,
-    pub symbols: [u8; 256],
-    pub marks: [u32; 8],
-    pub sums: [u8; 128],
+    pub symbols: [u8; SYMBOLS],
+    pub marks: [u32; ROWS],
+    pub sums: [u8; LEARNED],
 }
 
 // What a row step or a level step answers.

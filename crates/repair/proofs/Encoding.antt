@@ -6,7 +6,7 @@ use native.Mathlib.Omega.{arith}
 use borrow.Author.Tests.{eqb-true}
 use lib.ListN.{length}
 use Rattle.plans.specs.Plan.{planOf, marksOf, checkPlacesOf, carried}
-use Rattle.plans.specs.Refusal.{inMemory, stripeFits}
+use Rattle.plans.specs.Refusal.{stripeFits}
 use Rattle.repair.specs.Mending.{mendStripe}
 use Rattle.encoding.specs.Data.{placed, outcomeOf, encodeRefusal}
 use Rattle.repair.specs.Encoding.{encoded, encodeStripe}
@@ -17,7 +17,7 @@ use Rattle.encoding.proofs.Carrying.{outcome-done, outcome-refused, left-new, l
 
 module _ (p : ℕ) (ds stripe : List ℕ) {n : ℕ} (e : n ≡ encodeRefusal p ds stripe) where
   pub encode-fits : n ≡ 0 → (length ds ≡ carried (planOf p)) × (length stripe ≡ planOf p .rows * planOf p .columns)
-  unfolding inMemory stripeFits encodeRefusal
+  unfolding stripeFits encodeRefusal
   encode-fits z =
       let t11 = passed 11 _ _ (λ z. omega arith) (passed 10 _ _ (λ z. omega arith) (sym e ∙ z) .1) .0 in
       let both = true-and _ _ t11 in (eqb-true _ _ (both .0), eqb-true _ _ (both .1))

@@ -12,22 +12,24 @@ use lib.ListN.{length, take, replicate}
 use lib.Seq.{take-append-seam}
 use Rattle.field.specs.Lists.{if_then_else_}
 use Rattle.field.proofs.Lists.{map-up-same}
-use Rattle.linear.specs.Lists.{only}
+use Rattle.fills.specs.Lists.{only}
 use Rattle.plans.specs.Plan.{Plan, planOf, checksTo}
-use Rattle.plans.specs.Refusal.{unasked, lentRefusal, benchRefusal}
+use Rattle.plans.specs.Refusal.{lentRefusal}
+use Rattle.plans.specs.Rooms.{rowRoom, symbolRoom}
 use Rattle.plans.specs.Tables.{padded}
 use Rattle.steps.specs.Steps.{fresh, lossy}
-use Rattle.steps.specs.Parts.{benchOf, Arrays, standingOf}
+use Rattle.steps.specs.Parts.{benchOf, standingOf, Ready}
 use Rattle.steps.specs.Rounds.{Turn, on, end, clash, turns}
-use Rattle.rows.specs.Walk.{overMarked}
-use Rattle.repair.specs.Mending.{roundsOn, mended, rowsLeft, endReport, bare, turnReport, turnStripe, turnMarks, mendReport, mendStripe, mendMarks}
-use Rattle.repair.specs.Ended.{startOf, Ended, clashes}
+use Rattle.walks.specs.Walk.{overMarked}
+use Rattle.rounds.specs.Reports.{roundsOn, rowsLeft, endReport, bare}
+use Rattle.repair.specs.Mending.{mended, turnReport, turnStripe, turnMarks, mendReport, mendStripe, mendMarks}
+use Rattle.rounds.specs.Ended.{startOf, Ended, clashes}
 use Rattle.plans.specs.declared.Report.{Report}
 use Rattle.plans.specs.declared.Answer.the-variants.{Restored, Stuck, Refused as Unmended}
-use Rattle.plans.proofs.Shape.{shape}
-use Rattle.steps.proofs.Fit.{LentFit, lent-fit, fit-bench, fresh-mark}
-use Rattle.steps.proofs.Sound.{Sound, sound-fresh}
-use Rattle.rows.proofs.Over.{over-each, over-ends}
+use Rattle.plans.proofs.Plans.{shape}
+use Rattle.steps.proofs.Fit.{LentFit, lent-fit, fresh-mark}
+use Rattle.steps.proofs.Sound.{ready-of, sound-fresh}
+use Rattle.walks.proofs.Over.{over-each, over-ends}
 
 module _ (p : ℕ) (stripe marks : List ℕ) (n : ℕ) (e : n ≡ lentRefusal p stripe marks) where
   -- what is left behind: the report, the stripe, the marks
@@ -87,23 +89,15 @@ module _ (p : ℕ) (stripe marks : List ℕ) (n : ℕ) (e : n ≡ lentRefusal p 
   -- ---- the rounds
 
   -- they are those on a bench of the code's arrays
-  pub ended-lent : {symbols words : List ℕ} → symbols ≡ padded 256 stripe → words ≡ padded 8 marks
+  pub ended-lent : {symbols words : List ℕ} → symbols ≡ padded symbolRoom stripe → words ≡ padded rowRoom marks
       → (r : Report) (symbols′ words′ : List ℕ) → Ended (roundsOn p (startOf p symbols words)) r symbols′ words′ → Ended (mended p stripe marks) r symbols′ words′
   unfolding mended fresh padded
   ended-lent es em r symbols′ words′ = subst₂ (λ s w. Ended (roundsOn p (startOf p s w)) r symbols′ words′) es em
 
   -- the bench that they start from is fit
-  module _ (z : n ≡ 0) {symbols words : List ℕ} (es : symbols ≡ padded 256 stripe) (em : words ≡ padded 8 marks) where
-    start-sound : Sound (startOf p symbols words)
-    unfolding fresh padded
-    start-sound = rw (es, em) (sound-fresh p stripe marks (sym e ∙ z))
-
-    pub start-fit : benchRefusal (startOf p symbols words) unasked ≡ 0
-    unfolding unasked
-    start-fit = fit-bench (startOf p symbols words) unasked (start-sound .fit) tt
-
-    pub start-sized : Arrays (startOf p symbols words)
-    start-sized = let s = start-sound .sized in (s .symbols, s .marks, s .sums)
+  pub start-ready : n ≡ 0 → {symbols words : List ℕ} → symbols ≡ padded symbolRoom stripe → words ≡ padded rowRoom marks → Ready (startOf p symbols words)
+  unfolding fresh padded
+  start-ready z es em = rw (es, em) (ready-of (sound-fresh p stripe marks (sym e ∙ z)))
 
   module _ (z : n ≡ 0) (r : Report) (symbols words : List ℕ) (o : Ended (mended p stripe marks) r symbols words) where
     pub mends-clash : true ≡ clashes (r .answer) → Mends r stripe marks

@@ -5,19 +5,19 @@ use Prim.Native.Nat.{ℕ, suc, _/_, _%_, _^_}
 use mathlib.Core.Path.{_≡_, refl}
 use mathlib.Core.Bool.{true, false}
 use mathlib.Core.List.{List, [], _∷_, map, flatMap}
-use lib.ListN.{take, getD, replicate, set}
+use lib.ListN.{getD, replicate, set}
 use Rattle.field.specs.Lists.{if_then_else_, upFrom}
 use Rattle.field.specs.Field.{_⊕_, size, double, times, mul, dot, gf2, gf16, gf32}
 use Rattle.field.specs.Power.{power}
-use Rattle.linear.specs.Lists.{all, only, same, vanish, first, rest, beside}
-use Rattle.linear.specs.Marks.{bitsOf}
-use Rattle.linear.specs.Fill.{sumsOf}
+use Rattle.fills.specs.Lists.{all, only, vanish, first, rest, beside}
+use Rattle.fills.specs.Marks.{bitsOf}
+use Rattle.fills.specs.Fill.{sumsOf}
 use Rattle.plans.specs.Plan.{allOnes, bitChecks, wordOf, locations1, plan1, locations2, powers2, plan2, locations3, powers3, plan3, known, noPlan, planOf, noLevel, levelOf, checksTo, rowAt, marksAt, marksOf, across, checkPlacesOf, carried, marksOffset, symbolsOffset, fileLength}
-use Rattle.plans.specs.Refusal.{firstFailed, unasked, inMemory, inFile, stripeFits, wordsFit, marksFit, allBelow, unmarkedBelow, symbolsFit, sumsAt, sumsFit, levelFits, lentRefusal, benchRefusal}
+use Rattle.plans.specs.Refusal.{firstFailed, unasked, stripeFits, wordsFit, marksFit, allBelow, unmarkedBelow, symbolsFit, sumsAt, sumsFit, levelFits, lentTests, lentRefusal, benchTests, benchRefusal}
+use Rattle.plans.specs.Rooms.{rowRoom, symbolRoom, learnedRoom}
 use Rattle.codewords.specs.Codeword.{rowsHold, totalsHold, isCodeword, testRefusal}
 use Rattle.encoding.specs.Data.{encodeRefusal, extractRefusal}
-use Rattle.repair.specs.File.{bytes2, headerOf, blanked, planIn, wordAt, marksIn, symbolsIn, fileRefusal, readRefusal, writeRefusal}
-use Rattle.repair.specs.Sheet.{blank, exampleFile}
+use Rattle.repair.specs.Sheet.{blank}
 use Rattle.plans.specs.declared.Bench.{Bench}
 
 -- a row of n symbols below q, read off a number, column 0 last
@@ -62,48 +62,14 @@ noMarks = replicate 3 0
 unfoldable pub noData : List ℕ
 noData = replicate 15 0
 
-unfoldable pub noFile : List ℕ
-noFile = replicate 41 0
-
--- the example's file with one byte changed, and with two
-unfoldable pub withByte : (at byte : ℕ) → List ℕ
-withByte at byte = set exampleFile at byte
-
-unfoldable pub withBytes : (at byte at′ byte′ : ℕ) → List ℕ
-withBytes at byte at′ byte′ = set (set exampleFile at byte) at′ byte′
-
--- for a file: 20 (shorter than 8), 10, 21, 20 (whole length), 11, 12, 13, 22
-pub file-order :
-    -- shorter than 8, of an unknown plan
-    (readRefusal (9 ∷ []) blank noMarks ≡ 20)
-    -- an unknown plan, and a header that disagrees
-    × (readRefusal (withByte 0 9) blank noMarks ≡ 10)
-    -- a header that disagrees, one byte too few
-    × (readRefusal (take 40 (withByte 1 4)) blank noMarks ≡ 21)
-    -- one byte too few, a lent stripe too short
-    × (readRefusal (take 40 exampleFile) [] noMarks ≡ 20)
-    -- a lent stripe too short, a mark bit at column 7
-    × (readRefusal (withByte 8 0x82) [] noMarks ≡ 11)
-    -- a mark bit at column 7, a symbol 2
-    × (readRefusal (withBytes 8 0x82 20 2) blank noMarks ≡ 12)
-    -- a symbol 2, and 1 under a mark
-    × (readRefusal (withBytes 20 2 21 1) blank noMarks ≡ 13)
-    -- 1 under a mark alone, and nothing
-    × (readRefusal (withByte 21 1) blank noMarks ≡ 22) × (readRefusal exampleFile blank noMarks ≡ 0)
-unfolding if_then_else_ upFrom size gf2 flatMap all same first rest beside bitsOf plan1 known noPlan planOf rowAt marksAt marksOf
-    firstFailed unasked inFile stripeFits wordsFit marksFit unmarkedBelow symbolsFit
-    bytes2 marksOffset symbolsOffset fileLength headerOf blanked planIn wordAt marksIn symbolsIn fileRefusal readRefusal
-    blank exampleFile noMarks withByte withBytes
-file-order = (refl, refl, refl, refl, refl, refl, refl, refl, refl)
-
 -- a bench whose row 0 has this mark word, this symbol in column 0 and this sum of level 1
 unfoldable pub benchWith : (plan level word symbol sum : ℕ) → Bench
 benchWith p t word symbol sum = record {
   plan = p;
   level = t;
-  symbols = set (replicate 256 0) 0 symbol;
-  marks = set (replicate 8 0) 0 word;
-  sums = set (replicate 128 0) 0 sum;
+  symbols = set (replicate symbolRoom 0) 0 symbol;
+  marks = set (replicate rowRoom 0) 0 word;
+  sums = set (replicate learnedRoom 0) 0 sum;
 }
 
 -- in memory: 10, 11, 15, 12, 13, 14, 16; no call has all of them
@@ -120,7 +86,7 @@ pub memory-order :
     × (extractRefusal 1 (set blank 0 1) noData ≡ 16)
 unfolding if_then_else_ upFrom _⊕_ size double times mul dot gf2 flatMap all only vanish first rest beside bitsOf sumsOf
     allOnes bitChecks wordOf locations1 plan1 known noPlan planOf noLevel levelOf checksTo rowAt marksAt marksOf
-    firstFailed unasked inMemory stripeFits wordsFit marksFit allBelow unmarkedBelow symbolsFit sumsAt sumsFit levelFits lentRefusal benchRefusal
+    firstFailed unasked stripeFits wordsFit marksFit allBelow unmarkedBelow symbolsFit sumsAt sumsFit levelFits lentTests lentRefusal benchTests benchRefusal
     across rowsHold totalsHold isCodeword checkPlacesOf carried extractRefusal blank noMarks noData benchWith
 memory-order = (refl, refl, refl, refl, refl, refl, refl, refl, refl, refl, refl, refl)
 
@@ -132,11 +98,8 @@ pub other-orders :
     × (encodeRefusal 4 noData blank ≡ 10) × (encodeRefusal 1 (2 ∷ noData) blank ≡ 11) × (encodeRefusal 1 (set noData 0 2) blank ≡ 13)
     -- extraction: an unknown plan, its lengths
     × (extractRefusal 4 blank noData ≡ 10)
-    -- writing: an unknown plan, its lengths; no room for the file, a mark bit at column 7; the mark bit, a symbol 2; the symbol alone
-    × (writeRefusal 4 blank noMarks noFile ≡ 10) × (writeRefusal 1 blank (set noMarks 0 128) [] ≡ 11)
-    × (writeRefusal 1 (set blank 0 2) (set noMarks 0 128) noFile ≡ 12) × (writeRefusal 1 (set blank 0 2) noMarks noFile ≡ 13)
 unfolding if_then_else_ upFrom _⊕_ size double times mul dot gf2 flatMap all only vanish first rest beside bitsOf sumsOf
     allOnes bitChecks wordOf locations1 plan1 known noPlan planOf noLevel levelOf rowAt marksAt marksOf
-    firstFailed unasked inMemory stripeFits wordsFit marksFit allBelow unmarkedBelow symbolsFit marksOffset symbolsOffset fileLength
-    across rowsHold totalsHold isCodeword testRefusal checkPlacesOf carried encodeRefusal extractRefusal writeRefusal blank noMarks noData noFile
-other-orders = (refl, refl, refl, refl, refl, refl, refl, refl, refl, refl, refl)
+    firstFailed unasked stripeFits wordsFit marksFit allBelow unmarkedBelow symbolsFit
+    across rowsHold totalsHold isCodeword testRefusal checkPlacesOf carried encodeRefusal extractRefusal blank noMarks noData
+other-orders = (refl, refl, refl, refl, refl, refl, refl)

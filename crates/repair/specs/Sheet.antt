@@ -10,8 +10,6 @@ use Rattle.plans.specs.Plan.{wordOf}
 use Rattle.encoding.specs.Data.{encodeRefusal}
 use Rattle.repair.specs.Mending.{mendReport, mendStripe, mendMarks}
 use Rattle.repair.specs.Encoding.{encodeStripe}
-use Rattle.repair.specs.File.{marksIn, symbolsIn}
-use Rattle.repair.specs.Text.{bytes, printed}
 use Rattle.plans.specs.declared.Place.{Place}
 use Rattle.plans.specs.declared.Place.the-variants.{Row, Across}
 use Rattle.plans.specs.declared.Report.{Report}
@@ -64,12 +62,6 @@ exampleMarks = 2 ∷ 21 ∷ 4 ∷ []
 unfoldable pub exampleAfter : List ℕ
 exampleAfter = (1 ∷ 1 ∷ replicate 5 0) ++ (0 ∷ 0 ∷ 0 ∷ 0 ∷ 1 ∷ 1 ∷ 0 ∷ []) ++ replicate 7 0
 
--- its file
-unfoldable pub exampleFile : List ℕ
-exampleFile =
-    (0x01 ∷ 0x03 ∷ 0x07 ∷ 0x00 ∷ 0x08 ∷ 0x00 ∷ 0x14 ∷ 0x00 ∷ 0x02 ∷ 0x00 ∷ 0x00 ∷ 0x00 ∷ 0x15 ∷ 0x00 ∷ 0x00 ∷ 0x00 ∷ 0x04 ∷ 0x00 ∷ 0x00 ∷ 0x00 ∷ [])
-    ++ (0x01 ∷ 0x00 ∷ 0x00 ∷ 0x00 ∷ 0x00 ∷ 0x00 ∷ 0x00 ∷ 0x00 ∷ 0x00 ∷ 0x00 ∷ 0x00 ∷ 0x00 ∷ 0x01 ∷ 0x00 ∷ 0x00 ∷ 0x00 ∷ 0x00 ∷ 0x00 ∷ 0x00 ∷ 0x00 ∷ 0x00 ∷ [])
-
 -- data 1 and then fourteen zeros, and the stripe that they encode to
 unfoldable pub exampleData : List ℕ
 exampleData = 1 ∷ replicate 14 0
@@ -113,10 +105,6 @@ done c = record {
 pub record Sheet : Type 0 where
   -- mending makes of each case what the table says
   pub mending : map done cases ≡ cases
-  -- the file has the example's stripe and marks, and the program prints them restored
-  pub fileStripe : symbolsIn exampleFile ≡ exampleStripe
-  pub fileMarks : marksIn exampleFile ≡ exampleMarks
-  pub filePrinted : printed exampleFile ≡ bytes "plan 1 answer 0 level 2 left 0 rows 2 1\n1100000\n0000110\n0000000\n"
   -- encoding refuses nothing, and leaves the codeword
   pub encodeFits : encodeRefusal 1 exampleData blank ≡ 0
   pub encodes : encodeStripe 1 exampleData blank ≡ exampleWord

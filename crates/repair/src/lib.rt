@@ -1,6 +1,4 @@
 // The repair library: every call that it offers, and what each answers. Mending in one call and encoding stand here.
-mod mending;
-
 pub use codewords::is_codeword;
 pub use encoding::extract;
 pub use interleaved::is_interleaved;
@@ -14,11 +12,11 @@ pub use plans::Started;
 pub use plans::Step;
 pub use plans::Stepped;
 pub use plans::Verdict;
-use plans::copies;
-pub use plans::plan;
-use plans::refusal;
 pub use rows::row_step;
+use steps::copies;
 pub use steps::start;
+pub use tables::Facts;
+pub use tables::facts_of;
 ghost use mathlib.Core.Path.{_≡_};
 ghost use Rattle.encoding.specs.Data.{outcomeOf, encodeRefusal};
 ghost use Rattle.repair.specs.Mending.{mendReport, mendStripe, mendMarks};
@@ -31,18 +29,18 @@ pub fn mend(plan: usize, stripe: &mut [u8], marks: &mut [u32]) -> Report
     ensures { λ _. ⌜ now (stripe .exit) ≡ mendStripe plan (now (stripe .entry)) (now (marks .entry)) ⌝ }
     ensures { λ _. ⌜ now (marks .exit) ≡ mendMarks plan (now (stripe .entry)) (now (marks .entry)) ⌝ }
 {
-    let refused = refusal::lent_refusal(plan, &stripe[..], &marks[..]);
+    let refused = refusals::lent_refusal(plan, &stripe[..], &marks[..]);
     if refused != 0 {
-        return mending::bare_report(Answer::Refused(refused));
+        return rounds::bare_report(Answer::Refused(refused));
     }
-    if rows::over_marked(plan, &marks[..]) {
-        return mending::end_report(plan, 1, [0; 3], &marks[..]);
+    if walks::over_marked(plan, &marks[..]) {
+        return rounds::end_report(plan, 1, [0; 3], &marks[..]);
     }
     let mut symbols = copies::symbols_of(&stripe[..]);
     let mut words = copies::words_of(&marks[..]);
-    let report = mending::rounds(plan, &mut symbols, &mut words);
+    let report = rounds::rounds(plan, &mut symbols, &mut words);
     let answer = report.answer;
-    if mending::is_clash(answer) {
+    if rounds::is_clash(answer) {
         return report;
     }
     copies::put_symbols(stripe, &symbols[..]);
@@ -60,8 +58,9 @@ pub fn encode(plan: usize, data: &[u8], stripe: &mut [u8]) -> Outcome
     if number != 0 {
         return Outcome::Refused(number);
     }
-    let mut words = plan::check_places(plan);
-    let rows = plan::rows(plan);
+    let mut words = tables::check_places(plan);
+    let facts = tables::facts_of(plan);
+    let rows = facts.rows;
     encoding::place(plan, &words[..rows], data, stripe);
     mend(plan, stripe, &mut words[..rows]);
     Outcome::Done

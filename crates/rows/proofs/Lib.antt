@@ -1,9 +1,3 @@
--- What is shown of the rows of a round and of the row step.
-pub mod Settled
-pub mod Checks
+-- What is shown of a row's fill and of the row step.
 pub mod Lending
-pub mod Walking
-pub mod Arms
 pub mod Stepping
--- marks beyond all rows' sums
-pub mod Over

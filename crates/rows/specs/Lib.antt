@@ -1,2 +1,2 @@
--- What the contracts of the crate `rows` cite.
-pub mod Walk
+-- what the contracts of inner functions cite
+pub mod Filled

@@ -14,26 +14,27 @@ use lib.Pow.{pow-pos, pow-mono}
 use lib.Seq.{take-add, take-all, take-at, drop-at, ext-getD, getD-append-add, getD-set-same, getD-set-other}
 use Rattle.field.specs.Lists.{if_then_else_, upFrom}
 use Rattle.field.proofs.Lists.{length-up, getD-map-below}
-use Rattle.linear.specs.Fill.{Fill, tied, none, one}
-use Rattle.linear.proofs.Tests.{either}
+use Rattle.fills.specs.Fill.{Fill, tied, none, one}
+use Rattle.fills.proofs.Tests.{either}
 use Rattle.plans.specs.Plan.{Plan, planOf}
 use Rattle.plans.specs.Answers.{stepNumber}
 use Rattle.plans.specs.Refusal.{unasked, allBelow, lentRefusal, benchRefusal}
-use Rattle.repair.specs.File.{bytes4, wordAt}
+use Rattle.plans.specs.Rooms.{rowRoom, symbolRoom, learnedRoom}
+use Rattle.words.specs.Words.{byteRange, wordBits, bytes4, wordAt}
 use Rattle.steps.specs.Steps.{fresh, empty, startedBy, started, stepped, unlessRefused, rowFill, putRow, rowStepBy, rowStep, Learned, blocked, failing, learned, levelFill, raise, levelStepBy, levelStep}
 use Rattle.steps.specs.Parts.{benchOf}
 use Rattle.plans.specs.declared.Bench.{Bench}
 use Rattle.plans.specs.declared.Stepped.{Stepped}
 use Rattle.plans.specs.declared.Step.the-variants.{Whole, Filled, Top}
 use Rattle.plans.proofs.Rows.{same-or-other}
-use Rattle.plans.proofs.Shape.{shape}
-use Rattle.steps.proofs.Fit.{LentFit, lent-fit, Sized, sized-fresh, fresh-mark, BenchFit, bench-fit}
+use Rattle.plans.proofs.Plans.{shape}
+use Rattle.steps.proofs.Fit.{LentFit, lent-fit, Sized, sized-room, sized-fresh, fresh-mark, BenchFit, bench-fit}
 use Rattle.steps.proofs.Sound.{Sound, sized-put, sized-raise}
-use Rattle.rows.proofs.Settled.{whole-row, put-whole}
+use Rattle.walks.proofs.Settled.{whole-row, put-whole}
 use Rattle.files.proofs.Laws.{bytes-fit}
-use Rattle.files.proofs.Files.{word-behind, words-bytes, words-at, length-bytes}
-use Rattle.texts.proofs.Texts.{below-at}
-use Rattle.layout.specs.Layout.{benchSize, benchBytes, benchIn}
+use Rattle.words.proofs.Bytes.{word-behind, words-bytes, words-at, length-bytes}
+use Rattle.numbers.proofs.Values.{below-at}
+use Rattle.layout.specs.Layout.{symbolsFrom, marksFrom, sumsFrom, benchSize, benchBytes, benchIn}
 use Rattle.layout.proofs.Benches.{bench-length}
 use Rattle.shelf.specs.Calls.{stepAnswer, stepBuffer}
 use Rattle.shelf.proofs.Sizing.{sized-fit, sized-unfit}
@@ -48,32 +49,32 @@ module _ (b : Bench) (c : OfCode b) where
   abbrev words : List ℕ
   words = flatMap bytes4 (b .marks)
 
-  front-long : length front ≡ 258
+  front-long : length front ≡ marksFrom
   front-long = length-append (b .plan ∷ b .level ∷ []) (b .symbols) ∙ ap (λ n. 2 + n) (c .symbols)
 
-  middle-long : length (front ++ words) ≡ 290
+  middle-long : length (front ++ words) ≡ sumsFrom
   middle-long = length-append front words ∙ ap₂ _+_ front-long (length-bytes (b .marks) ∙ ap (λ n. 4 * n) (c .marks))
 
-  symbols-read : take 256 (drop 2 (benchBytes b)) ≡ b .symbols
+  symbols-read : take symbolRoom (drop symbolsFrom (benchBytes b)) ≡ b .symbols
   unfolding benchBytes
-  symbols-read = ap (take 256) (append-assoc (b .symbols) words (b .sums)) ∙ take-at (b .symbols) (words ++ b .sums) 256 (c .symbols)
+  symbols-read = ap (take symbolRoom) (append-assoc (b .symbols) words (b .sums)) ∙ take-at (b .symbols) (words ++ b .sums) symbolRoom (c .symbols)
 
-  word-read : (r : ℕ) → r < 8 → wordAt (benchBytes b) (258 + 4 * r) ≡ getD (b .marks) r 0
+  word-read : (r : ℕ) → r < rowRoom → wordAt (benchBytes b) (marksFrom + 4 * r) ≡ getD (b .marks) r 0
   unfolding benchBytes
   word-read r h =
       ap₂ wordAt (append-assoc front words (b .sums)) (ap (λ n. n + 4 * r) (sym front-long))
       ∙ word-behind front (words ++ b .sums) (4 * r) ∙ words-bytes (b .marks) (b .sums) r (omega (arith, c .marks)) (c .words r h)
 
-  marks-read : map (λ r. wordAt (benchBytes b) (258 + 4 * r)) (upFrom 0 8) ≡ b .marks
+  marks-read : map (λ r. wordAt (benchBytes b) (marksFrom + 4 * r)) (upFrom 0 rowRoom) ≡ b .marks
   marks-read =
-      let word : ℕ → ℕ = λ r. wordAt (benchBytes b) (258 + 4 * r) in
-      let long = length-map (upFrom 0 8) word ∙ length-up 0 8 in
-      ext-getD 0 (map word (upFrom 0 8)) (b .marks) (long ∙ sym (c .marks))
-      (λ r h. getD-map-below word 8 r 0 (omega (arith, long)) ∙ word-read r (omega (arith, long)))
+      let word : ℕ → ℕ = λ r. wordAt (benchBytes b) (marksFrom + 4 * r) in
+      let long = length-map (upFrom 0 rowRoom) word ∙ length-up 0 rowRoom in
+      ext-getD 0 (map word (upFrom 0 rowRoom)) (b .marks) (long ∙ sym (c .marks))
+      (λ r h. getD-map-below word rowRoom r 0 (omega (arith, long)) ∙ word-read r (omega (arith, long)))
 
-  sums-read : take 128 (drop 290 (benchBytes b)) ≡ b .sums
+  sums-read : take learnedRoom (drop sumsFrom (benchBytes b)) ≡ b .sums
   unfolding benchBytes
-  sums-read = ap (take 128) (drop-at (front ++ words) (b .sums) 290 middle-long) ∙ take-all 128 (b .sums) (le-of-eq (c .sums))
+  sums-read = ap (take learnedRoom) (drop-at (front ++ words) (b .sums) sumsFrom middle-long) ∙ take-all learnedRoom (b .sums) (le-of-eq (c .sums))
 
 pub written-long : WrittenLong
 written-long b c = bench-length b (c .symbols) (c .marks) (c .sums)
@@ -81,7 +82,7 @@ written-long b c = bench-length b (c .symbols) (c .marks) (c .sums)
 pub written-is-read : WrittenIsRead
 unfolding benchBytes benchIn
 written-is-read b c =
-    ap (λ s. benchOf (b .plan) (b .level) s (map (λ r. wordAt (benchBytes b) (258 + 4 * r)) (upFrom 0 8)) (take 128 (drop 290 (benchBytes b)))) (symbols-read b c)
+    ap (λ s. benchOf (b .plan) (b .level) s (map (λ r. wordAt (benchBytes b) (marksFrom + 4 * r)) (upFrom 0 rowRoom)) (take learnedRoom (drop sumsFrom (benchBytes b)))) (symbols-read b c)
     ∙ ap₂ (λ m s. benchOf (b .plan) (b .level) (b .symbols) m s) (marks-read b c) (sums-read b c)
 
 -- ---- what was read is written
@@ -94,36 +95,36 @@ first-two (x ∷ y ∷ l) h = refl
 pub read-is-written : ReadIsWritten
 unfolding benchBytes benchIn
 read-is-written l t e =
-    ap₂ (λ a w. ((a ++ take 256 (drop 2 l)) ++ w) ++ take 128 (drop 290 l)) (sym (first-two l (omega arith))) (words-at l (bytes-fit l t) 258 0 8 (omega arith))
-    ∙ sym (take-add 290 128 l ∙ ap (λ k. k ++ take 128 (drop 290 l)) (take-add 258 32 l ∙ ap (λ k. k ++ take 32 (drop 258 l)) (take-add 2 256 l)))
-    ∙ take-all 418 l (le-of-eq e)
+    ap₂ (λ a w. ((a ++ take symbolRoom (drop symbolsFrom l)) ++ w) ++ take learnedRoom (drop sumsFrom l)) (sym (first-two l (omega arith))) (words-at l (bytes-fit l t) marksFrom 0 rowRoom (omega arith))
+    ∙ sym (take-add sumsFrom learnedRoom l ∙ ap (λ k. k ++ take learnedRoom (drop sumsFrom l)) (take-add marksFrom (4 * rowRoom) l ∙ ap (λ k. k ++ take (4 * rowRoom) (drop marksFrom l)) (take-add symbolsFrom symbolRoom l)))
+    ∙ take-all benchSize l (le-of-eq e)
 
 -- ---- benches of the code
 
--- arrays of the code's sizes, and mark words of 32 bits
-of-code : (b : Bench) → Sized b → ((r : ℕ) → r < 8 → getD (b .marks) r 0 < 2 ^ 32) → OfCode b
+-- arrays of the code's sizes, and mark words of so many bits
+of-code : (b : Bench) → Sized b → ((r : ℕ) → r < rowRoom → getD (b .marks) r 0 < 2 ^ wordBits) → OfCode b
 of-code b s h = record { symbols = s .symbols; marks = s .marks; words = h; sums = s .sums }
 
-sized-in : (l : List ℕ) → length l ≡ 418 → Sized (benchIn l)
+sized-in : (l : List ℕ) → length l ≡ benchSize → Sized (benchIn l)
 unfolding benchIn
 sized-in l e = record {
   symbols = simp (length-take, length-drop) (omega arith);
-  marks = length-map (upFrom 0 8) (λ r. wordAt l (258 + 4 * r)) ∙ length-up 0 8;
+  marks = length-map (upFrom 0 rowRoom) (λ r. wordAt l (marksFrom + 4 * r)) ∙ length-up 0 rowRoom;
   sums = simp (length-take, length-drop) (omega arith);
 }
 
--- four bytes are a word of 32 bits
-word-lt : (l : List ℕ) → T (allBelow 256 l) → (i : ℕ) → i + 4 ≤ length l → wordAt l i < 2 ^ 32
+-- four bytes are a word of so many bits
+word-lt : (l : List ℕ) → T (allBelow byteRange l) → (i : ℕ) → i + 4 ≤ length l → wordAt l i < 2 ^ wordBits
 unfolding wordAt
 word-lt l t i h =
-    let byte = below-at 256 l t in
+    let byte = below-at byteRange l t in
     omega (arith, byte i (omega arith), byte (i + 1) (omega arith), byte (i + 2) (omega arith), byte (i + 3) (omega arith))
 
 pub read-of-code : ReadOfCode
 unfolding benchIn
 read-of-code l t e =
     of-code (benchIn l) (sized-in l e) (λ r h.
-    subst (λ w. w < 2 ^ 32) (sym (getD-map-below (λ r. wordAt l (258 + 4 * r)) 8 r 0 h)) (word-lt l t (258 + 4 * r) (omega arith)))
+    subst (λ w. w < 2 ^ wordBits) (sym (getD-map-below (λ r. wordAt l (marksFrom + 4 * r)) rowRoom r 0 h)) (word-lt l t (marksFrom + 4 * r) (omega arith)))
 
 -- zeros behind a list
 zeros-behind : (l : List ℕ) (n r : ℕ) → length l ≤ r → r < length l + n → getD (l ++ replicate n 0) r 0 ≡ 0
@@ -132,27 +133,27 @@ zeros-behind l n r h k =
     ∙ getD-replicate n (r - length l) 0 0 (omega arith)
 
 module _ (p : ℕ) (stripe marks : List ℕ) (f : LentFit p stripe marks) where
-  fresh-word : (r : ℕ) → r < 8 → getD (fresh p stripe marks .marks) r 0 < 2 ^ 32
+  fresh-word : (r : ℕ) → r < rowRoom → getD (fresh p stripe marks .marks) r 0 < 2 ^ wordBits
   unfolding fresh
   fresh-word r h =
       let sh = shape p (f .plan-known) in
       elim (either (ltb r (planOf p .rows))) [
         | inl t ↦
             let l = ltb→lt r (planOf p .rows) t in
-            subst (λ w. w < 2 ^ 32) (sym (fresh-mark p stripe marks f r l)) (le-trans (f .mark-lt r l) (pow-mono (sh .columns-le)))
+            subst (λ w. w < 2 ^ wordBits) (sym (fresh-mark p stripe marks f r l)) (le-trans (f .mark-lt r l) (pow-mono (sh .columns-le)))
         | inr t ↦
             let l = nltb→le r (planOf p .rows) t in
-            subst (λ w. w < 2 ^ 32)
-            (sym (zeros-behind marks (8 - length marks) r (omega (arith, f .words)) (omega (arith, f .words, sh .rows-le)))) (pow-pos 32)
+            subst (λ w. w < 2 ^ wordBits)
+            (sym (zeros-behind marks (rowRoom - length marks) r (omega (arith, f .words)) (omega (arith, f .words, sh .rows-le)))) (pow-pos wordBits)
       ]
 
 empty-of-code : OfCode empty
 unfolding empty
 empty-of-code = record {
-  symbols = length-replicate {A = ℕ} 256 0;
+  symbols = length-replicate {A = ℕ} symbolRoom 0;
   marks = refl;
-  words = λ r h. subst (λ w. w < 2 ^ 32) (sym (getD-replicate 8 r 0 0 h)) (pow-pos 32);
-  sums = length-replicate {A = ℕ} 128 0;
+  words = λ r h. subst (λ w. w < 2 ^ wordBits) (sym (getD-replicate rowRoom r 0 0 h)) (pow-pos wordBits);
+  sums = length-replicate {A = ℕ} learnedRoom 0;
 }
 
 pub start-of-code : StartOfCode
@@ -172,10 +173,10 @@ module _ (b : Bench) (c : OfCode b) where
   unfolding putRow
   put-of-code r row = of-code (putRow b r row) (sized-put b sized-of r row) words
     where
-      words : (k : ℕ) → k < 8 → getD (set (b .marks) r 0) k 0 < 2 ^ 32
+      words : (k : ℕ) → k < rowRoom → getD (set (b .marks) r 0) k 0 < 2 ^ wordBits
       words k l =
           elim (same-or-other k r) [
-            | inl e ↦ rw (e, getD-set-same (b .marks) r 0 0 (omega (arith, e, c .marks))) (pow-pos 32)
+            | inl e ↦ rw (e, getD-set-same (b .marks) r 0 0 (omega (arith, e, c .marks))) (pow-pos wordBits)
             | inr ne ↦ rw (getD-set-other (b .marks) r k 0 0 ne) (c .words k l)
           ]
 
@@ -212,7 +213,7 @@ module _ (b : Bench) (s : Sized b) (r : ℕ) where
 
   put-back : BenchFit b → r < P .rows → getD (b .marks) r 0 ≡ 0 → (row : List ℕ) → rowFill b r ≡ one row → putRow b r row ≡ b
   put-back f h z row e =
-      let sound : Sound b = record { fit = f; sized = s } in ap (putRow b r) (whole-row b sound r h z row e) ∙ put-whole b sound r h z
+      let sound : Sound b = record { fit = f; room = sized-room b s } in ap (putRow b r) (whole-row b sound r h z row e) ∙ put-whole b sound r h z
 
   row-stays : stepNumber (rowStep b r .answer) ≢ 4 → rowStep b r .bench ≡ b
   unfolding if_then_else_ stepNumber stepped unlessRefused rowStepBy rowStep
@@ -244,8 +245,8 @@ level-stays b h = go (benchRefusal b unasked) (ltb (b .level) (length (planOf (b
 
 -- ---- buffers
 
-module _ (step : Bench → Stepped) (l : List ℕ) (t : T (allBelow 256 l)) (n : ℕ) where
-  buffer-stays : (length l ≡ 418 → stepNumber (step (benchIn l) .answer) ≢ n → step (benchIn l) .bench ≡ benchIn l)
+module _ (step : Bench → Stepped) (l : List ℕ) (t : T (allBelow byteRange l)) (n : ℕ) where
+  buffer-stays : (length l ≡ benchSize → stepNumber (step (benchIn l) .answer) ≢ n → step (benchIn l) .bench ≡ benchIn l)
       → stepAnswer step l ≢ n → stepBuffer step l ≡ l
   unfolding stepAnswer stepBuffer
   buffer-stays stays h = go (eqb (length l) benchSize) refl

@@ -2,4 +2,6 @@
 pub mod Kept
 pub mod Calls
 pub mod Third
+pub mod Printed
+pub mod Sheet
 pub mod Samples

@@ -6,18 +6,19 @@ use native.Mathlib.Omega.{arith}
 use lib.Dec.{T}
 use lib.ListN.{length, take, getD, set, replicate, length-replicate, getD-replicate}
 use Rattle.field.specs.Lists.{if_then_else_, upFrom, _to_}
-use Rattle.linear.specs.Lists.{all, only}
-use Rattle.linear.specs.Marks.{bitsOf}
+use Rattle.fills.specs.Lists.{all, only}
+use Rattle.fills.specs.Marks.{bitsOf}
 use Rattle.plans.specs.Plan.{wordOf, plan1, plan3, known, planOf, rowAt, marksAt}
 use Rattle.plans.specs.Answers.{stepNumber, outcomeNumber}
-use Rattle.plans.specs.Refusal.{firstFailed, inMemory, marksFit, allBelow, benchRefusal}
+use Rattle.plans.specs.Refusal.{firstFailed, marksFit, allBelow, benchTests, benchRefusal}
 use Rattle.steps.specs.Steps.{fresh, startedBy, started, stepped, unlessRefused, putRow, rowStep, lossy, raise, levelStep}
 use Rattle.plans.specs.declared.Bench.{Bench}
 use Rattle.repair.specs.Sheet.{Case, restored, stuck, clashed, unchanged, blankRestored, exampleStripe, exampleMarks, exampleAfter, cases, done}
 use Rattle.repair.proofs.Sheet.{sheet}
 use Rattle.steps.proofs.Fit.{marks-fit, fit-lent}
 use Rattle.plans.proofs.Refusals.{unmarked-below}
-use Rattle.rows.proofs.Settled.{put-whole}
+use Rattle.walks.proofs.Settled.{put-whole}
+use Rattle.words.specs.Words.{byteRange}
 use Rattle.layout.specs.Layout.{benchSize, benchIn}
 use Rattle.demands.specs.Published.{counts}
 use Rattle.demands.specs.Words.{Fit, Move, onRow, onLevel, after, walk, Quiet, rounds}
@@ -35,20 +36,20 @@ use Rattle.scripts.proofs.Third.{script-holds, quiet-bytes, scripts-end
 -- ---- buffers of the bench's size: zeros, and bytes that are no bench at all
 
 unfoldable pub clean : List ℕ
-clean = replicate 418 0
+clean = replicate benchSize 0
 
 unfoldable pub used : List ℕ
-used = replicate 418 200
+used = replicate benchSize 200
 
 pub used-long : length used ≡ benchSize
 unfolding used
-used-long = length-replicate {A = ℕ} 418 200
+used-long = length-replicate {A = ℕ} benchSize 200
 
 pub clean-long : length clean ≡ benchSize
 unfolding clean
-clean-long = length-replicate {A = ℕ} 418 0
+clean-long = length-replicate {A = ℕ} benchSize 0
 
-pub used-bytes : T (allBelow 256 used)
+pub used-bytes : T (allBelow byteRange used)
 unfolding all allBelow used
 used-bytes = tt
 
@@ -57,7 +58,7 @@ abbrev calls : List Call
 calls = step (onRow 0) ∷ step onLevel ∷ start 1 exampleStripe exampleMarks ∷ []
 
 calls-numbers : numbers calls (benchIn used) ≡ 10 ∷ 10 ∷ 0 ∷ []
-unfolding if_then_else_ known firstFailed inMemory benchRefusal startedBy started stepped unlessRefused rowStep levelStep stepNumber outcomeNumber
+unfolding if_then_else_ known firstFailed benchTests benchRefusal startedBy started stepped unlessRefused rowStep levelStep stepNumber outcomeNumber
     benchIn used
 calls-numbers = ap (λ n. 10 ∷ 10 ∷ outcomeNumber (startedBy n 1 exampleStripe exampleMarks .answer) ∷ []) (example .fit)
 

@@ -7,6 +7,7 @@ use lib.Dec.{T}
 use lib.ListN.{length}
 use Rattle.plans.specs.Answers.{stepNumber, outcomeNumber}
 use Rattle.plans.specs.Refusal.{allBelow}
+use Rattle.words.specs.Words.{byteRange}
 use Rattle.steps.specs.Steps.{started, rowStep, levelStep}
 use Rattle.plans.specs.declared.Bench.{Bench}
 use Rattle.plans.specs.declared.Stepped.{Stepped}
@@ -81,7 +82,7 @@ pub record Holds (buffer : List ℕ) (b : Bench) : Type 0 where
 
 -- any bytes of a bench buffer hold the bench that they read as
 abbrev pub BuffersHold : Type 0
-BuffersHold = (buffer : List ℕ) → T (allBelow 256 buffer) → length buffer ≡ benchSize → Holds buffer (benchIn buffer)
+BuffersHold = (buffer : List ℕ) → T (allBelow byteRange buffer) → length buffer ≡ benchSize → Holds buffer (benchIn buffer)
 
 -- after any calls on them the buffer holds the bench after the same steps, and the answers are the numbers of the steps' answers
 pub record RunIsSteps (cs : List Call) (buffer : List ℕ) : Type 0 where
@@ -89,7 +90,7 @@ pub record RunIsSteps (cs : List Call) (buffer : List ℕ) : Type 0 where
   pub answers : told cs buffer ≡ numbers cs (benchIn buffer)
 
 abbrev pub CallsAreSteps : Type 0
-CallsAreSteps = (cs : List Call) (buffer : List ℕ) → T (allBelow 256 buffer) → length buffer ≡ benchSize → RunIsSteps cs buffer
+CallsAreSteps = (cs : List Call) (buffer : List ℕ) → T (allBelow byteRange buffer) → length buffer ≡ benchSize → RunIsSteps cs buffer
 
 -- a buffer of another size is never changed
 abbrev pub OtherSizeStays : Type 0

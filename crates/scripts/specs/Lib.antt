@@ -2,3 +2,6 @@
 pub mod Kept
 pub mod Calls
 pub mod Third
+pub mod Printed
+-- the bench sheet's file
+pub mod Sheet

@@ -10,7 +10,7 @@ use Rattle.plans.specs.Answers.{answerNumber}
 use Rattle.repair.specs.Mending.{mendReport, mendStripe, mendMarks}
 use Rattle.plans.specs.declared.Report.{Report}
 use Rattle.layout.specs.Layout.{reportSize, reportBytes}
-use Rattle.layout.specs.Numbers.{unfit, refuses}
+use Rattle.numbers.specs.Numbers.{unfit, refuses}
 use Rattle.shelf.specs.Calls.{reportAfter, mendNumber, mendStripeBuffer, mendMarksBuffer, mendReportBuffer}
 use Rattle.shelf.proofs.Sizing.{sized-fit, sized-unfit}
 
@@ -22,14 +22,14 @@ module _ (p : ℕ) (stripe marks report : List ℕ) where
       × ((s ≡ mendStripeBuffer p stripe marks report)
       × ((m ≡ mendMarksBuffer p stripe marks report) × (r ≡ mendReportBuffer p stripe marks report)))
 
-  pub mends-unfit : {n : ℕ} → (length report ≡ 8 → ⊥) → n ≡ unfit p → Mended n stripe marks report
+  pub mends-unfit : {n : ℕ} → (length report ≡ reportSize → ⊥) → n ≡ unfit p → Mended n stripe marks report
   unfolding mendNumber mendStripeBuffer mendMarksBuffer mendReportBuffer
   mends-unfit h e = (
     e ∙ sym (sized-unfit reportSize report _ _ h),
     (sym (sized-unfit reportSize report _ _ h), (sym (sized-unfit reportSize report _ _ h), sym (sized-unfit reportSize report _ _ h))),
   )
 
-  module _ (fits : length report ≡ 8) (mended : Report) (e : mended ≡ mendReport p stripe marks) where
+  module _ (fits : length report ≡ reportSize) (mended : Report) (e : mended ≡ mendReport p stripe marks) where
     pub mends-fit : {n : ℕ} {s m r : List ℕ} → n ≡ answerNumber (mended .answer) → s ≡ mendStripe p stripe marks → m ≡ mendMarks p stripe marks
         → r ≡ reportAfter (planOf p) mended report → Mended n s m r
     unfolding mendNumber mendStripeBuffer mendMarksBuffer mendReportBuffer

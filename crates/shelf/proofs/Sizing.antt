@@ -5,7 +5,8 @@ use Prim.Native.Nat.{ℕ}
 use lib.ListN.{length}
 use borrow.Author.Tests.{eq-eqb, ne-eqb}
 use Rattle.field.specs.Lists.{if_then_else_}
-use Rattle.shelf.specs.Calls.{sized, textRoom, roomy}
+use Rattle.texts.specs.Text.{textRoom}
+use Rattle.shelf.specs.Calls.{sized, sizeRoom, roomy}
 
 module _ {A : Type 0} (n : ℕ) (buffer : List ℕ) (x y : A) where
   pub sized-fit : length buffer ≡ n → sized n buffer x y ≡ x
@@ -17,14 +18,14 @@ module _ {A : Type 0} (n : ℕ) (buffer : List ℕ) (x y : A) where
   sized-unfit h = ap (λ b. if b then x else y) (ne-eqb (length buffer) n h)
 
 module _ {A : Type 0} (text size : List ℕ) (x y : A) where
-  pub roomy-fit : length text ≡ 320 → length size ≡ 2 → roomy text size x y ≡ x
+  pub roomy-fit : length text ≡ textRoom → length size ≡ sizeRoom → roomy text size x y ≡ x
   unfolding roomy
-  roomy-fit e f = sized-fit textRoom text (sized 2 size x y) y e ∙ sized-fit 2 size x y f
+  roomy-fit e f = sized-fit textRoom text (sized sizeRoom size x y) y e ∙ sized-fit sizeRoom size x y f
 
-  pub roomy-no-text : (length text ≡ 320 → ⊥) → roomy text size x y ≡ y
+  pub roomy-no-text : (length text ≡ textRoom → ⊥) → roomy text size x y ≡ y
   unfolding roomy
-  roomy-no-text h = sized-unfit textRoom text (sized 2 size x y) y h
+  roomy-no-text h = sized-unfit textRoom text (sized sizeRoom size x y) y h
 
-  pub roomy-no-size : length text ≡ 320 → (length size ≡ 2 → ⊥) → roomy text size x y ≡ y
+  pub roomy-no-size : length text ≡ textRoom → (length size ≡ sizeRoom → ⊥) → roomy text size x y ≡ y
   unfolding roomy
-  roomy-no-size e h = sized-fit textRoom text (sized 2 size x y) y e ∙ sized-unfit 2 size x y h
+  roomy-no-size e h = sized-fit textRoom text (sized sizeRoom size x y) y e ∙ sized-unfit sizeRoom size x y h

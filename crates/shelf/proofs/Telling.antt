@@ -5,11 +5,11 @@ use Prim.Native.Nat.{ℕ, zero, suc}
 use lib.ListN.{length}
 use Rattle.plans.specs.Answers.{outcomeNumber}
 use Rattle.encoding.specs.Data.{outcomeOf}
-use Rattle.repair.specs.File.{bytes2}
+use Rattle.words.specs.Words.{bytes2}
 use Rattle.plans.specs.Tables.{padded}
-use Rattle.repair.specs.Text.{printed}
+use Rattle.texts.specs.Text.{textRoom, printed}
 use Rattle.plans.specs.declared.Outcome.{Outcome}
-use Rattle.shelf.specs.Calls.{textRoom, textNumber, textBuffer, textSizeBuffer}
+use Rattle.shelf.specs.Calls.{sizeRoom, textNumber, textBuffer, textSizeBuffer}
 use Rattle.shelf.proofs.Sizing.{roomy-fit, roomy-no-text, roomy-no-size}
 
 -- a refusal is returned as its number, and Done as 0
@@ -23,15 +23,15 @@ module _ (file text size : List ℕ) where
   abbrev pub Told : ℕ → (t s : List ℕ) → Type 0
   Told n t s = (n ≡ textNumber text size) × ((t ≡ textBuffer file text size) × (s ≡ textSizeBuffer file text size))
 
-  pub tells-no-text : (length text ≡ 320 → ⊥) → Told 11 text size
+  pub tells-no-text : (length text ≡ textRoom → ⊥) → Told 11 text size
   unfolding textNumber textBuffer textSizeBuffer
   tells-no-text h = (sym (roomy-no-text text size _ _ h), (sym (roomy-no-text text size _ _ h), sym (roomy-no-text text size _ _ h)))
 
-  pub tells-no-size : length text ≡ 320 → (length size ≡ 2 → ⊥) → Told 11 text size
+  pub tells-no-size : length text ≡ textRoom → (length size ≡ sizeRoom → ⊥) → Told 11 text size
   unfolding textNumber textBuffer textSizeBuffer
   tells-no-size e h = (sym (roomy-no-size text size _ _ e h), (sym (roomy-no-size text size _ _ e h), sym (roomy-no-size text size _ _ e h)))
 
-  pub tells : {t s : List ℕ} → length text ≡ 320 → length size ≡ 2 → t ≡ padded textRoom (printed file) → s ≡ bytes2 (length (printed file))
+  pub tells : {t s : List ℕ} → length text ≡ textRoom → length size ≡ sizeRoom → t ≡ padded textRoom (printed file) → s ≡ bytes2 (length (printed file))
       → Told 0 t s
   unfolding textNumber textBuffer textSizeBuffer
   tells e f g h = (

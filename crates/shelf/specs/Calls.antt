@@ -7,15 +7,15 @@ use Rattle.field.specs.Lists.{if_then_else_}
 use Rattle.plans.specs.Plan.{Plan, planOf}
 use Rattle.plans.specs.Answers.{answerNumber, stepNumber, outcomeNumber}
 use Rattle.steps.specs.Steps.{started}
-use Rattle.repair.specs.File.{bytes2}
+use Rattle.words.specs.Words.{bytes2}
 use Rattle.plans.specs.Tables.{padded}
-use Rattle.repair.specs.Text.{printed}
+use Rattle.texts.specs.Text.{textRoom, printed}
 use Rattle.repair.specs.Mending.{mendReport, mendStripe, mendMarks}
 use Rattle.plans.specs.declared.Bench.{Bench}
 use Rattle.plans.specs.declared.Stepped.{Stepped}
 use Rattle.plans.specs.declared.Report.{Report}
 use Rattle.layout.specs.Layout.{reportSize, reportBytes, benchSize, benchBytes, benchIn}
-use Rattle.layout.specs.Numbers.{unfit, refuses}
+use Rattle.numbers.specs.Numbers.{unfit, refuses}
 
 -- x where the buffer has the size, else y
 unfoldable pub sized : {A : Type 0} → ℕ → List ℕ → A → A → A
@@ -56,12 +56,13 @@ stepBuffer step bench = sized benchSize bench (benchBytes (step (benchIn bench) 
 
 -- ---- the text that is printed for a file
 
-abbrev pub textRoom : ℕ
-textRoom = 320
+-- how many bytes tell its length
+abbrev pub sizeRoom : ℕ
+sizeRoom = 2
 
 -- x where both buffers have their size, else y
 unfoldable pub roomy : {A : Type 0} → (text size : List ℕ) → A → A → A
-roomy text size x y = sized textRoom text (sized 2 size x y) y
+roomy text size x y = sized textRoom text (sized sizeRoom size x y) y
 
 unfoldable pub textNumber : (text size : List ℕ) → ℕ
 textNumber text size = roomy text size 0 11

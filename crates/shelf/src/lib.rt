@@ -1,16 +1,20 @@
 // The repair library under C names, on numbers and lent buffers. Each function answers for every input by its answer's number.
-use layout::numbers;
 ghost use mathlib.Core.Path.{_≡_};
+ghost use lib.ListN.{length};
 ghost use Rattle.plans.specs.Answers.{verdictNumber};
 ghost use Rattle.codewords.specs.Codeword.{tested};
 ghost use Rattle.encoding.specs.Data.{encodeRefusal, extractRefusal, extractData};
 ghost use Rattle.interleaved.specs.Interleaved.{interleaved};
 ghost use Rattle.repair.specs.Encoding.{encodeStripe};
-ghost use Rattle.repair.specs.File.{readRefusal, readStripe, readMarks, writeRefusal, writeFile};
+ghost use Rattle.files.specs.File.{readRefusal, readStripe, readMarks, writeRefusal, writeFile};
+ghost use Rattle.texts.specs.Text.{textRoom};
 ghost use Rattle.steps.specs.Steps.{rowStep, levelStep};
 ghost use Rattle.shelf.specs.Calls.{startNumber, startBuffer, stepAnswer, stepBuffer};
 ghost use Rattle.shelf.specs.Calls.{mendNumber, mendStripeBuffer, mendMarksBuffer, mendReportBuffer};
 ghost use Rattle.shelf.specs.Calls.{textNumber, textBuffer, textSizeBuffer};
+
+// How many bytes tell the length of a text.
+const SIZE: usize = 2;
 
 // Starts a bench at level 1 with the stripe and the marks as lent; a refusal makes it a bench of zeros.
 #[no_mangle]
@@ -18,7 +22,7 @@ pub extern "C" fn shelf_start(plan: usize, stripe: &[u8], marks: &[u32], bench: 
     ensures { λ r. ⌜ r ≡ startNumber plan (now (stripe .entry)) (now (marks .entry)) (now (bench .entry)) ⌝ }
     ensures { λ _. ⌜ now (bench .exit) ≡ startBuffer plan (now (stripe .entry)) (now (marks .entry)) (now (bench .entry)) ⌝ }
 {
-    if bench.len() != 418 {
+    if bench.len() != layout::BENCH {
         return numbers::of_unfit(plan);
     }
     let started = repair::start(plan, stripe, marks);
@@ -34,7 +38,7 @@ pub extern "C" fn shelf_row_step(bench: &mut [u8], row: usize) -> usize
     ensures { λ r. ⌜ r ≡ stepAnswer (λ b. rowStep b row) (now (bench .entry)) ⌝ }
     ensures { λ _. ⌜ now (bench .exit) ≡ stepBuffer (λ b. rowStep b row) (now (bench .entry)) ⌝ }
 {
-    if bench.len() != 418 {
+    if bench.len() != layout::BENCH {
         return 11;
     }
     let stepped = repair::row_step(layout::bench_in(&bench[..]), row);
@@ -50,7 +54,7 @@ pub extern "C" fn shelf_level_step(bench: &mut [u8]) -> usize
     ensures { λ r. ⌜ r ≡ stepAnswer levelStep (now (bench .entry)) ⌝ }
     ensures { λ _. ⌜ now (bench .exit) ≡ stepBuffer levelStep (now (bench .entry)) ⌝ }
 {
-    if bench.len() != 418 {
+    if bench.len() != layout::BENCH {
         return 11;
     }
     let stepped = repair::level_step(layout::bench_in(&bench[..]));
@@ -89,17 +93,17 @@ pub extern "C" fn shelf_mend(
     ensures { λ _. ⌜ now (marks .exit) ≡ mendMarksBuffer plan (now (stripe .entry)) (now (marks .entry)) (now (report .entry)) ⌝ }
     ensures { λ _. ⌜ now (report .exit) ≡ mendReportBuffer plan (now (stripe .entry)) (now (marks .entry)) (now (report .entry)) ⌝ }
 {
-    if report.len() != 8 {
+    if report.len() != layout::REPORT {
         return numbers::of_unfit(plan);
     }
     let mended = repair::mend(plan, stripe, marks);
     let answer = mended.answer;
-    let number = files::numbers::of_answer(answer);
+    let number = numbers::of_answer(answer);
     if numbers::is_refusal(answer) {
         return number;
     }
     let bytes = layout::report_bytes(plan, mended);
-    files::buffer::put(&bytes, report, 0);
+    words::put(&bytes, report, 0);
     number
 }
 
@@ -128,7 +132,7 @@ pub extern "C" fn shelf_read_file(file: &[u8], stripe: &mut [u8], marks: &mut [u
     ensures { λ _. ⌜ now (stripe .exit) ≡ readStripe (now (file .entry)) (now (stripe .entry)) (now (marks .entry)) ⌝ }
     ensures { λ _. ⌜ now (marks .exit) ≡ readMarks (now (file .entry)) (now (stripe .entry)) (now (marks .entry)) ⌝ }
 {
-    numbers::of_outcome(files::read_file(file, stripe, marks))
+    numbers::of_outcome(reading::read_file(file, stripe, marks))
 }
 
 // Writes a stripe and its marks as a stripe file, 0 at each marked place. A refusal leaves the file buffer as it was.
@@ -145,6 +149,15 @@ pub extern "C" fn shelf_write_file(
     numbers::of_outcome(files::write_file(plan, stripe, marks, file))
 }
 
+// Writes the room of a text over the whole of `out`.
+fn put_room(room: &[u8; texts::ROOM], out: &mut [u8])
+    requires { ⌜ length (now out) ≡ textRoom ⌝ }
+    ensures { λ _. ⌜ now (out .exit) ≡ now (room .entry) ⌝ }
+{
+    let bytes: &[u8] = room;
+    words::put(bytes, out, 0);
+}
+
 // Writes what `mend` prints for a file into `text`, zeros behind it, and how many bytes it is into `size`.
 #[no_mangle]
 pub extern "C" fn shelf_text(file: &[u8], text: &mut [u8], size: &mut [u8]) -> usize
@@ -152,15 +165,15 @@ pub extern "C" fn shelf_text(file: &[u8], text: &mut [u8], size: &mut [u8]) -> u
     ensures { λ _. ⌜ now (text .exit) ≡ textBuffer (now (file .entry)) (now (text .entry)) (now (size .entry)) ⌝ }
     ensures { λ _. ⌜ now (size .exit) ≡ textSizeBuffer (now (file .entry)) (now (text .entry)) (now (size .entry)) ⌝ }
 {
-    if text.len() != 320 {
+    if text.len() != texts::ROOM {
         return 11;
     }
-    if size.len() != 2 {
+    if size.len() != SIZE {
         return 11;
     }
-    let mut room = [0u8; 320];
-    let bytes = files::words::size_bytes(texts::text(file, &mut room));
-    layout::put_room(&room, text);
-    files::buffer::put(&bytes, size, 0);
+    let mut room = [0u8; texts::ROOM];
+    let bytes = words::size_bytes(printing::text(file, &mut room));
+    put_room(&room, text);
+    words::put(&bytes, size, 0);
     0
 }

@@ -1,23 +1,27 @@
--- How learning a level ends where the weights tell it, and how a step ends by its refusal. Assumes nothing.
+-- How learning a level ends where the weights tell it, how a step ends by its refusal, and a started bench. Assumes nothing.
 use mathlib.Core.Path.{_≡_, refl, sym, ap, _∙_, subst}
 use mathlib.Core.Bool.{Bool, not}
 use mathlib.Core.List.{List, [], _∷_}
 use Prim.Native.Nat.{ℕ, zero, suc, _<_}
 use native.Mathlib.Omega.{arith}
 use lib.Dec.{T}
-use lib.ListN.{length, length-map}
+use lib.ListN.{length, replicate, length-map}
 use Rattle.field.specs.Lists.{upFrom}
 use Rattle.field.proofs.Lists.{length-up}
-use Rattle.linear.specs.Lists.{zeros}
-use Rattle.linear.specs.Fill.{dependent, Fill, none, tied, vectorIn}
-use Rattle.linear.proofs.Filling.{in-dependent, Means, fill-means}
-use Rattle.linear.proofs.Spread.{wide-dependency}
-use Rattle.linear.proofs.Weights.{marked}
+use Rattle.fills.specs.Lists.{zeros}
+use Rattle.fills.specs.Fill.{dependent, Fill, none, tied, vectorIn}
+use Rattle.fills.proofs.Filling.{in-dependent, Means, fill-means}
+use Rattle.fills.proofs.Spread.{wide-dependency}
+use Rattle.fills.proofs.Weights.{marked}
 use Rattle.plans.specs.Plan.{Plan, Level, planOf, levelOf, across}
-use Rattle.steps.specs.Steps.{lossy, checkFill, blocked, levelFill, stepped, unlessRefused}
+use Rattle.plans.specs.Refusal.{lentRefusal}
+use Rattle.plans.specs.Rooms.{rowRoom, symbolRoom, learnedRoom}
+use Rattle.plans.specs.Tables.{padded}
+use Rattle.steps.specs.Steps.{fresh, empty, startedBy, started, lossy, checkFill, blocked, levelFill, stepped, unlessRefused}
 use Rattle.plans.specs.declared.Bench.{Bench}
 use Rattle.plans.specs.declared.Stepped.{Stepped}
 use Rattle.plans.specs.declared.Step.the-variants.{Refused}
+use Rattle.plans.specs.declared.Outcome.the-variants.{Done, Refused as NotStarted}
 use Rattle.plans.proofs.Spread.{fields, weights-tied}
 use Rattle.steps.proofs.Passing.{Ones, ends-blocked}
 
@@ -75,3 +79,17 @@ is-refused (suc n) b s ne = refl
 pub is-taken : {n : ℕ} (b : Bench) (s : Stepped) → n ≡ 0 → unlessRefused n b s ≡ s
 unfolding unlessRefused
 is-taken b s e = ap (λ n. unlessRefused n b s) e
+
+-- ---- the start
+
+module _ (p : ℕ) (stripe marks : List ℕ) where
+  -- a fresh bench, as it is put together
+  pub started-done : {symbols words : List ℕ} → symbols ≡ padded symbolRoom stripe → words ≡ padded rowRoom marks → lentRefusal p stripe marks ≡ 0
+      → record { bench = record { plan = p; level = 1; symbols = symbols; marks = words; sums = replicate learnedRoom 0 }; answer = Done } ≡ started p stripe marks
+  unfolding padded fresh startedBy started
+  started-done es em e = rw (e, es, em)
+
+  pub started-refused : (n : ℕ) → n ≡ lentRefusal p stripe marks → (n ≡ 0 → ⊥) → record { bench = empty; answer = NotStarted n } ≡ started p stripe marks
+  unfolding startedBy started
+  started-refused zero e ne = absurd (ne refl)
+  started-refused (suc n) e ne = rw (← e)

@@ -1,26 +1,30 @@
 -- What is not refused: the tests in memory taken apart and put together, lent stripes and benches that are fit, fresh benches. Assumes nothing.
-use mathlib.Core.Path.{_≡_, refl, sym, subst}
-use mathlib.Core.Bool.{Bool, true, false, not, _&&_}
-use mathlib.Core.List.{List, [], _∷_}
+use mathlib.Core.Path.{_≡_, refl, sym, _∙_, subst}
+use mathlib.Core.Bool.{Bool, true, false, not}
+use mathlib.Core.List.{List, [], _∷_, map}
 use Prim.Native.Nat.{ℕ, zero, suc, _*_, _-_, _^_, _<_, _≤_, zero-le}
 use native.Mathlib.Nat.{suc-ne-zero, zero-lt-suc, le-of-suc-le-suc}
 use native.Mathlib.Omega.{arith}
 use lib.Dec.{T, eqb, ltb, leb, eqb→eq, eqb-refl, ltb→lt, lt→ltb, leb→le, le→leb}
-use lib.ListN.{length, take, drop, getD, replicate, length-append, length-replicate, List·getD-append}
+use lib.ListN.{length, take, drop, getD, replicate, length-append, length-map, length-replicate, take-append-drop, List·getD-append}
 use lib.Pow.{pow-pos}
 use Rattle.field.specs.Lists.{if_then_else_, upFrom}
 use Rattle.field.specs.Field.{size}
 use Rattle.field.proofs.Test.{both-left, both-right, both}
 use Rattle.field.proofs.Ring.{size-pos}
-use Rattle.linear.specs.Lists.{all, vanish}
-use Rattle.linear.specs.Marks.{bitsOf}
-use Rattle.linear.proofs.Tests.{all-in, in-all, up-in, in-up}
+use Rattle.fills.specs.Lists.{all, vanish}
+use Rattle.fills.proofs.Tests.{all-in, in-all, all-left, all-right, up-in, in-up}
 use Rattle.plans.specs.Plan.{Plan, planOf, known, checksTo, rowAt, marksAt}
-use Rattle.plans.specs.Refusal.{firstFailed, unasked, inMemory, stripeFits, wordsFit, marksFit, allBelow, unmarkedBelow, symbolsFit, sumPlaces, sumsAt, sumsFit, levelFits, lentRefusal, benchRefusal}
+use Rattle.plans.specs.Refusal.{stripeFits, wordsFit, marksFit, allBelow, unmarkedBelow, symbolsFit, sumsAt, sumsFit, levelFits, lentRefusal, benchRefusal, lentTests, benchTests}
+use Rattle.plans.specs.Rooms.{rowRoom, symbolRoom, sumRoom, learnedRoom}
 use Rattle.steps.specs.Steps.{fresh}
+use Rattle.steps.specs.Parts.{Room}
 use Rattle.plans.specs.declared.Bench.{Bench}
+use Rattle.field.proofs.Words.{_&_}
+use Rattle.plans.proofs.Refusals.{all-passed, none-refused}
 use Rattle.plans.proofs.Rows.{row-end, row-append}
-use Rattle.plans.proofs.Shape.{shape}
+use Rattle.plans.proofs.Rooms.{bench-holds}
+use Rattle.plans.proofs.Plans.{shape}
 
 -- ---- a choice by a test
 
@@ -39,45 +43,18 @@ if-false false x y t = refl
 pub eq→eqb : (m n : ℕ) → m ≡ n → T (eqb m n)
 eq→eqb m n e = subst (λ k. T (eqb m k)) e (eqb-refl m)
 
--- a test in the order that is passed, and one that is not in the way
+-- a test in the order that is passed
 pub pass : (n : ℕ) (b : Bool) (rest : ℕ) → (if b then rest else suc n) ≡ 0 → T b × (rest ≡ 0)
 unfolding if_then_else_
 pass n true rest e = (tt, e)
 pass n false rest e = absurd (suc-ne-zero n e)
 
-pub go-on : (n : ℕ) (b : Bool) (rest : ℕ) → T b → rest ≡ 0 → (if b then rest else n) ≡ 0
-unfolding if_then_else_
-go-on n true rest t e = e
-go-on n false rest t e = absurd t
-
--- no test fails
-pub record Passed (a b c d e f g : Bool) : Type 0 where
-  pub plan : T a
-  pub lengths : T b
-  pub level : T c
-  pub marks : T d
-  pub symbols : T e
-  pub row : T f
-  pub codeword : T g
-
-module _ (a b c d e f g : Bool) where
-  pub passed : inMemory a b c d e f g ≡ 0 → Passed a b c d e f g
-  unfolding firstFailed inMemory
-  passed q =
-      let p1 = pass 9 a _ q in
-      let p2 = pass 10 b _ (p1 .1) in
-      let p3 = pass 14 c _ (p2 .1) in
-      let p4 = pass 11 d _ (p3 .1) in
-      let p5 = pass 12 e _ (p4 .1) in
-      let p6 = pass 13 f _ (p5 .1) in
-      let p7 = pass 15 g _ (p6 .1) in
-      record { plan = p1 .0; lengths = p2 .0; level = p3 .0; marks = p4 .0; symbols = p5 .0; row = p6 .0; codeword = p7 .0 }
-
-  pub passes : Passed a b c d e f g → inMemory a b c d e f g ≡ 0
-  unfolding firstFailed inMemory
-  passes p =
-      go-on 10 a _ (p .plan) (go-on 11 b _ (p .lengths) (go-on 15 c _ (p .level) (go-on 12 d _ (p .marks)
-      (go-on 13 e _ (p .symbols) (go-on 14 f _ (p .row) (go-on 16 g _ (p .codeword) refl))))))
+-- a part of elements, and zeros behind it, are elements
+pub take-lt : (s k : ℕ) (l : List ℕ) → 0 < s → ((j : ℕ) → getD l j 0 < s) → (j : ℕ) → getD (take k l) j 0 < s
+take-lt s zero l pos h j = pos
+take-lt s (suc k) [] pos h j = pos
+take-lt s (suc k) (x ∷ l) pos h zero = h 0
+take-lt s (suc k) (x ∷ l) pos h (suc j) = take-lt s k l pos (λ i. h (suc i)) j
 
 -- ---- tests over rows and words, one by one
 
@@ -157,84 +134,75 @@ pub record BenchFit (b : Bench) : Type 0 where
 
 -- a bench's arrays are as long as the code's
 pub record Sized (b : Bench) : Type 0 where
-  pub symbols : length (b .symbols) ≡ 256
-  pub marks : length (b .marks) ≡ 8
-  pub sums : length (b .sums) ≡ 128
+  pub symbols : length (b .symbols) ≡ symbolRoom
+  pub marks : length (b .marks) ≡ rowRoom
+  pub sums : length (b .sums) ≡ learnedRoom
+
+-- as the code's arrays show it
+pub sized-by : {b : Bench} → length (map (λ v. v) (b .symbols)) ≡ symbolRoom → length (map (λ v. v) (b .marks)) ≡ rowRoom
+    → length (map (λ v. v) (b .sums)) ≡ learnedRoom → Sized b
+sized-by {b} es em ek = record { symbols = sym (length-map (b .symbols) _) ∙ es; marks = sym (length-map (b .marks) _) ∙ em; sums = sym (length-map (b .sums) _) ∙ ek }
+
+-- then they have room for every plan
+pub sized-room : (b : Bench) → Sized b → Room b
+sized-room b s = bench-holds (b .plan) (s .symbols) (s .marks) (s .sums)
 
 module _ (p : ℕ) (stripe marks : List ℕ) where
   abbrev P : Plan
   P = planOf p
 
   pub lent-fit : lentRefusal p stripe marks ≡ 0 → LentFit p stripe marks
-  unfolding unasked stripeFits wordsFit lentRefusal
+  unfolding all stripeFits wordsFit lentTests lentRefusal
   lent-fit e =
-      let h = passed (known p) (stripeFits P stripe && wordsFit P marks) unasked (marksFit P marks) (symbolsFit P marks stripe) unasked unasked e in
+      let h = all-passed (lentTests p stripe marks) tt e in
       record {
-        plan-known = h .plan;
-        long = eqb→eq (length stripe) (P .rows * P .columns) (both-left (stripeFits P stripe) (wordsFit P marks) (h .lengths));
-        words = eqb→eq (length marks) (P .rows) (both-right (stripeFits P stripe) (wordsFit P marks) (h .lengths));
-        mark-lt = marks-fit P marks (h .marks);
-        row-fits = symbols-fit P marks stripe (h .symbols);
+        plan-known = h .0;
+        long = eqb→eq (length stripe) (P .rows * P .columns) (both-left (stripeFits P stripe) (wordsFit P marks) (h .1 .0));
+        words = eqb→eq (length marks) (P .rows) (both-right (stripeFits P stripe) (wordsFit P marks) (h .1 .0));
+        mark-lt = marks-fit P marks (h .1 .1 .0);
+        row-fits = symbols-fit P marks stripe (h .1 .1 .1 .0);
       }
 
   pub fit-lent : LentFit p stripe marks → lentRefusal p stripe marks ≡ 0
-  unfolding unasked stripeFits wordsFit lentRefusal
+  unfolding stripeFits wordsFit lentTests lentRefusal
   fit-lent f =
-      passes (known p) (stripeFits P stripe && wordsFit P marks) unasked (marksFit P marks) (symbolsFit P marks stripe) unasked unasked
-      record {
-        plan = f .plan-known;
-        lengths =
-            both (stripeFits P stripe) (wordsFit P marks) (eq→eqb (length stripe) (P .rows * P .columns) (f .long))
-            (eq→eqb (length marks) (P .rows) (f .words));
-        level = tt;
-        marks = fit-marks P marks (f .mark-lt);
-        symbols = fit-symbols P marks stripe (f .row-fits);
-        row = tt;
-        codeword = tt;
-      }
+      none-refused (lentTests p stripe marks)
+      (f .plan-known
+      & both (stripeFits P stripe) (wordsFit P marks) (eq→eqb (length stripe) (P .rows * P .columns) (f .long))
+      (eq→eqb (length marks) (P .rows) (f .words))
+      & fit-marks P marks (f .mark-lt) & fit-symbols P marks stripe (f .row-fits) & tt)
 
 module _ (b : Bench) (row : Bool) where
   abbrev Q : Plan
   Q = planOf (b .plan)
 
   pub bench-fit : benchRefusal b row ≡ 0 → BenchFit b × T row
-  unfolding unasked levelFits benchRefusal
+  unfolding all levelFits benchTests benchRefusal
   bench-fit e =
-      let h = passed (known (b .plan)) unasked (levelFits Q (b .level)) (marksFit Q (b .marks))
-      (symbolsFit Q (b .marks) (b .symbols) && sumsFit Q (b .level) (b .sums)) row unasked e in (
+      let h = all-passed (benchTests b row) tt e in
+      let inside = symbolsFit Q (b .marks) (b .symbols) in (
         record {
-          plan-known = h .plan;
-          level-pos = ltb→lt 0 (b .level) (both-left (ltb 0 (b .level)) (leb (b .level) (length (Q .levels))) (h .level));
-          level-le = leb→le (b .level) (length (Q .levels)) (both-right (ltb 0 (b .level)) (leb (b .level) (length (Q .levels))) (h .level));
-          mark-lt = marks-fit Q (b .marks) (h .marks);
-          row-fits =
-              symbols-fit Q (b .marks) (b .symbols)
-              (both-left (symbolsFit Q (b .marks) (b .symbols)) (sumsFit Q (b .level) (b .sums)) (h .symbols));
-          sums-fits =
-              sums-fit Q (b .level) (b .sums)
-              (both-right (symbolsFit Q (b .marks) (b .symbols)) (sumsFit Q (b .level) (b .sums)) (h .symbols));
+          plan-known = h .0;
+          level-pos = ltb→lt 0 (b .level) (both-left (ltb 0 (b .level)) (leb (b .level) (length (Q .levels))) (h .1 .0));
+          level-le = leb→le (b .level) (length (Q .levels)) (both-right (ltb 0 (b .level)) (leb (b .level) (length (Q .levels))) (h .1 .0));
+          mark-lt = marks-fit Q (b .marks) (h .1 .1 .0);
+          row-fits = symbols-fit Q (b .marks) (b .symbols) (both-left inside (sumsFit Q (b .level) (b .sums)) (h .1 .1 .1 .0));
+          sums-fits = sums-fit Q (b .level) (b .sums) (both-right inside (sumsFit Q (b .level) (b .sums)) (h .1 .1 .1 .0));
         },
-        h .row,
+        h .1 .1 .1 .1 .0,
       )
 
   pub fit-bench : BenchFit b → T row → benchRefusal b row ≡ 0
-  unfolding unasked levelFits benchRefusal
+  unfolding levelFits benchTests benchRefusal
   fit-bench f t =
-      passes (known (b .plan)) unasked (levelFits Q (b .level)) (marksFit Q (b .marks))
-      (symbolsFit Q (b .marks) (b .symbols) && sumsFit Q (b .level) (b .sums)) row unasked
-      record {
-        plan = f .plan-known;
-        lengths = tt;
-        level =
-            both (ltb 0 (b .level)) (leb (b .level) (length (Q .levels))) (lt→ltb 0 (b .level) (f .level-pos))
-            (le→leb (b .level) (length (Q .levels)) (f .level-le));
-        marks = fit-marks Q (b .marks) (f .mark-lt);
-        symbols =
-            both (symbolsFit Q (b .marks) (b .symbols)) (sumsFit Q (b .level) (b .sums)) (fit-symbols Q (b .marks) (b .symbols) (f .row-fits))
-            (fit-sums Q (b .level) (b .sums) (f .sums-fits));
-        row = t;
-        codeword = tt;
-      }
+      none-refused (benchTests b row)
+      (f .plan-known
+      & both (ltb 0 (b .level)) (leb (b .level) (length (Q .levels))) (lt→ltb 0 (b .level) (f .level-pos))
+      (le→leb (b .level) (length (Q .levels)) (f .level-le))
+      & fit-marks Q (b .marks) (f .mark-lt)
+      & both (symbolsFit Q (b .marks) (b .symbols)) (sumsFit Q (b .level) (b .sums)) (fit-symbols Q (b .marks) (b .symbols) (f .row-fits))
+      (fit-sums Q (b .level) (b .sums) (f .sums-fits))
+      & t & tt)
 
 -- ---- a fresh bench
 
@@ -245,23 +213,19 @@ module _ (p : ℕ → Bool) where
   all-zeros z (suc n) = both (p 0) (all p (replicate n 0)) z (all-zeros z n)
 
   pub all-take : (n : ℕ) (l : List ℕ) → T (all p l) → T (all p (take n l))
-  unfolding all
-  all-take zero l t = tt
-  all-take (suc n) [] t = tt
-  all-take (suc n) (x ∷ l) t = both (p x) (all p (take n l)) (both-left (p x) (all p l) t) (all-take n l (both-right (p x) (all p l) t))
+  all-take n l t = all-left p (take n l) (drop n l) (rw take-append-drop t)
 
   pub all-drop : (n : ℕ) (l : List ℕ) → T (all p l) → T (all p (drop n l))
-  unfolding all
-  all-drop zero l t = t
-  all-drop (suc n) [] t = tt
-  all-drop (suc n) (x ∷ l) t = all-drop n l (both-right (p x) (all p l) t)
+  all-drop n l t = all-right p (take n l) (drop n l) (rw take-append-drop t)
+
+  -- a part of zeros
+  zeros-part : T (p 0) → (k i n : ℕ) → T (all p (take k (drop i (replicate n 0))))
+  zeros-part z k i n = all-take k (drop i (replicate n 0)) (all-drop i (replicate n 0) (all-zeros z n))
 
 -- a fresh bench's sums are zero
 pub fresh-sums : (p : ℕ) (stripe marks : List ℕ) (r : ℕ) → T (vanish (sumsAt (planOf p) 1 (fresh p stripe marks .sums) r))
 unfolding fresh sumsAt vanish
-fresh-sums p stripe marks r =
-    all-take (λ x. eqb x 0) (length (checksTo (planOf p) 1)) (drop (r * sumPlaces) (replicate 128 0))
-    (all-drop (λ x. eqb x 0) (r * sumPlaces) (replicate 128 0) (all-zeros (λ x. eqb x 0) tt 128))
+fresh-sums p stripe marks r = zeros-part (λ x. eqb x 0) tt (length (checksTo (planOf p) 1)) (r * sumRoom) learnedRoom
 
 module _ (p : ℕ) (stripe marks : List ℕ) (f : LentFit p stripe marks) where
   pub sized-fresh : Sized (fresh p stripe marks)
@@ -271,18 +235,18 @@ module _ (p : ℕ) (stripe marks : List ℕ) (f : LentFit p stripe marks) where
       record {
         symbols = simp (length-append, length-replicate) (omega (arith, f .long, s .symbols-le));
         marks = simp (length-append, length-replicate) (omega (arith, f .words, s .rows-le));
-        sums = length-replicate {A = ℕ} 128 0;
+        sums = length-replicate {A = ℕ} learnedRoom 0;
       }
 
   -- mark words and rows as lent
   pub fresh-mark : (r : ℕ) → r < planOf p .rows → getD (fresh p stripe marks .marks) r 0 ≡ getD marks r 0
   unfolding fresh
-  fresh-mark r h = List·getD-append marks (replicate (8 - length marks) 0) 0 r (omega (arith, f .words))
+  fresh-mark r h = List·getD-append marks (replicate (rowRoom - length marks) 0) 0 r (omega (arith, f .words))
 
   pub fresh-row : (r : ℕ) → r < planOf p .rows → rowAt (planOf p) (fresh p stripe marks .symbols) r ≡ rowAt (planOf p) stripe r
   unfolding fresh
   fresh-row r h =
-      row-append (planOf p) stripe (replicate (256 - length stripe) 0) r (omega (arith, f .long, row-end (planOf p .columns) h))
+      row-append (planOf p) stripe (replicate (symbolRoom - length stripe) 0) r (omega (arith, f .long, row-end (planOf p .columns) h))
 
   pub fit-fresh : BenchFit (fresh p stripe marks)
   unfolding fresh marksAt sumsAt allBelow
@@ -290,13 +254,9 @@ module _ (p : ℕ) (stripe marks : List ℕ) (f : LentFit p stripe marks) where
     plan-known = f .plan-known;
     level-pos = zero-lt-suc 0;
     level-le = shape p (f .plan-known) .levels-pos;
-    mark-lt = λ r h. subst (λ w. w < 2 ^ planOf p .columns) (sym (fresh-mark r h)) (f .mark-lt r h);
-    row-fits = λ r h.
-        subst (λ row. T (unmarkedBelow (size (planOf p .field)) (marksAt (planOf p) (fresh p stripe marks .marks) r) row)) (sym (fresh-row r h))
-        (subst (λ w. T (unmarkedBelow (size (planOf p .field)) (bitsOf (planOf p .columns) w) (rowAt (planOf p) stripe r))) (sym (fresh-mark r h))
-        (f .row-fits r h));
+    mark-lt = λ r h. rw (fresh-mark r h) (f .mark-lt r h);
+    row-fits = λ r h. rw (fresh-row r h, fresh-mark r h) (f .row-fits r h);
     sums-fits = λ r h.
         let q = size (planOf p .field) in
-        all-take (λ x. ltb x q) (length (checksTo (planOf p) 1)) (drop (r * sumPlaces) (replicate 128 0))
-        (all-drop (λ x. ltb x q) (r * sumPlaces) (replicate 128 0) (all-zeros (λ x. ltb x q) (lt→ltb 0 q (size-pos (planOf p .field))) 128));
+        zeros-part (λ x. ltb x q) (lt→ltb 0 q (size-pos (planOf p .field))) (length (checksTo (planOf p) 1)) (r * sumRoom) learnedRoom;
   }

@@ -7,5 +7,4 @@ pub mod Sound
 pub mod Unmarked
 pub mod Turns
 pub mod Ends
--- the start
-pub mod Starts
+pub mod Answers

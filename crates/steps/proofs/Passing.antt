@@ -9,9 +9,9 @@ use native.Mathlib.Omega.{arith}
 use lib.Dec.{T, T-not, not-T}
 use lib.ListN.{length, length-append}
 use Rattle.field.specs.Lists.{if_then_else_, upFrom}
-use Rattle.linear.specs.Lists.{any}
-use Rattle.linear.specs.Fill.{Fill, none, tied, one, isNone}
-use Rattle.linear.proofs.Tests.{In, is-true, is-false, any-in, in-any}
+use Rattle.fills.specs.Lists.{any}
+use Rattle.fills.specs.Fill.{Fill, none, tied, one, isNone}
+use Rattle.fills.proofs.Tests.{In, is-true, is-false, any-in, in-any}
 use Rattle.steps.specs.Steps.{Learned, failing, blocked, learned}
 
 -- the vectors are the fillings, one for each
@@ -74,15 +74,6 @@ module _ {A : Type 0} (f : A → Fill) (g : A → List ℕ) (D : Bool) where
       go : (c d : Bool) → by xs c d ≡ blocked → T d
       go c true e = tt
       go true false e = let z : _≡_ {A = ℕ} 0 1 = cc in absurd (omega arith)
-      go false false e = let z : _≡_ {A = ℕ} 0 1 = cc in absurd (omega arith)
-
-  pub failing-told : (xs : List A) → ends xs ≡ failing → (x : A) × In x xs × (f x ≡ none)
-  unfolding if_then_else_ by
-  failing-told xs e = let r = any-in (λ x. isNone (f x)) xs (go (lacks xs) D e) in (r .0, r .1, none-told (f (r .0)) (r .2))
-    where
-      go : (c d : Bool) → by xs c d ≡ failing → T c
-      go true d e = tt
-      go false true e = let z : _≡_ {A = ℕ} 0 1 = cc in absurd (omega arith)
       go false false e = let z : _≡_ {A = ℕ} 0 1 = cc in absurd (omega arith)
 
   pub learned-told : (xs : List A) (vs : List (List ℕ)) → ends xs ≡ learned vs → (map g xs ≡ vs) × T (not D) × Each xs

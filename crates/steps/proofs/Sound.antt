@@ -1,4 +1,4 @@
--- Steps on a fit bench: they are not refused, and they leave it fit and its arrays as long as they were. Assumes nothing.
+-- Steps on a fit bench: they are not refused, and they leave it fit and its lists as long as they were. Assumes nothing.
 use mathlib.Core.Path.{_≡_, refl, sym, ap, _∙_, subst}
 use mathlib.Core.Logic.{_≢_, inl, inr}
 use mathlib.Core.Bool.{Bool, true, false, _||_}
@@ -16,22 +16,25 @@ use Rattle.field.specs.Field.{Field, size, dot}
 use Rattle.field.proofs.Test.{both-left, both-right, both}
 use Rattle.field.proofs.Ring.{size-pos}
 use Rattle.field.proofs.Laws.{IsField, dot-lt}
-use Rattle.linear.specs.Lists.{all, zeros, first, rest, beside}
-use Rattle.linear.specs.Fill.{dependent, Fill, none, tied, one, vectorIn}
-use Rattle.linear.proofs.Tests.{either, all-append}
-use Rattle.linear.proofs.Choices.{Agrees, Allowed, agrees-length}
-use Rattle.linear.proofs.Filling.{in-dependent, Means, fill-means}
+use Rattle.fills.specs.Lists.{all, zeros, first, rest, beside}
+use Rattle.fills.specs.Fill.{dependent, Fill, none, tied, one, vectorIn}
+use Rattle.fills.proofs.Tests.{either, all-append}
+use Rattle.fills.proofs.Choices.{Agrees, Allowed, agrees-length}
+use Rattle.fills.proofs.Filling.{in-dependent, Means, fill-means}
 use Rattle.plans.specs.Plan.{Plan, Level, planOf, levelOf, checksTo, rowAt, marksAt, across}
 use Rattle.plans.specs.Refusal.{unasked, allBelow, unmarkedBelow, sumsAt, lentRefusal, benchRefusal}
+use Rattle.plans.specs.Rooms.{sumRoom}
 use Rattle.steps.specs.Steps.{fresh, stepped, unlessRefused, rowFill, putRow, rowStepBy, rowStep, lossy, checkFill, Learned, failing, blocked, learned, levelFill, newSums, raise, levelStepBy, levelStep}
+use Rattle.steps.specs.Parts.{Room, Ready}
 use Rattle.plans.specs.declared.Bench.{Bench}
 use Rattle.plans.specs.declared.Step.the-variants.{Top}
-use Rattle.steps.proofs.Fit.{RowFits, BenchFit, Sized, lent-fit, bench-fit, fit-bench, sized-fresh, fit-fresh}
+use Rattle.steps.proofs.Fit.{RowFits, BenchFit, Sized, sized-room, lent-fit, bench-fit, fit-bench, sized-fresh, fit-fresh}
 use Rattle.plans.proofs.Rows.{of-rows, row-end, row-same, row-other, marks-length}
 use Rattle.steps.proofs.Passing.{Ones, ones-told, blocked-told}
 use Rattle.steps.proofs.Sums.{keep-length}
 use Rattle.steps.proofs.Levels.{checks-le, sums-learned}
-use Rattle.plans.proofs.Shape.{shape, plan-field}
+use Rattle.plans.proofs.Plans.{shape, known-of}
+use Rattle.plans.proofs.Flat.{all-getD}
 use Rattle.plans.proofs.Refusals.{unmarked-below}
 
 -- ---- rows and sums of symbols
@@ -79,23 +82,26 @@ module _ {A : Type 0} (f : A → Fill) where
   ones-below q z h [] (v ∷ vs) o r = absurd o
   ones-below q z h (x ∷ xs) [] o r = absurd o
   ones-below q z h (x ∷ xs) (v ∷ vs) o r =
-      both (ltb (getD v r 0) q) (allBelow q (newSums vs r)) (at v (h x v (o .0)) r) (ones-below q z h xs vs (o .1) r)
-    where
-      at : (v : List ℕ) → T (allBelow q v) → (r : ℕ) → T (ltb (getD v r 0) q)
-      at [] t r = lt→ltb 0 q z
-      at (x ∷ v) t zero = both-left (ltb x q) (allBelow q v) t
-      at (x ∷ v) t (suc r) = at v (both-right (ltb x q) (allBelow q v) t) r
+      let at = all-getD (λ x. ltb x q) 0 (lt→ltb 0 q z) v (h x v (o .0)) r in
+      both (ltb (getD v r 0) q) (allBelow q (newSums vs r)) at (ones-below q z h xs vs (o .1) r)
 
 -- ---- the steps
 
--- fit, and its arrays as long as the code's
+-- fit, and its lists have room for its plan
 pub record Sound (b : Bench) : Type 0 where
   pub fit : BenchFit b
-  pub sized : Sized b
+  pub room : Room b
+
+pub sound-of : {b : Bench} → Ready b → Sound b
+sound-of {b} r = record { fit = bench-fit b unasked (r .fit) .0; room = r .room }
+
+pub ready-of : {b : Bench} → Sound b → Ready b
+unfolding unasked
+ready-of {b} s = record { fit = fit-bench b unasked (s .fit) tt; room = s .room }
 
 pub sound-fresh : (p : ℕ) (stripe marks : List ℕ) → lentRefusal p stripe marks ≡ 0 → Sound (fresh p stripe marks)
 sound-fresh p stripe marks e =
-    let f = lent-fit p stripe marks e in record { fit = fit-fresh p stripe marks f; sized = sized-fresh p stripe marks f }
+    let f = lent-fit p stripe marks e in record { fit = fit-fresh p stripe marks f; room = sized-room (fresh p stripe marks) (sized-fresh p stripe marks f) }
 
 module _ (b : Bench) where
   abbrev P : Plan
@@ -136,21 +142,37 @@ module _ (b : Bench) where
       go zero false l = refl
       go (suc n) c l = refl
 
+  -- steps leave the lengths of the lists as they were
+  put-length : (r : ℕ) (row : List ℕ) → length (putRow b r row .symbols) ≡ length (b .symbols)
+  unfolding putRow
+  put-length r row = length-sets (b .symbols) (r * P .columns) row
+
+  put-words : (r : ℕ) (row : List ℕ) → length (putRow b r row .marks) ≡ length (b .marks)
+  unfolding putRow
+  put-words r row = length-set (b .marks) r 0
+
+  raise-length : (cs : List (List ℕ)) → length (raise b cs .sums) ≡ length (b .sums)
+  unfolding raise
+  raise-length cs = keep-length (length (checksTo P (b .level))) (map (newSums cs) (upFrom 0 (P .rows))) (b .sums)
+
   pub sized-put : Sized b → (r : ℕ) (row : List ℕ) → Sized (putRow b r row)
   unfolding putRow
-  sized-put s r row = record {
-    symbols = length-sets (b .symbols) (r * P .columns) row ∙ s .symbols;
-    marks = length-set (b .marks) r 0 ∙ s .marks;
-    sums = s .sums;
-  }
+  sized-put s r row = record { symbols = put-length r row ∙ s .symbols; marks = put-words r row ∙ s .marks; sums = s .sums }
 
   pub sized-raise : Sized b → (cs : List (List ℕ)) → Sized (raise b cs)
   unfolding raise
-  sized-raise s cs = record {
-    symbols = s .symbols;
-    marks = s .marks;
-    sums = keep-length (length (checksTo P (b .level))) (map (newSums cs) (upFrom 0 (P .rows))) (b .sums) ∙ s .sums;
+  sized-raise s cs = record { symbols = s .symbols; marks = s .marks; sums = raise-length cs ∙ s .sums }
+
+  pub room-put : Room b → (r : ℕ) (row : List ℕ) → Room (putRow b r row)
+  unfolding putRow
+  room-put s r row = record {
+    stripe = record { rows = rw (put-words r row) (s .stripe .rows); size = rw (put-length r row) (s .stripe .size) };
+    learned = s .learned;
   }
+
+  pub room-raise : Room b → (cs : List (List ℕ)) → Room (raise b cs)
+  unfolding raise
+  room-raise s cs = record { stripe = s .stripe; learned = rw (raise-length cs) (s .learned) }
 
   -- ---- dependent weight columns: what a tied check, and a blocked level, tells of
 
@@ -195,13 +217,13 @@ module _ (b : Bench) where
             agrees-below (P .field) ms v row (f .row-fits r inside) (m .1 .agrees),
           )
 
-      module _ (s : Sized b) where
-        -- the row's symbols and its marks stand inside the arrays
+      module _ (s : Room b) where
+        -- the row's symbols and its marks stand inside the lists
         pub row-place : r * P .columns + P .columns ≤ length (b .symbols)
-        row-place = omega (arith, row-end (P .columns) inside, s .symbols, shape (b .plan) (f .plan-known) .symbols-le)
+        row-place = omega (arith, row-end (P .columns) inside, s .stripe .size)
 
         pub mark-place : r < length (b .marks)
-        mark-place = omega (arith, s .marks, shape (b .plan) (f .plan-known) .rows-le)
+        mark-place = omega (arith, s .stripe .rows)
 
         -- what stands in the bench once a row is put
         module _ (row : List ℕ) (long : length row ≡ P .columns) where
@@ -260,17 +282,17 @@ module _ (b : Bench) where
             let ms = lossy P (b .marks) in
             let u = across P (b .symbols) c in
             let m = subst (Means (P .field) ws (zeros ws) ms u) e (fill-means (P .field) ws (zeros ws) ms u) in
-            let below = across-below P (plan-field (b .plan) (f .plan-known)) (b .symbols) c in
+            let below = across-below P (known-of (b .plan) (f .plan-known) .field) (b .symbols) c in
             agrees-below (P .field) ms u v (unmarked-below (P .field) ms u below) (m .1 .agrees)
 
-    module _ (s : Sized b) (low : b .level < length (P .levels)) (cs : List (List ℕ)) (count : length cs ≡ length (L .checks)) where
+    module _ (s : Room b) (low : b .level < length (P .levels)) (cs : List (List ℕ)) (count : length cs ≡ length (L .checks)) where
       -- row r's sums once the level is learned: the old ones, then the new
       pub raise-sums : (r : ℕ) → r < P .rows → sumsAt P (suc (b .level)) (raise b cs .sums) r ≡ sumsAt P (b .level) (b .sums) r ++ newSums cs r
       unfolding raise
       raise-sums r inside =
           let sh = shape (b .plan) (f .plan-known) in
           sums-learned P (b .level) cs (b .sums) r low count (omega (arith, checks-le P low, sh .sums-le))
-          (omega (arith, sh .rows-le, s .sums)) inside
+          (omega (arith, s .learned, row-end sumRoom inside)) inside
 
       pub fit-raise : ((r : ℕ) → r < P .rows → T (allBelow (size (P .field)) (newSums cs r))) → BenchFit (raise b cs)
       unfolding raise allBelow
@@ -291,12 +313,12 @@ module _ (b : Bench) where
     pub sound-put : (r : ℕ) (row : List ℕ) → r < P .rows → rowFill b r ≡ one row → Sound (putRow b r row)
     sound-put r row h e =
         let g = filled-row (s .fit) r h row e in
-        record { fit = fit-put (s .fit) r h (s .sized) row (g .0) (g .1); sized = sized-put (s .sized) r row }
+        record { fit = fit-put (s .fit) r h (s .room) row (g .0) (g .1); room = room-put (s .room) r row }
 
     pub sound-raise : (cs : List (List ℕ)) → b .level < length (P .levels) → levelFill b ≡ learned cs → Sound (raise b cs)
     sound-raise cs low e = record {
-      fit = fit-raise (s .fit) (s .sized) low cs (learned-length (s .fit) cs e) (λ r h. learned-below (s .fit) cs e r);
-      sized = sized-raise (s .sized) cs;
+      fit = fit-raise (s .fit) (s .room) low cs (learned-length (s .fit) cs e) (λ r h. learned-below (s .fit) cs e r);
+      room = room-raise (s .room) cs;
     }
 
     pub sound-row : (r : ℕ) → Sound (rowStep b r .bench)

@@ -9,7 +9,7 @@ use lib.Dec.{ltb}
 use lib.ListN.{length, getD, set}
 use lib.Seq.{set-getD, set-set, getD-set-same}
 use Rattle.field.specs.Lists.{if_then_else_}
-use Rattle.linear.specs.Fill.{Fill, tied, none, one}
+use Rattle.fills.specs.Fill.{Fill, tied, none, one}
 use Rattle.plans.specs.Plan.{planOf}
 use Rattle.steps.specs.Steps.{stepped, rowFill, putRow, rowStepBy, Learned, blocked, failing, learned, levelFill, raise, levelStepBy}
 use Rattle.steps.specs.Rounds.{Turn, end, clash, more, afterRow, afterLevel, takeTurn, goOn, turns}

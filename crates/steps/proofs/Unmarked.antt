@@ -10,12 +10,13 @@ use lib.ListN.{length}
 use lib.Pow.{pow-pos}
 use Rattle.field.specs.Lists.{upFrom}
 use Rattle.field.specs.Field.{Field}
-use Rattle.linear.specs.Lists.{vanish, zeros, first, rest}
-use Rattle.linear.specs.Marks.{bitsOf}
-use Rattle.linear.specs.Fill.{sumsOf, tied, none, one, fill}
-use Rattle.linear.proofs.Tests.{zeros-vanish}
-use Rattle.linear.proofs.Choices.{Agrees}
-use Rattle.linear.proofs.Filling.{Independent, no-dependency, independent-of, Means, fill-means, fill-none, fill-one}
+use Rattle.fills.specs.Lists.{vanish, zeros, first, rest}
+use Rattle.fills.specs.Marks.{bitsOf}
+use Rattle.fills.specs.Fill.{sumsOf, tied, none, one, fill}
+use Rattle.fills.proofs.Tests.{zeros-vanish}
+use Rattle.fills.proofs.Choices.{Agrees}
+use Rattle.fills.proofs.Marked.{length-zeros}
+use Rattle.fills.proofs.Filling.{Independent, no-dependency, independent-of, Means, fill-means, fill-none, fill-one}
 
 -- no place is marked
 abbrev pub Clear : List Bool → Type 0
@@ -50,11 +51,6 @@ module _ (F : Field) where
   agrees-self (m ∷ ms) [] c l = absurd (omega arith)
   agrees-self (true ∷ ms) (x ∷ v) c l = absurd c
   agrees-self (false ∷ ms) (x ∷ v) c l = (refl, agrees-self ms v c (suc-inj l))
-
-  length-zeros : (ms : List Bool) → length (zeros ms) ≡ length ms
-  unfolding zeros
-  length-zeros [] = refl
-  length-zeros (m ∷ ms) = ap suc (length-zeros ms)
 
   -- no columns are independent columns
   pub clear-independent : (checks : List (List ℕ)) (ms : List Bool) → Clear ms → Independent F checks ms

@@ -6,10 +6,11 @@ use lib.Dec.{eqb, ltb}
 use lib.ListN.{length, take, drop, getD, set, replicate}
 use lib.Seq.{sets}
 use Rattle.field.specs.Lists.{if_then_else_, upFrom}
-use Rattle.linear.specs.Lists.{any, zeros}
-use Rattle.linear.specs.Fill.{dependent, Fill, none, tied, one, fill, isNone, vectorIn}
+use Rattle.fills.specs.Lists.{any, zeros}
+use Rattle.fills.specs.Fill.{dependent, Fill, none, tied, one, fill, isNone, vectorIn}
 use Rattle.plans.specs.Plan.{Plan, planOf, levelOf, checksTo, rowAt, marksAt, across}
-use Rattle.plans.specs.Refusal.{sumPlaces, sumsAt, unasked, lentRefusal, benchRefusal}
+use Rattle.plans.specs.Refusal.{sumsAt, unasked, lentRefusal, benchRefusal}
+use Rattle.plans.specs.Rooms.{rowRoom, symbolRoom, sumRoom, learnedRoom}
 use Rattle.plans.specs.declared.Bench.{Bench}
 use Rattle.plans.specs.declared.Stepped.{Stepped}
 use Rattle.plans.specs.declared.Started.{Started}
@@ -24,14 +25,14 @@ unfoldable pub fresh : ℕ → List ℕ → List ℕ → Bench
 fresh p stripe marks = record {
   plan = p;
   level = 1;
-  symbols = stripe ++ replicate (256 - length stripe) 0;
-  marks = marks ++ replicate (8 - length marks) 0;
-  sums = replicate 128 0;
+  symbols = stripe ++ replicate (symbolRoom - length stripe) 0;
+  marks = marks ++ replicate (rowRoom - length marks) 0;
+  sums = replicate learnedRoom 0;
 }
 
 -- the bench of a refused start: its numbers are all 0
 unfoldable pub empty : Bench
-empty = record { plan = 0; level = 0; symbols = replicate 256 0; marks = replicate 8 0; sums = replicate 128 0 }
+empty = record { plan = 0; level = 0; symbols = replicate symbolRoom 0; marks = replicate rowRoom 0; sums = replicate learnedRoom 0 }
 
 unfoldable pub startedBy : (refusal : ℕ) → ℕ → List ℕ → List ℕ → Started
 startedBy zero p stripe marks = record { bench = fresh p stripe marks; answer = Done }
@@ -110,7 +111,7 @@ newSums cs r = map (λ c. getD c r 0) cs
 -- row by row: in the row's places the new sums are written behind the n sums before them. All else is as it was
 unfoldable pub keepSums : (n : ℕ) → (news : List (List ℕ)) → (sums : List ℕ) → List ℕ
 keepSums n [] sums = sums
-keepSums n (new ∷ news) sums = sets (take sumPlaces sums) n new ++ keepSums n news (drop sumPlaces sums)
+keepSums n (new ∷ news) sums = sets (take sumRoom sums) n new ++ keepSums n news (drop sumRoom sums)
 
 -- all rows' sums learned, t one higher
 unfoldable pub raise : Bench → List (List ℕ) → Bench

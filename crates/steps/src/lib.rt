@@ -1,9 +1,12 @@
 // A bench started.
+pub mod copies;
+
 use plans::Bench;
+use plans::LEARNED;
 use plans::Outcome;
+use plans::ROWS;
+use plans::SYMBOLS;
 use plans::Started;
-use plans::copies;
-use plans::refusal;
 ghost use mathlib.Core.Path.{_≡_};
 ghost use Rattle.steps.specs.Steps.{started};
 
@@ -12,7 +15,7 @@ ghost use Rattle.steps.specs.Steps.{started};
 pub fn start(plan: usize, stripe: &[u8], marks: &[u32]) -> Started
     ensures { λ r. ⌜ r ≡ started plan (now (stripe .entry)) (now (marks .entry)) ⌝ }
 {
-    let number = refusal::lent_refusal(plan, stripe, marks);
+    let number = refusals::lent_refusal(plan, stripe, marks);
     if number == 0 {
         let symbols = copies::symbols_of(stripe);
         let words = copies::words_of(marks);
@@ -21,7 +24,7 @@ pub fn start(plan: usize, stripe: &[u8], marks: &[u32]) -> Started
             level: 1,
             symbols: symbols,
             marks: words,
-            sums: [0; 128],
+            sums: [0; LEARNED],
         };
         return Started {
             bench: bench,
@@ -31,9 +34,9 @@ pub fn start(plan: usize, stripe: &[u8], marks: &[u32]) -> Started
     let bench = Bench {
         plan: 0,
         level: 0,
-        symbols: [0; 256],
-        marks: [0; 8],
-        sums: [0; 128],
+        symbols: [0; SYMBOLS],
+        marks: [0; ROWS],
+        sums: [0; LEARNED],
     };
     Started {
         bench: bench,

@@ -1,2 +1,4 @@
--- What it is to answer a system of equations.
-pub mod System
+-- What the crate `systems` takes.
+pub mod Solve
+-- what the contracts of inner functions cite
+pub mod Steps

@@ -1,3 +1,2 @@
 -- Facts about the text. Assumes nothing.
 pub mod Texts
-pub mod Printing

@@ -2,31 +2,48 @@
 use mathlib.Core.Path.{_≡_, refl, sym, ap, _∙_, subst}
 use mathlib.Core.Bool.{Bool, true, false, _||_}
 use mathlib.Core.List.{List, [], _∷_, _++_, flatMap, append-assoc, append-nil}
-use Prim.Native.Nat.{ℕ, zero, suc, _+_, _/_, _%_, _^_, _≤_, _<_}
-use native.Mathlib.Nat.{not-suc-le-zero, le-of-suc-le-suc, le-trans}
+use Prim.Native.Nat.{ℕ, zero, suc, _+_, _-_, _/_, _%_, _^_, _≤_, _<_}
+use native.Mathlib.Nat.{zero-add, le-trans}
 use native.Mathlib.Omega.{arith}
 use borrow.Author.Tests.{lt-ltb, le-ltb}
-use lib.Dec.{T, eqb, leb, ltb, leb→le, ltb→lt, lt→ltb, lit<}
-use lib.ListN.{length, take, getD}
-use lib.Seq.{length-take-le}
+use lib.Dec.{T, eqb, leb, ltb, leb→le, ltb→lt, lt→ltb}
+use lib.ListN.{length, take, drop, getD, replicate, length-append, length-replicate}
+use lib.Seq.{sets-eq, length-take-le}
 use Rattle.field.specs.Lists.{if_then_else_}
 use Rattle.field.specs.Field.{size, gf2, gf16}
 use Rattle.field.proofs.Test.{both-left, both-right, both}
-use Rattle.linear.specs.Lists.{all, first, rest, beside}
-use Rattle.linear.specs.Marks.{bitsOf}
-use Rattle.linear.proofs.Marked.{bits-at}
-use Rattle.linear.proofs.Beside.{length-beside-bits, beside-bits-at}
-use Rattle.plans.specs.Plan.{Plan, plan1, plan2, plan3, noPlan, planOf, known, rowAt, marksAt}
-use Rattle.plans.specs.Refusal.{allBelow, unmarkedBelow, symbolsFit}
+use Rattle.fills.specs.Lists.{all, first, rest, beside}
+use Rattle.fills.specs.Marks.{bitsOf}
+use Rattle.fills.proofs.Marked.{bits-at}
+use Rattle.fills.proofs.Beside.{length-beside-bits, beside-bits-at}
+use Rattle.plans.specs.Plan.{plan1, plan2, plan3, noPlan, planOf, known, rowAt, marksAt}
+use Rattle.plans.specs.Refusal.{unmarkedBelow, symbolsFit}
 use Rattle.plans.specs.Answers.{placeValues, endValues}
 use Rattle.plans.specs.declared.Report.{Report}
 use Rattle.plans.specs.declared.Place.{Place}
 use Rattle.plans.specs.declared.Place.the-variants.{Row, Across}
-use Rattle.repair.specs.Text.{bytes, digitsIn, decimal, hex, item, shown, captioned, endText, placeText}
-use Rattle.plans.proofs.Plans.{all-plans}
-use Rattle.plans.proofs.Shape.{shape}
+use Rattle.texts.specs.Text.{bytes, digitsIn, decimal, hex, item, lineEnd, shown, captioned, endText, placeText}
+use Rattle.texts.specs.Parts.{digits}
+use Rattle.plans.specs.Tables.{padded}
+use Rattle.words.specs.Written.{Put}
+use Rattle.plans.proofs.Plans.{all-plans, shape}
 use Rattle.steps.proofs.Fit.{all-rows, symbols-fit}
 use Rattle.plans.proofs.Scan.{fitsIn, row-up}
+
+-- ---- zeros behind the text
+
+drop-zeros : (k n : ℕ) → drop {A = ℕ} k (replicate n 0) ≡ replicate (n - k) 0
+drop-zeros zero n = let e : n ≡ n - 0 = omega arith in ap (λ m. replicate m 0) e
+drop-zeros (suc k) zero = let e : 0 ≡ 0 - suc k = omega arith in ap (λ m. replicate m 0) e
+drop-zeros (suc k) (suc n) = let e : n - k ≡ suc n - suc k = omega arith in drop-zeros k n ∙ ap (λ m. replicate m 0) e
+
+-- what was put at the front of zeros has zeros behind it
+pub put-padded : (n : ℕ) {i : ℕ} {xs l : List ℕ} → Put (replicate n 0) 0 xs i l → l ≡ padded n xs
+unfolding padded
+put-padded n {i} {xs} p =
+    let long = length-replicate {A = ℕ} n 0 in
+    p .written ∙ sets-eq xs (replicate n 0) 0 (omega (arith, p .reached, p .inside))
+    ∙ ap (λ t. xs ++ t) (ap (λ k. drop {A = ℕ} k (replicate n 0)) (zero-add (length xs)) ∙ drop-zeros (length xs) n)
 
 -- ---- numbers below 100
 
@@ -40,22 +57,7 @@ two-digits zero l h = absurd (omega arith)
 two-digits (suc n) l h =
     rw (le-ltb (suc n) 10 l, lt-ltb (suc n / 10) 10 (omega arith)) (ap (λ d. (48 + d) ∷ (48 + suc n % 10) ∷ []) (omega arith))
 
-pub below-at : (q : ℕ) (xs : List ℕ) → T (allBelow q xs) → (i : ℕ) → i < length xs → getD xs i 0 < q
-unfolding all allBelow
-below-at q [] t i h = absurd (not-suc-le-zero h)
-below-at q (x ∷ xs) t zero h = ltb→lt x q (both-left (ltb x q) (allBelow q xs) t)
-below-at q (x ∷ xs) t (suc i) h = below-at q xs (both-right (ltb x q) (allBelow q xs) t) i (le-of-suc-le-suc h)
-
--- ---- the values of a Clash
-
-pub row-below : {place : Place} {row level q : ℕ} → place ≡ Row row level → T (allBelow q (placeValues place)) → (level < q) × (row < q)
-unfolding placeValues
-row-below {place} {row} {level} {q} e t =
-    let h = below-at q (level ∷ row ∷ []) (subst (λ p. T (allBelow q (placeValues p))) e t) in (h 0 (lit< tt), h 1 (lit< tt))
-
-pub across-below : {place : Place} {level q : ℕ} → place ≡ Across level → T (allBelow q (placeValues place)) → level < q
-unfolding placeValues
-across-below {place} {level} {q} e t = below-at q (level ∷ []) (subst (λ p. T (allBelow q (placeValues p))) e t) 0 (lit< tt)
+-- ---- the place of a Clash
 
 pub row-text : {place : Place} {row level : ℕ} → place ≡ Row row level
     → placeText place (placeValues place) ≡ item " level " level ++ item " place row " row
@@ -69,18 +71,7 @@ unfolding placeValues captioned placeText
 across-text {level} e =
     ap (λ p. placeText p (placeValues p)) e ∙ ap (λ l. l ++ bytes " place across") (append-nil (item " level " level))
 
--- ---- the values of Restored and Stuck
-
-pub end-below : (q : ℕ) (P : Plan) (r : Report) → T (allBelow q (endValues P r))
-    → (r .level < q) × (r .left < q) × T (allBelow q (take (length (P .levels)) (r .rows)))
-unfolding all allBelow endValues
-end-below q P r t =
-    let counts = take (length (P .levels)) (r .rows) in
-    let u = both-right (ltb (r .level) q) (allBelow q (r .left ∷ counts)) t in (
-      ltb→lt (r .level) q (both-left (ltb (r .level) q) (allBelow q (r .left ∷ counts)) t),
-      ltb→lt (r .left) q (both-left (ltb (r .left) q) (allBelow q counts) u),
-      both-right (ltb (r .left) q) (allBelow q counts) u,
-    )
+-- ---- Restored and Stuck
 
 -- each count behind a space
 spaced : (counts : List ℕ) → length counts ≤ 2 → captioned (" " ∷ " " ∷ []) counts ≡ flatMap (item " ") counts
@@ -128,6 +119,11 @@ module _ (word : ℕ) (row : List ℕ) where
         (subst (λ b. T (b || ltb (getD row c 0) q)) (bits-at (length row) word c h ∙ e)
         (all-rows (fitsIn q word row) (length row) (subst T (row-up q word row) t) c h))
 
+-- a row and a line feed
+pub length-line : (word : ℕ) (row : List ℕ) → length (shown (bitsOf (length row) word) row ++ lineEnd) ≡ length row + 1
+unfolding lineEnd
+length-line word row = length-append (shown (bitsOf (length row) word) row) lineEnd ∙ ap (λ n. n + 1) (length-row-shown word row)
+
 unmarked-le : (q r : ℕ) → q ≤ r → (ms : List Bool) (xs : List ℕ) → T (unmarkedBelow q ms xs) → T (unmarkedBelow r ms xs)
 unfolding all beside unmarkedBelow
 unmarked-le q r l [] xs t = tt
@@ -140,9 +136,9 @@ unmarked-le q r l (false ∷ ms) xs t =
 
 -- every symbol has a hex digit
 pub fit-hex : (p : ℕ) (marks stripe : List ℕ) → T (symbolsFit (planOf p) marks stripe) → (r : ℕ) → r < planOf p .rows
-    → T (unmarkedBelow 16 (marksAt (planOf p) marks r) (rowAt (planOf p) stripe r))
+    → T (unmarkedBelow digits (marksAt (planOf p) marks r) (rowAt (planOf p) stripe r))
 fit-hex p marks stripe t r h =
-    unmarked-le (size (planOf p .field)) 16 (few p) (marksAt (planOf p) marks r) (rowAt (planOf p) stripe r) (symbols-fit (planOf p) marks stripe t r h)
+    unmarked-le (size (planOf p .field)) digits (few p) (marksAt (planOf p) marks r) (rowAt (planOf p) stripe r) (symbols-fit (planOf p) marks stripe t r h)
   where
-    few : (p : ℕ) → size (planOf p .field) ≤ 16
-    few p = unfold size gf2 gf16 all plan1 plan2 plan3 noPlan in leb→le _ 16 (all-plans (λ P. leb (size (P .field)) 16) tt p)
+    few : (p : ℕ) → size (planOf p .field) ≤ digits
+    few p = unfold size gf2 gf16 all plan1 plan2 plan3 noPlan in leb→le _ digits (all-plans (λ P. leb (size (P .field)) digits) tt p)

@@ -1,13 +1,13 @@
--- `gather_column` meets its contract. Assumes nothing.
+-- `gather_column`: the invariant `Wording` is that the bits from check i on are gathered; the word has room for the next. Assumes nothing.
 use mathlib.Core.Path.{refl}
 use Prim.Native.Nat.{_+_, _-_, _*_, _^_, _≤_, _<_}
 use native.Mathlib.Omega.{arith}
 use borrow.Author.Needs.{needs}
 use lib.ListN.{length}
-use Rattle.systems.specs.System.{ent}
-use Rattle.systems.proofs.Rows.{row-fits}
-use Rattle.basis.specs.Words.{columnOf}
-use Rattle.basis.proofs.Wording.{Wording, wording-start, wording-turn, wording-end, wording-fits, coefficient-bit}
+use Rattle.equations.specs.System.{ent}
+use Rattle.equations.proofs.Rows.{row-fits}
+use Rattle.equations.specs.Words.{columnOf}
+use Rattle.equations.proofs.Wording.{Wording, wording-start, wording-turn, wording-end, wording-fits, coefficient-bit}
 use Rattle.basis.proofs.gather_column.Statement.{statement}
 use Rattle.basis.proofs.gather_column.Tie as tie
 
@@ -22,16 +22,16 @@ row : (c : tie.In-loop Inv-loop μ-loop) → let s = c .before .before .args in 
 row c =
     let s = c .before .before in
     let fits = row-fits (s .args .m) (s .args .n) (c .before .loop .i - 1) (omega (arith, c .before .loop .inv .upto)) in
-    omega (arith, s .pre .0 .0, fits)
+    omega (arith, s .pre .rows, fits)
 
 coefficient : (c : tie.In-loop Inv-loop μ-loop) → let s = c .before .before .args in ent (s .checks .now) (s .n) (c .before .loop .i - 1) (s .p) < 2
-coefficient c = let s = c .before .before in coefficient-bit (s .args .checks .now) (s .args .n) (s .args .p) (s .pre .1) _
+coefficient c = let s = c .before .before in coefficient-bit (s .args .checks .now) (s .args .n) (s .args .p) (s .pre .bits) _
 
 left : (c : tie.In-loop Inv-loop μ-loop) → c .before .loop .word < 2 ^ 31
 left c =
     let s = c .before .before in
-    let bits = coefficient-bit (s .args .checks .now) (s .args .n) (s .args .p) (s .pre .1) in
-    wording-fits _ bits _ _ _ (c .before .loop .inv) (s .pre .0 .1) (omega arith)
+    let bits = coefficient-bit (s .args .checks .now) (s .args .n) (s .args .p) (s .pre .bits) in
+    wording-fits _ bits _ _ _ (c .before .loop .inv) (s .pre .few) (omega arith)
 
 loop-holds : tie.Need-loop-holds Inv-loop μ-loop
 loop-holds c = wording-start _ _

@@ -1,8 +1,8 @@
--- `reduce` meets its contract. Assumes nothing.
+-- `reduce`: the invariant `Reducing` is that what is left is 0 at the pivots before i, and that word and mask moved together. Assumes nothing.
 use Prim.Native.Nat.{_-_, _<_}
 use native.Mathlib.Omega.{arith}
 use Rattle.field.specs.Field.{_⊕_}
-use Rattle.systems.specs.System.{vec}
+use Rattle.equations.specs.System.{vec}
 use Rattle.basis.proofs.Reducing.{Reducing, reducing-start, reducing-turn, reducing-end}
 use borrow.Author.Needs.{needs}
 use Rattle.basis.proofs.reduce.Statement.{statement}
@@ -16,7 +16,7 @@ abbrev μ-loop : tie.MeasureT-loop
 
 -- a pivot is a bit's place
 pivot-lt : (c : tie.In-loop Inv-loop μ-loop) → vec (c .before .before .args .pivots .now) (c .before .loop .i) < 32
-pivot-lt c = c .before .before .pre .0 .1 .fits _ (c .loop-test .taken)
+pivot-lt c = c .before .before .pre .ordered .fits _ (c .loop-test .taken)
 
 loop-holds : tie.Need-loop-holds Inv-loop μ-loop
 loop-holds c = reducing-start _ _ _ _ _ _ (c .fits .word .fits)
@@ -63,7 +63,8 @@ loop-less c = search needs
 loop-again : tie.Need-loop-again Inv-loop μ-loop
 unfolding _⊕_
 loop-again c = let s = c .before .before .before .before .before in
-    reducing-turn _ _ (vec (s .args .pivots .now)) _ _ _ _ _ _ (s .pre .0 .1) (s .pre .1 .0) (s .pre .1 .1) (omega arith) (c .before .before .before .before .loop .inv)
+    reducing-turn _ _ (vec (s .args .pivots .now)) _ _ _ _ _ _ (s .pre .ordered) (s .pre .words-fit) (s .pre .masks-fit) (omega arith)
+    (c .before .before .before .before .loop .inv)
 
 returns : tie.Need-returns Inv-loop μ-loop
 returns c = reducing-end _ _ _ _ _ _ _ _ _ (c .before .loop .inv) (omega arith)

@@ -1,15 +1,16 @@
--- `span` meets its contract. Assumes nothing.
+-- `span`: the invariant `Building` is the echelon of the first t columns and a dependency of theirs; a column of which something is left
+-- joins the echelon, one of which nothing is left is a dependency. Assumes nothing.
 use mathlib.Core.Path.{_≡_, sym, _∙_}
 use mathlib.Core.Logic.{_≢_, ⊎-elim}
 use Prim.Native.Nat.{ℕ, _+_, _%_, _^_, _-_, _≤_, _<_}
 use native.Mathlib.Nat.{mod-eq-of-lt}
 use native.Mathlib.Omega.{arith}
 use lib.Count.{trailingZeros}
-use Rattle.systems.specs.System.{vec}
-use Rattle.basis.specs.Words.{columnOf}
-use Rattle.basis.proofs.Bits.{shifted-one, low-bits, low-fits, low-some, lowest-lt}
-use Rattle.basis.proofs.Wording.{column-lt}
-use Rattle.basis.proofs.Building.{Building, building-start, building-masks, building-some, building-tied, building-more, building-as, building-ends, building-enough}
+use Rattle.equations.specs.System.{vec}
+use Rattle.equations.specs.Words.{columnOf}
+use Rattle.equations.proofs.Bits.{shifted-one, low-bits, low-fits, low-some, lowest-lt}
+use Rattle.equations.proofs.Wording.{column-lt}
+use Rattle.basis.proofs.Building.{Building, building-start, building-reducible, building-some, building-tied, building-more, building-ends, building-enough}
 use borrow.Author.Needs.{needs}
 use Rattle.basis.proofs.span.Statement.{statement}
 use Rattle.basis.proofs.span.Tie as tie
@@ -39,10 +40,10 @@ shl-wanted : tie.Need-shl-wanted Inv-loop μ-loop
 shl-wanted c = search needs
 
 sub-wanted : tie.Need-sub-wanted Inv-loop μ-loop
-sub-wanted c = low-some _ (c .before .before .pre .0 .1)
+sub-wanted c = low-some _ (c .before .before .pre .few)
 
 cast-wanted : tie.Need-cast-wanted Inv-loop μ-loop
-cast-wanted c = record { fits = low-fits _ (c .before .before .pre .0 .1) }
+cast-wanted c = record { fits = low-fits _ (c .before .before .pre .few) }
 
 loop-holds : tie.Need-loop-holds Inv-loop μ-loop
 loop-holds c = (search needs, building-start _)
@@ -55,27 +56,26 @@ shared-slice-read-gather-column c = search needs
 
 gather-column-requires : tie.Need-gather-column-requires Inv-loop μ-loop
 gather-column-requires c κs =
-    let s = start (c .before .before) in ((s .pre .0 .0, s .pre .0 .1, s .pre .1 .0 .1 _ (omega arith)), s .pre .1 .1)
+    let asked = start (c .before .before) .pre in
+    record { rows = asked .rows; few = asked .few; below = asked .below _ (omega arith); bits = asked .bits }
 
 shl-reduce : tie.Need-shl-reduce Inv-loop μ-loop
 shl-reduce c = search needs
 
 reduce-requires : tie.Need-reduce-requires Inv-loop μ-loop
 reduce-requires c κs =
-    let D = c .before .before .before .before .before .before .loop .inv .1 in
-    ((omega (arith, D .few), D .spanning .echelon .ordered), (D .small, building-masks D (omega arith)))
+    building-reducible (c .before .before .before .before .before .before .loop .inv .1) (omega arith)
 
 reduce-requires-2 : tie.Need-reduce-requires-2 Inv-loop μ-loop
 reduce-requires-2 c κs =
-    let D = head (c .before .before .before .before) .loop .inv .1 in
-    ((omega (arith, D .few), D .spanning .echelon .ordered), (D .small, building-masks D (omega arith)))
+    building-reducible (head (c .before .before .before .before) .loop .inv .1) (omega arith)
 
 -- the word that was reduced is that of column t, which has no bit beyond the checks
 cut : (c : tie.After-reduce Inv-loop μ-loop) → let s = start (head c) in
     gathered c .gather-column .result ≡ columns s (head c .loop .t) % 2 ^ s .args .m
 cut c =
     let s = start (head c) in
-    gathered c .gather-column .ensures ∙ sym (mod-eq-of-lt (column-lt (s .args .checks .now) (s .args .n) _ (s .pre .1 .1) (s .args .m)))
+    gathered c .gather-column .ensures ∙ sym (mod-eq-of-lt (column-lt (s .args .checks .now) (s .args .n) _ (s .pre .bits) (s .args .m)))
 
 -- the echelon with column t, of which nothing is left
 tied-too : (c : tie.Then1 Inv-loop μ-loop) → let at = head (c .before) .loop in let s = start (head (c .before)) in let made = c .before .reduce .result .mask in
@@ -93,7 +93,7 @@ returns c =
     let s = start (head (here .before)) in
     let D = tied-too here in
     building-enough (columns s) _ _ _ _ _ _ _ _ _ _ _ _ (omega arith) (D .0) (D .1) (c .before .before .reduce2 .ensures)
-    (low-bits (s .args .need) (s .args .m) (s .pre .0 .1)) (c .if2 .taken)
+    (low-bits (s .args .need) (s .args .m) (s .pre .few)) (c .if2 .taken)
 
 -- the place is in the room
 place-lt : (c : tie.Else1 Inv-loop μ-loop) → trailingZeros 32 (c .before .reduce .result .word) < 32
@@ -136,18 +136,16 @@ loop-again c =
     let one = shifted-one (at .t) (omega arith) in (
       omega arith,
       ⊎-elim
-          (λ w. building-as _ _ _ _ _ _ _ _ _ _ _ _ (w .7) (w .8) (w .9) (w .10) (w .11)
+          (λ w. rw (w .7, w .8, w .9, w .10, w .11)
           (building-tied _ _ _ _ _ _ _ _ _ _ _ (at .inv .1) (turned .ensures) (cut (c .before)) one (w .0 .taken)))
-          (λ w. building-as _ _ _ _ _ _ _ _ _ _ _ _ (w .1) (w .2) (w .3) (w .4) (w .5)
+          (λ w. rw (w .1, w .2, w .3, w .4, w .5)
           (building-more _ _ _ _ _ _ _ _ _ _ _ (at .inv .1) (turned .ensures) (cut (c .before)) one (w .0 .left) (omega arith)))
           (c .if1 .came),
     )
 
 reduce-requires-3 : tie.Need-reduce-requires-3 Inv-loop μ-loop
 reduce-requires-3 c κs =
-    let at = c .before .before .before .before .loop .inv in
-    let D = at .1 in
-    ((omega (arith, D .few, at .0), D .spanning .echelon .ordered), (D .small, building-masks D (omega (arith, at .0))))
+    let inv = c .before .before .before .before .loop .inv in building-reducible (inv .1) (omega (arith, inv .0))
 
 returns-2 : tie.Need-returns-2 Inv-loop μ-loop
 returns-2 c =
@@ -155,7 +153,7 @@ returns-2 c =
     let s = start at in
     let e : at .loop .t ≡ s .args .k = omega (arith, at .loop .inv .0) in
     building-ends (columns s) _ _ _ _ _ _ _ _ _ _ _
-    (rw e at (at .loop .inv .1)) (c .before .reduce3 .ensures) (low-bits (s .args .need) (s .args .m) (s .pre .0 .1))
+    (rw e at (at .loop .inv .1)) (c .before .reduce3 .ensures) (low-bits (s .args .need) (s .args .m) (s .pre .few))
 
 pub span-spec : {M : Type 1} → statement M
 span-spec =

@@ -1,4 +1,4 @@
--- `field::dot` meets its contract. Assumes nothing.
+-- `field::dot`: what its two callees answer; that of bits is the sum in field 2. Assumes nothing.
 use mathlib.Core.Path.{sym, ap, _∙_}
 use borrow.Author.Needs.{needs}
 use Rattle.field.specs.Field.{dot}
@@ -10,7 +10,7 @@ dot-bits-requires : tie.Need-dot-bits-requires
 dot-bits-requires c κs = search needs
 
 returns : tie.Need-returns
-returns c = let s = c .before .before .before .before in
+returns c = let s = c .before .before .before .before .before in
     c .dot-bits .ensures ∙ ap (λ q. dot (fieldOf q) (s .args .check .now) (s .args .row .now)) (sym (c .before .if1 .taken))
 
 dot-table-requires : tie.Need-dot-table-requires

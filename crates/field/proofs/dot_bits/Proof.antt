@@ -1,4 +1,4 @@
--- `field::dot_bits` meets its contract: the invariant is that the low bit of the columns passed and those to come make the whole sum. Assumes nothing.
+-- `field::dot_bits`: the invariant is that the low bit of the columns passed and those to come make the whole sum. Assumes nothing.
 use Prim.Native.Nat.{_-_, _%_}
 use mathlib.Core.Path.{_≡_, refl}
 use borrow.Author.Needs.{needs}

@@ -1,4 +1,4 @@
--- `field::dot_table` meets its contract: the invariant is that the columns passed and those to come make the whole sum. Assumes nothing.
+-- `field::dot_table`: the invariant is that the columns passed and those to come make the whole sum. Assumes nothing.
 use Prim.Native.Nat.{_-_}
 use mathlib.Core.Path.{_≡_, refl}
 use borrow.Author.Needs.{needs}
@@ -36,7 +36,7 @@ loop-less c = search needs
 loop-again : tie.Need-loop-again Inv-loop μ-loop
 unfolding _⊕_
 loop-again c =
-    let args = c .before .before .before .before .before .before .before .args in
+    let args = c .before .before .before .before .before .before .before .before .args in
     let loop = c .before .before .before .before .loop in
     (refl, summing-turns (fieldOf (args .q)) (args .check .now) (args .row .now) (search needs) (search needs) (c .product .ensures) (loop .inv .1))
 

@@ -1,4 +1,4 @@
--- `field::inverse` meets its contract. Assumes nothing.
+-- `field::inverse`: 1 over GF(2), else x ^ 2 · (x ^ 4 · x ^ 8), whose factors the products give. Assumes nothing.
 use borrow.Author.Needs.{needs}
 use Rattle.field.proofs.Table.{inverse-1, inverse-14}
 use Rattle.field.proofs.inverse.Statement.{statement}

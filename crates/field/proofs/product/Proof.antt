@@ -1,6 +1,6 @@
--- `field::product` meets its contract. Assumes nothing.
+-- `field::product`: over GF(2) the product of the low bits, else the table's entry at them, which is there. Assumes nothing.
 use borrow.Author.Needs.{needs}
-use Rattle.field.proofs.Table.{entry, bits-product, bits-small}
+use Rattle.field.proofs.Table.{entry, entry-there, bits-product, bits-small}
 use Rattle.field.proofs.product.Statement.{statement}
 use Rattle.field.proofs.product.Tie as tie
 
@@ -22,8 +22,8 @@ cast-entry-2 c = search needs
 add-entry : tie.Need-add-entry
 add-entry c = search needs
 
-element-copy-out-result : tie.Need-element-copy-out-result
-element-copy-out-result c = search needs
+shared-slice-read-result : tie.Need-shared-slice-read-result
+shared-slice-read-result c = let s = c .before .before in entry-there (s .args .table .now) _ (s .args .x) (s .args .y) (s .pre) (c .before .if1 .left)
 
 returns-2 : tie.Need-returns-2
 returns-2 c = entry _ _ _ _ (c .before .before .pre) (c .before .if1 .left)
@@ -38,5 +38,5 @@ product-spec =
     mul-entry
     cast-entry-2
     add-entry
-    element-copy-out-result
+    shared-slice-read-result
     returns-2)

@@ -1,4 +1,4 @@
--- `field::products` meets its contract: the one test of the table, entry by entry, against the polynomials. Assumes nothing.
+-- `field::products`: the one test of the table, entry by entry, against the polynomials. Assumes nothing.
 use mathlib.Core.Path.{refl}
 use Rattle.field.specs.Lists.{upFrom}
 use Rattle.field.specs.Field.{_⊕_, size, double, times, mul, gf16}

@@ -1,7 +1,7 @@
--- `write_file` meets its contract: refused, the file stays; else it is written whole. Assumes nothing.
+-- Refused, the file stays; else it is written whole. Assumes nothing.
 use mathlib.Core.Path.{_∙_}
 use borrow.Author.Needs.{needs}
-use Rattle.repair.specs.File.{writeFile}
+use Rattle.files.specs.File.{writeFile}
 use Rattle.encoding.proofs.Carrying.{outcome-refused, outcome-done, left-new, left-old}
 use Rattle.files.proofs.write_file.Statement.{statement}
 use Rattle.files.proofs.write_file.Tie as tie

@@ -1,8 +1,8 @@
--- `layout::bench_in` meets its contract. Assumes nothing.
-use Rattle.files.proofs.Writing.{put-whole}
-use Rattle.layout.proofs.Benches.{bench-is}
+-- Symbols, mark words and sums are read whole, each from its place. Assumes nothing.
 use native.Mathlib.Omega.{arith}
 use borrow.Author.Needs.{needs}
+use Rattle.words.proofs.Writing.{put-whole}
+use Rattle.layout.proofs.Benches.{bench-is}
 use Rattle.layout.proofs.bench_in.Statement.{statement}
 use Rattle.layout.proofs.bench_in.Tie as tie
 
@@ -21,6 +21,12 @@ slice-aggregate-put c = search needs
 put-requires : tie.Need-put-requires
 put-requires c κs = search needs
 
+slice-aggregate-read-words : tie.Need-slice-aggregate-read-words
+slice-aggregate-read-words c = search needs
+
+read-words-requires : tie.Need-read-words-requires
+read-words-requires c κs = search needs
+
 sub-put-2 : tie.Need-sub-put-2
 sub-put-2 c = search needs
 
@@ -36,49 +42,26 @@ slice-aggregate-put-2 c = search needs
 put-requires-2 : tie.Need-put-requires-2
 put-requires-2 c κs = search needs
 
-word-at-requires : tie.Need-word-at-requires
-word-at-requires c κs = search needs
-
-word-at-requires-2 : tie.Need-word-at-requires-2
-word-at-requires-2 c κs = search needs
-
-word-at-requires-3 : tie.Need-word-at-requires-3
-word-at-requires-3 c κs = search needs
-
-word-at-requires-4 : tie.Need-word-at-requires-4
-word-at-requires-4 c κs = search needs
-
-word-at-requires-5 : tie.Need-word-at-requires-5
-word-at-requires-5 c κs = search needs
-
-word-at-requires-6 : tie.Need-word-at-requires-6
-word-at-requires-6 c κs = search needs
-
-word-at-requires-7 : tie.Need-word-at-requires-7
-word-at-requires-7 c κs = search needs
-
-word-at-requires-8 : tie.Need-word-at-requires-8
-word-at-requires-8 c κs = search needs
-
-shared-slice-read-t26 : tie.Need-shared-slice-read-t26
-shared-slice-read-t26 c = search needs
+shared-slice-read-t21 : tie.Need-shared-slice-read-t21
+shared-slice-read-t21 c = search needs
 
 cast-t5 : tie.Need-cast-t5
 cast-t5 c = omega (arith, c .shared-slice-known2 .given 0)
 
-shared-slice-read-t28 : tie.Need-shared-slice-read-t28
-shared-slice-read-t28 c = search needs
+shared-slice-read-t23 : tie.Need-shared-slice-read-t23
+shared-slice-read-t23 c = search needs
 
 cast-t7 : tie.Need-cast-t7
 cast-t7 c = omega (arith, c .shared-slice-known3 .given 1)
 
 returns : tie.Need-returns
-returns c = (
-  bench-is _ (put-whole (c .before .before .before .before .before .before .before .before .before .before .before .before .before .before .before .put .ensures) (omega arith)) (put-whole (c .before .before .before .before .before .before .before .before .before .before .before .put2 .ensures) (omega arith))
-      (c .before .before .before .before .before .before .before .before .before .word-at .ensures) (c .before .before .before .before .before .before .before .before .word-at2 .ensures) (c .before .before .before .before .before .before .before .word-at3 .ensures) (c .before .before .before .before .before .before .word-at4 .ensures)
-      (c .before .before .before .before .before .word-at5 .ensures) (c .before .before .before .before .word-at6 .ensures) (c .before .before .before .word-at7 .ensures) (c .before .before .word-at8 .ensures),
-  (omega (arith, c .before .shared-slice-known2 .given 0), omega (arith, c .shared-slice-known3 .given 1)),
-)
+returns c =
+    let sums = c .before .before .before in
+    let marks = sums .before .before .before .before in
+    let symbols = marks .before .before .before in (
+      bench-is _ (put-whole (symbols .put .ensures) (omega arith)) (marks .read-words .ensures) (put-whole (sums .put2 .ensures) (omega arith)),
+      record { plan = omega (arith, c .before .shared-slice-known2 .given 0); level = omega (arith, c .shared-slice-known3 .given 1) },
+    )
 
 pub bench-in-spec : {M : Type 1} → statement M
 bench-in-spec =
@@ -89,21 +72,15 @@ bench-in-spec =
     part-put-end
     slice-aggregate-put
     put-requires
+    slice-aggregate-read-words
+    read-words-requires
     sub-put-2
     part-put-start-2
     part-put-end-2
     slice-aggregate-put-2
     put-requires-2
-    word-at-requires
-    word-at-requires-2
-    word-at-requires-3
-    word-at-requires-4
-    word-at-requires-5
-    word-at-requires-6
-    word-at-requires-7
-    word-at-requires-8
-    shared-slice-read-t26
+    shared-slice-read-t21
     cast-t5
-    shared-slice-read-t28
+    shared-slice-read-t23
     cast-t7
     returns)

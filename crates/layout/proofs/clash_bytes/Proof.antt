@@ -1,9 +1,9 @@
--- `layout::clash_bytes` meets its contract: by the kind of place. Assumes nothing.
+-- By the kind of place: its values are those of the variant. Assumes nothing.
 use mathlib.Core.Path.{sym, ap}
 use mathlib.Core.List.{_++_}
 use lib.ListN.{replicate}
 use Rattle.plans.specs.Answers.{placeValues}
-use Rattle.texts.proofs.Texts.{row-below, across-below}
+use Rattle.numbers.proofs.Values.{row-below, across-below}
 use Rattle.layout.specs.Layout.{placeBytes}
 use native.Mathlib.Omega.{arith}
 use borrow.Author.Needs.{needs}

@@ -1,4 +1,4 @@
--- `layout::report_bytes` meets its contract: by the answer. Assumes nothing.
+-- By the answer: once it is known, so are its values and their bytes. Assumes nothing.
 use mathlib.Core.List.{List}
 use mathlib.Core.Path.{_≡_, sym, ap, subst, _∙_}
 use Prim.Native.Nat.{ℕ}
@@ -8,6 +8,7 @@ use Rattle.plans.specs.Answers.{endValues, answerValues, reportValues}
 use Rattle.plans.specs.Refusal.{allBelow}
 use Rattle.plans.specs.declared.Answer.{Answer}
 use Rattle.layout.specs.Layout.{answerBytes, reportBytes}
+use Rattle.words.specs.Words.{byteRange}
 use borrow.Author.Needs.{needs}
 use Rattle.layout.proofs.report_bytes.Statement.{statement}
 use Rattle.layout.proofs.report_bytes.Tie as tie
@@ -17,9 +18,9 @@ use Rattle.layout.proofs.report_bytes.Tie as tie
 values : (c : tie.Start) → Answer → List ℕ
 values c a = answerValues a (endValues (planOf (c .args .plan)) (c .args .report))
 
-small : (c : tie.Start) {a : Answer} → c .args .report .answer ≡ a → T (allBelow 256 (values c a))
+small : (c : tie.Start) {a : Answer} → c .args .report .answer ≡ a → T (allBelow byteRange (values c a))
 unfolding values reportValues
-small c e = subst (λ a. T (allBelow 256 (values c a))) e (c .pre)
+small c e = subst (λ a. T (allBelow byteRange (values c a))) e (c .pre)
 
 is : (c : tie.Start) {a : Answer} → c .args .report .answer ≡ a → answerBytes a (values c a) ≡ reportBytes (planOf (c .args .plan)) (c .args .report)
 unfolding values reportValues reportBytes

@@ -1,45 +1,172 @@
--- `level_step` meets its contract. Assumes nothing.
-use mathlib.Core.Path.{_∙_}
+-- `level_step`: what is refused, and the last level, leave the bench as it came; so does a level that is not learned, and a learned one
+-- is put in the bench. The plan's tables are lent once the level is seen to be below the last. Assumes nothing.
+use mathlib.Core.Path.{sym}
+use Prim.Native.Nat.{_<_}
+use native.Mathlib.Omega.{arith}
 use borrow.Author.Needs.{needs}
+use lib.ListN.{length}
+use Rattle.field.proofs.Table.{lent-length}
+use Rattle.plans.specs.Plan.{planOf}
 use Rattle.plans.specs.Refusal.{unasked}
+use Rattle.plans.proofs.Plans.{levels-most}
+use Rattle.tables.proofs.Numbers.{checks-long, tables-lent}
 use Rattle.steps.specs.Steps.{stepped}
-use Rattle.levels.proofs.Rising.{step-refused, step-top, step-on}
+use Rattle.steps.proofs.Fit.{Sized, sized-by, sized-room}
+use Rattle.levels.proofs.Rising.{step-refused, step-top, step-failing, step-blocked, step-raised}
 use Rattle.levels.proofs.level_step.Statement.{statement}
 use Rattle.levels.proofs.level_step.Tie as tie
 
+-- the places before
+abbrev start : tie.After-bench-refusal → tie.Start
+start c = c .before .before .before .before .before .before .before
+
+abbrev told : tie.Else2 → tie.Else1
+told c = c .before .before .before
+
+abbrev below-at : tie.After-put-checks → tie.Else2
+below-at c = c .before .before .before .before
+
+abbrev checks-at : tie.After-sums3 → tie.After-put-checks
+checks-at c = c .before .before .before .before .before .before
+
+-- the bench's arrays
+sized : (c : tie.Start) → Sized (c .args .bench)
+sized c = let arrays = c .good .0 .1 .1 .1 .1 in sized-by (arrays .0 .1 .0 .1) (arrays .1 .0 .1 .0 .1) (arrays .1 .1 .0 .1 .0 .1)
+
+-- its level is below the last
+below : (c : tie.Else2) → let b = start (told c .before) .args .bench in b .level < length (planOf (b .plan) .levels)
+below c = rw (c .before .before .facts-of .ensures .levels) at (c .if2 .left)
+
+slice-aggregate-bench-refusal : tie.Need-slice-aggregate-bench-refusal
+slice-aggregate-bench-refusal c = search needs
+
+slice-aggregate-bench-refusal-2 : tie.Need-slice-aggregate-bench-refusal-2
+slice-aggregate-bench-refusal-2 c = search needs
+
+slice-aggregate-bench-refusal-3 : tie.Need-slice-aggregate-bench-refusal-3
+slice-aggregate-bench-refusal-3 c = search needs
+
 bench-refusal-requires : tie.Need-bench-refusal-requires
-bench-refusal-requires c κs = search needs
+bench-refusal-requires c κs = sized-room _ (sized (c .before .before .before .before .before .before))
 
 returns : tie.Need-returns
 unfolding unasked stepped
-returns c =
-    let start = c .before .before .before .before .before .before in
-    step-refused (start .args .t1) (c .before .bench-refusal .ensures) (c .if1 .taken)
+returns c = step-refused _ (c .before .bench-refusal .ensures) (c .if1 .taken)
 
-levels-requires : tie.Need-levels-requires
-levels-requires c κs = search needs
+facts-of-requires : tie.Need-facts-of-requires
+facts-of-requires c κs = search needs
 
 returns-2 : tie.Need-returns-2
 unfolding unasked stepped
 returns-2 c =
-    let start = c .before .before .before .before .before .before .before .before in
-    let bench-refusal = c .before .before .before .bench-refusal in
-    let if1 = c .before .before .if1 in
-    step-top (start .args .t1) (bench-refusal .ensures) (if1 .left) (rw (c .before .levels .ensures) at (c .if2 .taken))
+    let at = c .before .before .before in
+    step-top _ (at .before .bench-refusal .ensures) (at .if1 .left) (rw (c .before .before .facts-of .ensures .levels) at (c .if2 .taken))
 
-raise-requires : tie.Need-raise-requires
-raise-requires c κs = rw (c .before .levels .ensures) at (c .if2 .left)
+products-requires : tie.Need-products-requires
+products-requires c κs = search needs
+
+entries-requires : tie.Need-entries-requires
+entries-requires c κs = search needs
+
+slice-aggregate-put-checks : tie.Need-slice-aggregate-put-checks
+slice-aggregate-put-checks c = search needs
+
+put-checks-requires : tie.Need-put-checks-requires
+put-checks-requires c κs = search needs
+
+array-share-prefix-products : tie.Need-array-share-prefix-products
+array-share-prefix-products c = search needs
+
+slice-aggregate-table : tie.Need-slice-aggregate-table
+slice-aggregate-table c = let at = c .before .before .before .before in sym (lent-length (at .before .products .ensures) (at .entries .ensures .0))
+
+array-share-prefix-room : tie.Need-array-share-prefix-room
+array-share-prefix-room c = search needs
+
+slice-aggregate-checks : tie.Need-slice-aggregate-checks
+slice-aggregate-checks c = checks-long (c .before .before .before .put-checks .ensures)
+
+slice-aggregate-learn : tie.Need-slice-aggregate-learn
+slice-aggregate-learn c = sym (sized (start (told (below-at (c .before .before .before .before)) .before)) .symbols)
+
+slice-aggregate-learn-2 : tie.Need-slice-aggregate-learn-2
+slice-aggregate-learn-2 c = sym (sized (start (told (below-at (c .before .before .before .before .before)) .before)) .marks)
+
+slice-aggregate-learn-3 : tie.Need-slice-aggregate-learn-3
+slice-aggregate-learn-3 c = sym (sized (start (told (below-at (checks-at c)) .before)) .sums)
+
+learn-requires : tie.Need-learn-requires
+learn-requires c κs =
+    let put = checks-at c in
+    let at = below-at put in
+    record {
+      lent = tables-lent (at .before .before .facts-of .ensures) (put .before .before .before .products .ensures) (put .before .before .entries .ensures .1)
+          (put .put-checks .ensures);
+      level = below at;
+      room = sized-room _ (sized (start (told at .before)));
+    }
+
+enum-told : tie.Need-enum-told
+enum-told c = search needs
+
+enum-told-2 : tie.Need-enum-told-2
+enum-told-2 c = search needs
+
+enum-told-3 : tie.Need-enum-told-3
+enum-told-3 c = search needs
+
+add-t40 : tie.Need-add-t40
+add-t40 c =
+    let at = below-at (checks-at (c .before .before .before .before)) in omega (arith, below at, levels-most (start (told at .before) .args .bench .plan))
 
 returns-3 : tie.Need-returns-3
-unfolding unasked
+unfolding unasked stepped
 returns-3 c =
-    let start = c .before .before .before .before .before .before .before .before .before in
-    let bench-refusal = c .before .before .before .before .bench-refusal in
-    let if1 = c .before .before .before .if1 in
-    let levels = c .before .before .levels in
-    c .raise .ensures ∙ step-on (start .args .t1) (bench-refusal .ensures) (if1 .left) (rw (levels .ensures) at (c .before .if2 .left))
+    let learnt = c .before .before .before in
+    let at = below-at (checks-at (learnt .before)) in
+    step-raised _ (told at .before .bench-refusal .ensures) (told at .if1 .left) (below at) (learnt .learn .ensures) (c .enum-told3 .given .1)
+
+returns-4 : tie.Need-returns-4
+unfolding unasked stepped
+returns-4 c =
+    let learnt = c .before .before .before in
+    let at = below-at (checks-at (learnt .before)) in
+    step-failing _ (told at .before .bench-refusal .ensures) (told at .if1 .left) (below at) (learnt .learn .ensures) (c .enum-told .given .1)
+
+returns-5 : tie.Need-returns-5
+unfolding unasked stepped
+returns-5 c =
+    let learnt = c .before .before .before in
+    let at = below-at (checks-at (learnt .before)) in
+    step-blocked _ (told at .before .bench-refusal .ensures) (told at .if1 .left) (below at) (learnt .learn .ensures) (c .enum-told2 .given .1)
 
 pub level-step-spec : {M : Type 1} → statement M
 level-step-spec =
     tie.close
-    (tie.spec bench-refusal-requires returns levels-requires returns-2 raise-requires returns-3)
+    (tie.spec
+    slice-aggregate-bench-refusal
+    slice-aggregate-bench-refusal-2
+    slice-aggregate-bench-refusal-3
+    bench-refusal-requires
+    returns
+    facts-of-requires
+    returns-2
+    products-requires
+    entries-requires
+    slice-aggregate-put-checks
+    put-checks-requires
+    array-share-prefix-products
+    slice-aggregate-table
+    array-share-prefix-room
+    slice-aggregate-checks
+    slice-aggregate-learn
+    slice-aggregate-learn-2
+    slice-aggregate-learn-3
+    learn-requires
+    enum-told
+    enum-told-2
+    enum-told-3
+    add-t40
+    returns-3
+    returns-4
+    returns-5)

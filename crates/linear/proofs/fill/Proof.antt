@@ -1,4 +1,4 @@
--- `fill` meets its contract. Assumes nothing.
+-- `fill`: what its three callees answer; where nothing is marked the sums are compared. Assumes nothing.
 use mathlib.Core.Path.{refl, sym, _∙_}
 use borrow.Author.Needs.{needs}
 use Rattle.linear.proofs.Answers.{unmarked-one, unmarked-none}
@@ -6,7 +6,7 @@ use Rattle.linear.proofs.fill.Statement.{statement}
 use Rattle.linear.proofs.fill.Tie as tie
 
 fill-binary-requires : tie.Need-fill-binary-requires
-fill-binary-requires c κs = let s = c .before .before .before .before .before .before in (s .pre .0, rw (c .before .if2 .taken) at (s .pre .1))
+fill-binary-requires c κs = rw (c .before .if2 .taken) at (c .before .before .before .before .before .before .before .pre)
 
 same-length : tie.Need-same-length
 same-length c = search needs
@@ -30,7 +30,7 @@ same-length-3 : tie.Need-same-length-3
 same-length-3 c = refl
 
 returns-3 : tie.Need-returns-3
-returns-3 c = let s = c .before .before .before .before .before .before .before in
+returns-3 c = let s = c .before .before .before .before .before .before .before .before in
     unmarked-one (s .args .q) (s .args .checks .now) (s .args .target .now) (s .args .v .now) (s .args .marks) (search needs)
     (sym (c .if3 .taken) ∙ c .before .has-sums .ensures)
 
@@ -38,7 +38,7 @@ same-length-4 : tie.Need-same-length-4
 same-length-4 c = refl
 
 returns-4 : tie.Need-returns-4
-returns-4 c = let s = c .before .before .before .before .before .before .before in
+returns-4 c = let s = c .before .before .before .before .before .before .before .before in
     unmarked-none (s .args .q) (s .args .checks .now) (s .args .target .now) (s .args .v .now) (s .args .marks) (search needs)
     (sym (c .if3 .left) ∙ c .before .has-sums .ensures)
 

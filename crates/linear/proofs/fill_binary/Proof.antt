@@ -1,11 +1,13 @@
--- `fill_binary` meets its contract. Assumes nothing.
+-- `fill_binary`: what the answer for the marked columns, each a word, says of them is what `fill` answers (`words-outcomes`). Assumes nothing.
 use mathlib.Core.Path.{refl, sym, _∙_}
+use Prim.Native.Nat.{ℕ, _≤_, _<_}
 use native.Mathlib.Omega.{arith}
+use lib.ListN.{length}
 use borrow.Author.Tests.{not-true, not-false}
-use Rattle.systems.specs.System.{vec}
-use Rattle.basis.specs.Words.{bitAt}
-use Rattle.basis.proofs.Bits.{bit-bound}
-use Rattle.linear.specs.Marks.{scattered}
+use Rattle.equations.specs.System.{vec}
+use Rattle.equations.specs.Words.{bitAt}
+use Rattle.equations.proofs.Bits.{bit-bound}
+use Rattle.gathering.specs.Steps.{scattered}
 use Rattle.linear.proofs.Answers.{Outcomes}
 use Rattle.linear.proofs.Gathering.{words-outcomes}
 use Rattle.linear.proofs.fill_binary.Statement.{statement}
@@ -13,7 +15,7 @@ use Rattle.linear.proofs.fill_binary.Tie as tie
 
 -- the places before: the start, the marked columns listed, and what is needed of them
 abbrev start : tie.After-show → tie.Start
-start c = c .before .before .before .before .before .before .before
+start c = c .before .before .before .before .before .before .before .before
 
 abbrev shown-at : tie.After-span → tie.After-show
 shown-at c = c .before .before .before .before .before .before
@@ -30,8 +32,8 @@ answers c =
     let shown = shown-at c .show in
     words-outcomes (s .args .checks .now) (s .args .target .now) (s .args .v .now) (shown .last .1 .1 .0) (s .args .marks) (shown .result)
     (need-at c .gather-need .result) (c .span .result .solution) (c .span .result .dependency) (c .span .result .dependent)
-    (c .span .result .consistent) (vec (shown .last .1 .1 .1 .0)) (shown .ensures .0 .2) (s .pre .1 .within) (shown .ensures .1)
-    (s .pre .1 .coefficients) (need-at c .gather-need .ensures) (c .span .ensures)
+    (c .span .result .consistent) (vec (shown .last .1 .1 .1 .0)) (shown .ensures .0 .places) (s .pre .within) (shown .ensures .1)
+    (s .pre .coefficients) (need-at c .gather-need .ensures) (c .span .ensures)
 
 slice-aggregate-show : tie.Need-slice-aggregate-show
 slice-aggregate-show c = refl
@@ -40,36 +42,48 @@ slice-aggregate-show-2 : tie.Need-slice-aggregate-show-2
 slice-aggregate-show-2 c = refl
 
 show-requires : tie.Need-show-requires
-show-requires c κs = let fit = c .before .before .before .before .before .before .pre .1 in ((fit .narrow, fit .within), (refl, refl))
+show-requires c κs = let asked = c .before .before .before .before .before .before .before .pre in record { narrow = asked .narrow; within = asked .within; listed = refl; room = refl }
 
 slice-aggregate-gather-need : tie.Need-slice-aggregate-gather-need
 slice-aggregate-gather-need c = sym (c .before .before .before .show .kept .1 .1 .1 .0)
 
 gather-need-requires : tie.Need-gather-need-requires
 gather-need-requires c κs =
-    let shown = c .before .before .before .show in
-    let s = start (c .before .before .before) in
-    let fit = s .pre .1 in
-    (s .pre .0, ((omega (arith, fit .shape), fit .few, omega (arith, shown .kept .1 .1 .1 .0, fit .narrow)), fit .sums))
+    let at = c .before .before .before in
+    let asked = start at .pre in
+    record {
+      products = asked .products;
+      rows = omega (arith, asked .shape);
+      few = asked .few;
+      symbols = omega (arith, at .show .kept .1 .1 .1 .0, asked .narrow);
+      sums = asked .sums;
+    }
 
 slice-aggregate-span : tie.Need-slice-aggregate-span
 slice-aggregate-span c = sym (c .before .before .before .before .before .show .kept .1 .1 .0)
 
+-- there are few places, they are listed, and they are columns
+narrow : (c : tie.After-show) → c .show .result ≤ 32
+narrow c = omega (arith, c .show .ensures .0 .few, start c .pre .narrow)
+
+listed : (c : tie.After-show) → c .show .result ≤ length (c .show .last .1 .1 .0)
+listed c = omega (arith, c .show .kept .1 .1 .0, narrow c)
+
+below : (c : tie.After-show) (t : ℕ) → t < c .show .result → vec (c .show .last .1 .1 .0) t < length (start c .args .v .now)
+below c t l = bit-bound _ (start c .args .marks) _ (start c .pre .within) (c .show .ensures .0 .places .marked t l)
+
 span-requires : tie.Need-span-requires
 span-requires c κs =
-    let shown = c .before .before .before .before .before .show in
-    let s = start (c .before .before .before .before .before) in
-    let fit = s .pre .1 in
-    let few = shown .ensures .0 in (
-      (omega (arith, fit .shape), omega (arith, fit .few), omega (arith, few .0, fit .narrow)),
-      (
-        (
-          omega (arith, shown .kept .1 .1 .0, few .0, fit .narrow),
-          λ t l. bit-bound _ (s .args .marks) _ (fit .within) (few .2 .marked t l),
-        ),
-        fit .coefficients,
-      ),
-    )
+    let at = c .before .before .before .before .before in
+    let asked = start at .pre in
+    record {
+      rows = omega (arith, asked .shape);
+      few = omega (arith, asked .few);
+      narrow = omega (arith, narrow at);
+      listed = listed at;
+      below = below at;
+      bits = asked .coefficients;
+    }
 
 same-length : tie.Need-same-length
 same-length c = refl
@@ -87,23 +101,16 @@ slice-aggregate-scatter-word : tie.Need-slice-aggregate-scatter-word
 slice-aggregate-scatter-word c = sym (shown-at (c .before .before .before .before .before) .show .kept .1 .1 .0)
 
 scatter-word-requires : tie.Need-scatter-word-requires
-scatter-word-requires c κs =
-    let shown = shown-at (c .before .before .before .before .before) .show in
-    let s = start (shown-at (c .before .before .before .before .before)) in
-    let fit = s .pre .1 in
-    let few = shown .ensures .0 in (
-      omega (arith, shown .kept .1 .1 .0, few .0, fit .narrow),
-      omega (arith, few .0, fit .narrow),
-      λ t l. bit-bound _ (s .args .marks) _ (fit .within) (few .2 .marked t l),
-    )
+scatter-word-requires c κs = let at = shown-at (c .before .before .before .before .before) in (record { listed = listed at; below = below at }, narrow at)
 
 same-length-3 : tie.Need-same-length-3
 same-length-3 c = c .before .before .scatter-word .kept .0
 
 returns-3 : tie.Need-returns-3
 returns-3 c =
-    let consistent = not-false _ (c .before .before .before .before .before .before .if1 .left) in
-    let a = answers (c .before .before .before .before .before .before .before .before) .one consistent (c .before .before .before .before .before .if2 .left) in (a .0, c .before .before .scatter-word .ensures ∙ a .1)
+    let independent = c .before .before .before .before .before in
+    let a = answers (independent .before .before .before) .one (not-false _ (independent .before .if1 .left)) (independent .if2 .left) in
+    (a .0, c .before .before .scatter-word .ensures ∙ a .1)
 
 pub fill-binary-spec : {M : Type 1} → statement M
 fill-binary-spec =

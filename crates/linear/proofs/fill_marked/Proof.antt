@@ -1,21 +1,22 @@
--- `fill_marked` meets its contract. Assumes nothing.
+-- `fill_marked`: what the solved system of the marked columns answers is what `fill` answers (`outcomes`). Assumes nothing.
 use mathlib.Core.Path.{refl, sym, _∙_}
+use Prim.Native.Nat.{_≤_}
 use native.Mathlib.Omega.{arith}
 use borrow.Author.Tests.{not-true, not-false}
 use lib.ListN.{length}
 use Rattle.field.proofs.Fields.{our-field}
-use Rattle.linear.specs.Marks.{scattered}
-use Rattle.systems.specs.System.{vec}
+use Rattle.gathering.specs.Steps.{scattered}
+use Rattle.equations.specs.System.{vec}
 use Rattle.linear.proofs.Answers.{Outcomes, outcomes}
-use Rattle.systems.proofs.Turns.{zero-elements}
-use Rattle.basis.proofs.Bits.{bit-bound}
-use Rattle.systems.proofs.Rows.{system-fits}
+use Rattle.equations.proofs.Elements.{zero-elements}
+use Rattle.equations.proofs.Bits.{bit-bound}
+use Rattle.equations.proofs.Rows.{system-fits}
 use Rattle.linear.proofs.fill_marked.Statement.{statement}
 use Rattle.linear.proofs.fill_marked.Tie as tie
 
 -- the places before: the start, and the gathered system
 abbrev start : tie.After-gather-marked → tie.Start
-start c = c .before .before .before .before .before .before .before
+start c = c .before .before .before .before .before .before .before .before
 
 abbrev gathered-at : tie.After-solve → tie.After-gather-marked
 gathered-at c = c .before .before .before .before .before .before .before
@@ -29,7 +30,7 @@ answers c =
     let gathered = gathered-at c .gather-marked in
     outcomes (s .args .q) (s .args .checks .now) (s .args .target .now) (s .args .v .now) (s .args .marks) (gathered .result)
     (gathered .last .1 .1 .1 .1 .1 .1 .0) _ _ _ (vec (c .solve .last .1 .1 .1 .1 .1 .1 .0)) _
-    (gathered .ensures .0 .1) (s .pre .1 .within) (gathered .ensures .1 .0)
+    (gathered .ensures .0 .places) (s .pre .within) (gathered .ensures .1 .0)
     (c .solve .ensures .dependence) (c .solve .ensures .consistency)
 
 slice-aggregate-gather-marked : tie.Need-slice-aggregate-gather-marked
@@ -39,8 +40,8 @@ slice-aggregate-gather-marked-2 : tie.Need-slice-aggregate-gather-marked-2
 slice-aggregate-gather-marked-2 c = refl
 
 gather-marked-requires : tie.Need-gather-marked-requires
-gather-marked-requires c κs = let s = c .before .before .before .before .before .before in
-    (s .pre .0, (s .pre .1, (refl, refl, zero-elements _ (our-field (s .args .q)) 528)))
+gather-marked-requires c κs = let s = c .before .before .before .before .before .before .before in
+    (s .pre, record { listed = refl; system = refl; elements = zero-elements _ (our-field (s .args .q)) 528 })
 
 slice-aggregate-solve : tie.Need-slice-aggregate-solve
 slice-aggregate-solve c = sym (c .before .before .before .gather-marked .kept .1 .1 .1 .1 .1 .1 .1 .0)
@@ -55,22 +56,23 @@ slice-aggregate-solve-4 : tie.Need-slice-aggregate-solve-4
 slice-aggregate-solve-4 c = refl
 
 solve-requires : tie.Need-solve-requires
-solve-requires c κs = let s = start (c .before .before .before .before .before .before) in
-    let fit = s .pre .1 in
-    let gathered = c .before .before .before .before .before .before .gather-marked in
-    let few = gathered .ensures .0 .0 in
-    let fits = system-fits (length (s .args .target .now)) (gathered .result) (fit .few) (omega (arith, few, fit .narrow)) in (
-      s .pre .0,
-      (
-        (
-          omega (arith, gathered .kept .1 .1 .1 .1 .1 .1 .1 .0, fits),
-          omega (arith, few, fit .narrow),
-          omega (arith, few, fit .narrow),
-          omega (arith, few, fit .narrow),
-        ),
-        gathered .ensures .1 .1,
-      ),
-    )
+solve-requires c κs =
+    let at = c .before .before .before .before .before .before in
+    let asked = start at .pre in
+    let gathered = at .gather-marked in
+    let narrow : gathered .result ≤ 32 = omega (arith, gathered .ensures .0 .few, asked .narrow) in
+    record {
+      products = asked .products;
+      rows = omega (
+        arith,
+        gathered .kept .1 .1 .1 .1 .1 .1 .1 .0,
+        system-fits (length (start at .args .target .now)) (gathered .result) (asked .few) narrow,
+      );
+      pivots = narrow;
+      solution = narrow;
+      dependency = narrow;
+      elements = gathered .ensures .1 .1;
+    }
 
 same-length : tie.Need-same-length
 same-length c = refl
@@ -85,32 +87,32 @@ returns-2 : tie.Need-returns-2
 returns-2 c = answers (c .before .before .before .before .before .before .before) .tied (not-false _ (c .before .if1 .left)) (c .if2 .taken)
 
 slice-aggregate-scatter : tie.Need-slice-aggregate-scatter
-slice-aggregate-scatter c =
-    sym (gathered-at (c .before .before .before .before .before .before .before .before .before) .gather-marked .kept .1 .1 .1 .1 .1 .1 .0)
+slice-aggregate-scatter c = sym (gathered-at (c .before .before .before .before .before .before .before .before .before) .gather-marked .kept .1 .1 .1 .1 .1 .1 .0)
 
 slice-aggregate-scatter-2 : tie.Need-slice-aggregate-scatter-2
-slice-aggregate-scatter-2 c =
-    sym (c .before .before .before .before .before .before .before .before .before .before .solve .kept .1 .1 .1 .1 .1 .1 .0)
+slice-aggregate-scatter-2 c = sym (c .before .before .before .before .before .before .before .before .before .before .solve .kept .1 .1 .1 .1 .1 .1 .0)
 
 scatter-requires : tie.Need-scatter-requires
-scatter-requires c κs = let s = start (gathered-at (c .before .before .before .before .before .before .before .before .before .before)) in
-    let fit = s .pre .1 in
-    let gathered = gathered-at (c .before .before .before .before .before .before .before .before .before .before) .gather-marked in
-    let solved = c .before .before .before .before .before .before .before .before .before .before .solve in
-    let few = gathered .ensures .0 .0 in (
-      omega (arith, gathered .kept .1 .1 .1 .1 .1 .1 .0, few, fit .narrow),
-      omega (arith, solved .kept .1 .1 .1 .1 .1 .1 .0, few, fit .narrow),
-      λ t l. bit-bound _ (s .args .marks) _ (fit .within) (gathered .ensures .0 .1 .marked t l),
+scatter-requires c κs =
+    let solved = c .before .before .before .before .before .before .before .before .before .before in
+    let gathered = gathered-at solved .gather-marked in
+    let s = start (gathered-at solved) in
+    let narrow : gathered .result ≤ 32 = omega (arith, gathered .ensures .0 .few, s .pre .narrow) in (
+      record {
+        listed = omega (arith, gathered .kept .1 .1 .1 .1 .1 .1 .0, narrow);
+        below = λ t l. bit-bound _ (s .args .marks) _ (s .pre .within) (gathered .ensures .0 .places .marked t l);
+      },
+      omega (arith, solved .solve .kept .1 .1 .1 .1 .1 .1 .0, narrow),
     )
 
 same-length-3 : tie.Need-same-length-3
 same-length-3 c = c .before .before .scatter .kept .0
 
 returns-3 : tie.Need-returns-3
-returns-3 c = let solved = c .before .before .before .before .before .before .before .before .before .before .before .before .before in
-    let consistent = not-false _ (c .before .before .before .before .before .before .before .if1 .left) in
-    let independent = c .before .before .before .before .before .before .if2 .left in
-    let a = answers solved .one consistent independent in (a .0, c .before .before .scatter .ensures ∙ a .1)
+returns-3 c =
+    let independent = c .before .before .before .before .before .before in
+    let a = answers (independent .before .before .before .before .before .before .before) .one (not-false _ (independent .before .if1 .left)) (independent .if2 .left) in
+    (a .0, c .before .before .scatter .ensures ∙ a .1)
 
 pub fill-marked-spec : {M : Type 1} → statement M
 fill-marked-spec =

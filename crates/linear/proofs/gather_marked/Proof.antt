@@ -1,10 +1,10 @@
--- `gather_marked` meets its contract. Assumes nothing.
+-- `gather_marked`: the system gathered from the shown symbols is that of the hidden ones. Assumes nothing.
 use native.Mathlib.Omega.{arith}
 use borrow.Author.Needs.{needs}
 use lib.ListN.{length}
-use Rattle.linear.proofs.Columns.{gathered-same}
-use Rattle.basis.proofs.Bits.{bit-bound}
-use Rattle.systems.proofs.Rows.{system-fits}
+use Rattle.gathering.proofs.Columns.{gathered-same}
+use Rattle.equations.proofs.Bits.{bit-bound}
+use Rattle.equations.proofs.Rows.{system-fits}
 use Rattle.linear.proofs.gather_marked.Statement.{statement}
 use Rattle.linear.proofs.gather_marked.Tie as tie
 
@@ -18,25 +18,26 @@ slice-aggregate-gather : tie.Need-slice-aggregate-gather
 slice-aggregate-gather c = search needs
 
 gather-requires : tie.Need-gather-requires
-gather-requires c κs = let s = c .before .before .before .before .before .before .before .before .before .before .before .before .before .before in
-    let fit = s .pre .1 .0 in
-    let room = s .pre .1 .1 in
-    let shown = c .before .before .before .before .before .before .show in
-    let few = shown .ensures .0 .0 in
-    let fits = system-fits (length (s .args .target .now)) (shown .result) (fit .few) (omega (arith, few, fit .narrow)) in (
-      s .pre .0,
-      (
-        (omega (arith, fit .shape), omega (arith, fits, room .1)),
-        (
-          (
-            omega (arith, shown .kept .1 .1 .1 .0, fit .narrow),
-            omega (arith, few, fit .narrow, room .0, shown .kept .1 .1 .0),
-            λ t l. bit-bound _ (s .args .marks) _ (fit .within) (shown .ensures .0 .2 .marked t l),
-          ),
-          (fit .coefficients, fit .sums, room .2),
-        ),
-      ),
-    )
+gather-requires c κs =
+    let at = c .before .before .before .before .before .before in
+    let shown = at .show in
+    let s = at .before .before .before .before .before .before .before .before .before in
+    let asked = s .pre .0 in
+    let room = s .pre .1 in
+    let few = shown .ensures .0 .few in
+    record {
+      products = asked .products;
+      from = omega (arith, asked .shape);
+      to = omega (arith, system-fits (length (s .args .target .now)) (shown .result) (asked .few) (omega (arith, few, asked .narrow)), room .system);
+      symbols = omega (arith, shown .kept .1 .1 .1 .0, asked .narrow);
+      placed = record {
+        listed = omega (arith, few, asked .narrow, room .listed, shown .kept .1 .1 .0);
+        below = λ t l. bit-bound _ (s .args .marks) _ (asked .within) (shown .ensures .0 .places .marked t l);
+      };
+      coefficients = asked .coefficients;
+      sums = asked .sums;
+      elements = room .elements;
+    }
 
 same-length : tie.Need-same-length
 same-length c = search needs
@@ -45,9 +46,10 @@ same-length-2 : tie.Need-same-length-2
 same-length-2 c = search needs
 
 returns : tie.Need-returns
-returns c = let shown = c .before .before .before .before .before .before .before .before .before .show .ensures in
+returns c =
+    let shown = c .before .before .before .before .before .before .before .before .before .show .ensures in
     let gathered = c .before .before .gather .ensures in
-    ((shown .0 .0, shown .0 .2), (gathered-same _ _ _ _ _ _ _ _ _ _ (shown .1) (gathered .0), gathered .1))
+    (shown .0, (gathered-same _ _ _ _ _ _ _ _ _ _ (shown .1) (gathered .0), gathered .1))
 
 pub gather-marked-spec : {M : Type 1} → statement M
 gather-marked-spec =

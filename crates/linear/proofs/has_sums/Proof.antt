@@ -1,4 +1,4 @@
--- `has_sums` meets its contract. Assumes nothing.
+-- `has_sums`: the invariant is that the first i sums are the target's; the first that is not answers no. Assumes nothing.
 use mathlib.Core.Path.{refl, sym, ap, _∙_, _≡_}
 use Prim.Native.Nat.{ℕ, _-_, _≤_, _<_}
 use native.Mathlib.Nat.{le-refl}
@@ -8,9 +8,9 @@ use borrow.Author.Needs.{needs}
 use lib.ListN.{length}
 use Rattle.field.specs.Ours.{fieldOf}
 use Rattle.field.proofs.Fields.{our-field}
-use Rattle.systems.specs.System.{vec, ent, inner}
-use Rattle.linear.proofs.Flat.{sums-at, sums-are, eq-same, ne-same}
-use Rattle.systems.proofs.Rows.{row-fits}
+use Rattle.equations.specs.System.{vec, ent, inner}
+use Rattle.fills.proofs.Flat.{sums-at, sums-are, eq-same, ne-same}
+use Rattle.equations.proofs.Rows.{row-fits}
 use Rattle.linear.proofs.has_sums.Statement.{statement}
 use Rattle.linear.proofs.has_sums.Tie as tie
 
@@ -24,15 +24,15 @@ loop-holds : tie.Need-loop-holds Inv-loop μ-loop
 loop-holds c = (omega arith, λ x l. absurd (omega arith))
 
 row-sum-requires : tie.Need-row-sum-requires Inv-loop μ-loop
-row-sum-requires c κs = let s = c .before .before .before .before .before in
+row-sum-requires c κs = let s = c .before .before .before .before .before .before in
     let fit = row-fits (length (s .args .target .now)) (length (s .args .v .now)) (c .before .loop .i) (omega arith) in
-    (s .pre .0, (omega (arith, s .pre .1), le-refl _))
+    record { products = s .pre .0; row = omega (arith, s .pre .1); symbols = le-refl _ }
 
 shared-slice-read-if1 : tie.Need-shared-slice-read-if1 Inv-loop μ-loop
 shared-slice-read-if1 c = search needs
 
 returns : tie.Need-returns Inv-loop μ-loop
-returns c = let s = c .before .before .before .before .before .before .before .before in
+returns c = let s = c .before .before .before .before .before .before .before .before .before in
     let i = c .before .before .before .before .loop .i in
     let rows = length (s .args .target .now) in
     let at-i = sums-at _ (our-field (s .args .q)) rows _ (s .args .checks .now) (s .args .v .now) (le-refl _) i (omega arith) in
@@ -50,7 +50,7 @@ loop-again c =
     (omega arith, below-more _ _ (inv .1) (sym (c .before .before .row-sum .ensures) ∙ c .if1 .left))
 
 returns-2 : tie.Need-returns-2 Inv-loop μ-loop
-returns-2 c = let s = c .before .before .before .before .before in
+returns-2 c = let s = c .before .before .before .before .before .before in
     eq-same _ _ (sums-are _ (our-field (s .args .q)) _ _ (s .args .checks .now) (s .args .v .now) (s .args .target .now) (le-refl _) refl
     (λ i l. c .before .loop .inv .1 i (omega arith)))
 

@@ -1,17 +1,24 @@
--- `answer` meets its contract. Assumes nothing.
-use mathlib.Core.Path.{_≡_}
+-- `answer`: what is lent is the field's table and a system of its symbols. Assumes nothing.
+use mathlib.Core.Path.{_≡_, sym}
 use native.Mathlib.Omega.{arith}
 use borrow.Author.Needs.{needs}
 use lib.ListN.{length}
-use Rattle.linear.proofs.Marked.{symbols-at}
+use Rattle.field.proofs.Table.{lent, lent-length}
+use Rattle.linear_cases.proofs.Symbols.{symbols-elements}
 use Rattle.linear_cases.proofs.answer.Statement.{statement}
 use Rattle.linear_cases.proofs.answer.Tie as tie
 
 products-requires : tie.Need-products-requires
 products-requires c κs = search needs
 
+entries-requires : tie.Need-entries-requires
+entries-requires c κs = search needs
+
+array-share-prefix-table : tie.Need-array-share-prefix-table
+array-share-prefix-table c = search needs
+
 slice-aggregate-solve : tie.Need-slice-aggregate-solve
-slice-aggregate-solve c = search needs
+slice-aggregate-solve c = sym (lent-length (c .before .before .products .ensures) (c .before .entries .ensures .0))
 
 slice-aggregate-solve-2 : tie.Need-slice-aggregate-solve-2
 slice-aggregate-solve-2 c = search needs
@@ -22,11 +29,22 @@ slice-aggregate-solve-3 c = search needs
 slice-aggregate-solve-4 : tie.Need-slice-aggregate-solve-4
 slice-aggregate-solve-4 c = search needs
 
+slice-aggregate-solve-5 : tie.Need-slice-aggregate-solve-5
+slice-aggregate-solve-5 c = search needs
+
 solve-requires : tie.Need-solve-requires
-solve-requires c κs = let s = c .before .before .before .before .before .before in
+solve-requires c κs =
+    let lending = c .before .before .before .before .before in
+    let s = lending .before .before in
     let size : length (s .args .system) ≡ 12 = search needs in
-    let table = c .before .before .before .before .before .products .ensures in
-    (table, ((omega arith, s .pre .1, s .pre .1, s .pre .1), symbols-at _ (s .args .system) (s .pre .2)))
+    record {
+      products = lent (s .args .q) (lending .before .products .ensures) (lending .entries .ensures .1);
+      rows = omega arith;
+      pivots = s .pre .1;
+      solution = s .pre .1;
+      dependency = s .pre .1;
+      elements = symbols-elements _ (s .args .system) (s .pre .2);
+    }
 
 flag-requires : tie.Need-flag-requires
 flag-requires c κs = search needs
@@ -54,10 +72,13 @@ answer-spec =
     tie.close
     (tie.spec
     products-requires
+    entries-requires
+    array-share-prefix-table
     slice-aggregate-solve
     slice-aggregate-solve-2
     slice-aggregate-solve-3
     slice-aggregate-solve-4
+    slice-aggregate-solve-5
     solve-requires
     flag-requires
     flag-requires-2

@@ -1,17 +1,24 @@
--- `filling` meets its contract. Assumes nothing.
-use mathlib.Core.Path.{_≡_}
+-- `filling`: what is lent is the field's table and three checks of its symbols. Assumes nothing.
+use mathlib.Core.Path.{_≡_, sym}
 use native.Mathlib.Omega.{arith}
 use borrow.Author.Needs.{needs}
 use lib.ListN.{length}
-use Rattle.linear.proofs.Marked.{symbols-at}
+use Rattle.field.proofs.Table.{lent, lent-length}
+use Rattle.linear_cases.proofs.Symbols.{symbols-elements}
 use Rattle.linear_cases.proofs.filling.Statement.{statement}
 use Rattle.linear_cases.proofs.filling.Tie as tie
 
 products-requires : tie.Need-products-requires
 products-requires c κs = search needs
 
+entries-requires : tie.Need-entries-requires
+entries-requires c κs = search needs
+
+array-share-prefix-table : tie.Need-array-share-prefix-table
+array-share-prefix-table c = search needs
+
 slice-aggregate-fill : tie.Need-slice-aggregate-fill
-slice-aggregate-fill c = search needs
+slice-aggregate-fill c = sym (lent-length (c .before .before .products .ensures) (c .before .entries .ensures .0))
 
 slice-aggregate-fill-2 : tie.Need-slice-aggregate-fill-2
 slice-aggregate-fill-2 c = search needs
@@ -19,21 +26,25 @@ slice-aggregate-fill-2 c = search needs
 slice-aggregate-fill-3 : tie.Need-slice-aggregate-fill-3
 slice-aggregate-fill-3 c = search needs
 
+slice-aggregate-fill-4 : tie.Need-slice-aggregate-fill-4
+slice-aggregate-fill-4 c = search needs
+
 fill-requires : tie.Need-fill-requires
-fill-requires c κs = let s = c .before .before .before .before .before in
+fill-requires c κs =
+    let lending = c .before .before .before .before in
+    let s = lending .before .before in
     let width : length (s .args .v) ≡ 5 = search needs in
     let rows : length (s .args .t3) ≡ 3 = search needs in
-    let size : length (s .args .t2) ≡ 15 = search needs in (
-      c .before .before .before .before .products .ensures,
-      record {
-        few = omega arith;
-        narrow = omega arith;
-        shape = rw (width, rows) size;
-        within = rw width (s .pre .0);
-        coefficients = symbols-at _ (s .args .t2) (s .pre .1);
-        sums = symbols-at _ (s .args .t3) (s .pre .2);
-      },
-    )
+    let size : length (s .args .t2) ≡ 15 = search needs in
+    record {
+      products = lent (s .args .q) (lending .before .products .ensures) (lending .entries .ensures .1);
+      few = omega arith;
+      narrow = omega arith;
+      shape = rw (width, rows) size;
+      within = rw width (s .pre .0);
+      coefficients = symbols-elements _ (s .args .t2) (s .pre .1);
+      sums = symbols-elements _ (s .args .t3) (s .pre .2);
+    }
 
 outcome-requires : tie.Need-outcome-requires
 outcome-requires c κs = search needs
@@ -55,9 +66,12 @@ filling-spec =
     tie.close
     (tie.spec
     products-requires
+    entries-requires
+    array-share-prefix-table
     slice-aggregate-fill
     slice-aggregate-fill-2
     slice-aggregate-fill-3
+    slice-aggregate-fill-4
     fill-requires
     outcome-requires
     slice-aggregate-write-all

@@ -1,79 +1,116 @@
--- `step_row` meets its contract. Assumes nothing.
-use mathlib.Core.Path.{_≡_, _∙_}
-use Prim.Native.Nat.{_+_, _*_, _<_, _≤_}
+-- What is refused is refused of the bench as it came; else the plan's tables are lent and the row's fill answers. Only where it is one
+-- are symbols and marks changed. Assumes nothing.
+use mathlib.Core.Path.{sym, _∙_}
+use Prim.Native.Nat.{_<_, _≤_, _+_, _*_}
+use native.Mathlib.Nat.{le-trans}
 use native.Mathlib.Omega.{arith}
 use borrow.Author.Needs.{needs}
 use denote.Ref.{now}
 use lib.ListN.{length}
+use Rattle.field.proofs.Table.{lent-length}
 use Rattle.plans.specs.Plan.{planOf, marksAt}
-use Rattle.plans.specs.Refusal.{unasked, benchRefusal}
 use Rattle.plans.specs.declared.Bench.{Bench}
-use Rattle.steps.specs.Steps.{rowFill, rowStepBy, rowStep}
-use Rattle.steps.specs.Parts.{benchOf}
+use Rattle.plans.proofs.Plans.{rows-most}
 use Rattle.plans.proofs.Rows.{row-end}
-use Rattle.plans.proofs.Shape.{shape}
-use Rattle.steps.proofs.Fit.{BenchFit, bench-fit, fit-sums}
-use Rattle.rows.proofs.Arms.{arm-tied, arm-none, arm-one}
-use Rattle.rows.proofs.Stepping.{stepping-tied, stepping-none, stepping-whole, stepping-filled, row-refused, row-taken, row-fits}
+use Rattle.steps.specs.Steps.{stepped, rowFill}
+use Rattle.steps.specs.Parts.{benchOf}
+use Rattle.steps.proofs.Fit.{BenchFit, fit-sums}
+use Rattle.tables.proofs.Numbers.{checks-long, tables-lent}
+use Rattle.rows.proofs.Stepping.{row-refused, row-fits, step-tied, step-none, step-whole, step-filled}
 use Rattle.rows.proofs.step_row.Statement.{statement}
 use Rattle.rows.proofs.step_row.Tie as tie
 
--- the bench of the parts as they were lent
+-- the places before
+abbrev facts-at : tie.After-bench-refusal → tie.After-facts-of
+facts-at c = c .before .before .before .before
+
+abbrev start : tie.After-bench-refusal → tie.Start
+start c = facts-at c .before .before .before .before
+
+abbrev unrefused : tie.After-put-checks → tie.Else1
+unrefused c = c .before .before .before .before .before
+
+abbrev checks-at : tie.After-fill-row-arg → tie.After-put-checks
+checks-at c = c .before .before .before .before
+
+abbrev filled-at : tie.After-slice-known4 → tie.After-fill-row
+filled-at c = c .before .before
+
+-- the bench that the parts are
 abbrev bench : tie.Start → Bench
-bench c = let a = c .args in benchOf (a .plan) (a .level) (now (a .symbols)) (now (a .marks)) (now (a .sums))
+bench s = benchOf (s .args .plan) (s .args .level) (now (s .args .symbols)) (now (s .args .marks)) (now (s .args .sums))
 
 -- nothing is refused of it, nor of the row
-fits : (c : tie.Else1) → let start = c .before .before .before .before .before in (benchRefusal (bench start) unasked ≡ 0) × (start .args .row < planOf (start .args .plan) .rows)
-fits c =
-    let rows = c .before .before .before .before .rows in
-    let here = c .before .before .before .before .before in
-    row-fits (bench here) _ _ _ (rows .ensures) (c .before .bench-refusal .ensures) (c .if1 .left)
+fits : (c : tie.Else1) → let s = start (c .before) in BenchFit (bench s) × (s .args .row < planOf (s .args .plan) .rows)
+fits c = row-fits _ _ (facts-at (c .before) .facts-of .ensures .rows) (c .before .bench-refusal .ensures) (c .if1 .left)
 
-fit : (c : tie.Else1) → BenchFit (bench (c .before .before .before .before .before))
-fit c = bench-fit (bench (c .before .before .before .before .before)) _ (fits c .0) .0
+-- the row is one of the bench's, and its symbols stand in it
+within : (c : tie.Else1) → let s = start (c .before) in s .args .row < length (now (s .args .marks))
+within c = omega (arith, fits c .1, start (c .before) .pre .stripe .rows)
 
--- the row is one of the room's eight
-within : (c : tie.Else1) → c .before .before .before .before .before .args .row < 8
-within c = omega (arith, shape _ (fit c .plan-known) .rows-le, fits c .1)
+place : (c : tie.Else1) → let s = start (c .before) in let n = planOf (s .args .plan) .columns in s .args .row * n + n ≤ length (now (s .args .symbols))
+place c = let s = start (c .before) in le-trans (row-end (planOf (s .args .plan) .columns) (fits c .1)) (s .pre .stripe .size)
 
--- the step is taken
-taken : (c : tie.Else1) → let start = c .before .before .before .before .before in rowStepBy (bench start) (start .args .row) (rowFill (bench start) (start .args .row)) ≡ rowStep (bench start) (start .args .row)
-taken c =
-    let rows = c .before .before .before .before .rows in
-    let here = c .before .before .before .before .before in
-    row-taken (bench here) _ _ _ (rows .ensures) (c .before .bench-refusal .ensures) (c .if1 .left)
-
--- the row's symbols stand in the room
-place : (c : tie.After-fill-by-plan-arg) → let start = c .before .before .before .before .before .before .before in let n = planOf (start .args .plan) .columns in
-    start .args .row * n + n ≤ length (now (start .args .symbols))
-place c =
-    let args = c .before .before .before .before .before .before .before .args in
-    let here = c .before .before in
-    omega (arith, c .fill-by-plan-arg .given, row-end (planOf (args .plan) .columns) (fits here .1), shape _ (fit here .plan-known) .symbols-le)
-
-rows-requires : tie.Need-rows-requires
-rows-requires c κs = search needs
+facts-of-requires : tie.Need-facts-of-requires
+facts-of-requires c κs = search needs
 
 bench-refusal-requires : tie.Need-bench-refusal-requires
-bench-refusal-requires c κs = search needs
+bench-refusal-requires c κs = c .before .before .before .before .before .before .before .pre
+
+same-length : tie.Need-same-length
+same-length c = search needs
+
+same-length-2 : tie.Need-same-length-2
+same-length-2 c = search needs
 
 returns : tie.Need-returns
-returns c =
-    let rows = c .before .before .before .before .rows in
-    let here = c .before .before .before .before .before in
-    row-refused (bench here) _ _ _ (rows .ensures) (c .before .bench-refusal .ensures) (c .if1 .taken)
+returns c = row-refused _ _ (facts-at (c .before) .facts-of .ensures .rows) (c .before .bench-refusal .ensures) (c .if1 .taken)
 
 mul-word : tie.Need-mul-word
-mul-word c = record { fits = omega (arith, within c) }
+mul-word c = record { fits = omega (arith, fits c .1, rows-most (start (c .before) .args .plan)) }
 
-element-copy-out-word : tie.Need-element-copy-out-word
-element-copy-out-word c = within c
+slice-read-word : tie.Need-slice-read-word
+slice-read-word c = within (c .before)
 
-fill-by-plan-requires : tie.Need-fill-by-plan-requires
-fill-by-plan-requires c κs =
-    let here = c .before .before .before in
-    let f = fit here in
-    ((f .plan-known, fits here .1, f .mark-lt _ (fits here .1), fit-sums _ _ _ (f .sums-fits)), (omega (arith, c .before .fill-by-plan-arg .given), omega (arith, c .fill-by-plan-arg2 .given)))
+products-requires : tie.Need-products-requires
+products-requires c κs = search needs
+
+entries-requires : tie.Need-entries-requires
+entries-requires c κs = search needs
+
+slice-aggregate-put-checks : tie.Need-slice-aggregate-put-checks
+slice-aggregate-put-checks c = search needs
+
+put-checks-requires : tie.Need-put-checks-requires
+put-checks-requires c κs = search needs
+
+array-share-prefix-products : tie.Need-array-share-prefix-products
+array-share-prefix-products c = search needs
+
+slice-aggregate-table : tie.Need-slice-aggregate-table
+slice-aggregate-table c = let at = c .before .before .before .before in sym (lent-length (at .before .products .ensures) (at .entries .ensures .0))
+
+array-share-prefix-room : tie.Need-array-share-prefix-room
+array-share-prefix-room c = search needs
+
+slice-aggregate-checks : tie.Need-slice-aggregate-checks
+slice-aggregate-checks c = checks-long (c .before .before .before .put-checks .ensures)
+
+fill-row-requires : tie.Need-fill-row-requires
+fill-row-requires c κs =
+    let put = checks-at c in
+    let at = unrefused put in
+    let f = fits at in
+    let s = start (at .before) in
+    record {
+      lent = tables-lent (facts-at (at .before) .facts-of .ensures) (put .before .before .before .products .ensures) (put .before .before .entries .ensures .1)
+          (put .put-checks .ensures);
+      inside = f .1;
+      marks = f .0 .mark-lt _ (f .1);
+      small = fit-sums _ _ _ (f .0 .sums-fits);
+      symbols = s .pre .stripe .size;
+      sums = s .pre .learned;
+    }
 
 enum-told : tie.Need-enum-told
 enum-told c = search needs
@@ -85,67 +122,103 @@ enum-told-3 : tie.Need-enum-told-3
 enum-told-3 c = search needs
 
 mul-marks : tie.Need-mul-marks
-mul-marks c = record { fits = omega (arith, within (c .before .before .before .before .before .before)) }
+mul-marks c =
+    let at = unrefused (checks-at (filled-at (c .before .before) .before)) in
+    record { fits = omega (arith, fits at .1, rows-most (start (at .before) .args .plan)) }
 
-element-write-marks : tie.Need-element-write-marks
-element-write-marks c = within (c .before .before .before .before .before .before)
+slice-write-marks : tie.Need-slice-write-marks
+slice-write-marks c = within (unrefused (checks-at (filled-at (c .before .before) .before)))
+
+same-length-3 : tie.Need-same-length-3
+same-length-3 c = search needs
+
+same-length-4 : tie.Need-same-length-4
+same-length-4 c = search needs
 
 returns-2 : tie.Need-returns-2
 unfolding rowFill marksAt
 returns-2 c =
-    let match = c .before .before .match in
-    let fill-by-plan = c .before .before .before .fill-by-plan in
-    let here = c .before .before .before .before .before .before .before in
-    let here2 = c .before .before .before .before .before .before .before .before .before .before .before .before in
-    let fill = fill-by-plan .ensures in
-    stepping-whole (bench here2) _ _ (fill .0) _ (arm-one _ (match .keys3)) (fill .1) (c .if2 .taken) ∙ taken here
+    let filled = filled-at (c .before .before) in
+    let at = unrefused (checks-at (filled .before)) in
+    step-none _ _ (facts-at (at .before) .facts-of .ensures .rows) (at .before .bench-refusal .ensures) (at .if1 .left) (filled .fill-row .ensures .0)
+    (filled .fill-row .ensures .1) (place at) (c .enum-told .given .1)
+
+same-length-5 : tie.Need-same-length-5
+same-length-5 c = search needs
+
+same-length-6 : tie.Need-same-length-6
+same-length-6 c = search needs
 
 returns-3 : tie.Need-returns-3
 unfolding rowFill marksAt
 returns-3 c =
-    let fill-by-plan = c .before .before .fill-by-plan in
-    let here = c .before .before .before .before in
-    let here2 = c .before .before .before .before .before .before in
-    let here3 = c .before .before .before .before .before .before .before .before .before .before .before in
-    let fill = fill-by-plan .ensures in
-    stepping-none (bench here3) _ _ (fill .0) _ (place here) (fill .1) (arm-none _ (c .before .match .keys1)) ∙ taken here2
+    let filled = filled-at (c .before .before) in
+    let at = unrefused (checks-at (filled .before)) in
+    step-tied _ _ (facts-at (at .before) .facts-of .ensures .rows) (at .before .bench-refusal .ensures) (at .if1 .left) (filled .fill-row .ensures .0)
+    (filled .fill-row .ensures .1) (place at) (c .enum-told2 .given .1)
+
+same-length-7 : tie.Need-same-length-7
+same-length-7 c = search needs
+
+same-length-8 : tie.Need-same-length-8
+same-length-8 c = search needs
 
 returns-4 : tie.Need-returns-4
 unfolding rowFill marksAt
 returns-4 c =
-    let fill-by-plan = c .before .before .fill-by-plan in
-    let here = c .before .before .before .before in
-    let here2 = c .before .before .before .before .before .before in
-    let here3 = c .before .before .before .before .before .before .before .before .before .before .before in
-    let fill = fill-by-plan .ensures in
-    stepping-tied (bench here3) _ _ (fill .0) _ (place here) (fill .1) (arm-tied _ (c .before .match .keys2)) ∙ taken here2
+    let filled = filled-at (c .before .before .before) in
+    let at = unrefused (checks-at (filled .before)) in
+    step-whole _ _ (facts-at (at .before) .facts-of .ensures .rows) (at .before .bench-refusal .ensures) (at .if1 .left) (filled .fill-row .ensures .0)
+    (filled .fill-row .ensures .1) (c .before .enum-told3 .given .1) (c .if2 .taken)
+
+same-length-9 : tie.Need-same-length-9
+same-length-9 c = search needs
+
+same-length-10 : tie.Need-same-length-10
+same-length-10 c = search needs
 
 returns-5 : tie.Need-returns-5
 unfolding rowFill marksAt
 returns-5 c =
-    let match = c .before .before .match in
-    let fill-by-plan = c .before .before .before .fill-by-plan in
-    let here = c .before .before .before .before .before .before .before in
-    let here2 = c .before .before .before .before .before .before .before .before .before .before .before .before in
-    let fill = fill-by-plan .ensures in
-    stepping-filled (bench here2) _ _ (fill .0) _ (arm-one _ (match .keys3)) (fill .1) (c .if2 .left) ∙ taken here
+    let filled = filled-at (c .before .before .before) in
+    let at = unrefused (checks-at (filled .before)) in
+    step-filled _ _ (facts-at (at .before) .facts-of .ensures .rows) (at .before .bench-refusal .ensures) (at .if1 .left) (filled .fill-row .ensures .0)
+    (filled .fill-row .ensures .1) (c .before .enum-told3 .given .1) (c .if2 .left)
 
 pub step-row-spec : {M : Type 1} → statement M
 step-row-spec =
     tie.close
     (tie.spec
-    rows-requires
+    facts-of-requires
     bench-refusal-requires
+    same-length
+    same-length-2
     returns
     mul-word
-    element-copy-out-word
-    fill-by-plan-requires
+    slice-read-word
+    products-requires
+    entries-requires
+    slice-aggregate-put-checks
+    put-checks-requires
+    array-share-prefix-products
+    slice-aggregate-table
+    array-share-prefix-room
+    slice-aggregate-checks
+    fill-row-requires
     enum-told
     enum-told-2
     enum-told-3
     mul-marks
-    element-write-marks
+    slice-write-marks
+    same-length-3
+    same-length-4
     returns-2
+    same-length-5
+    same-length-6
     returns-3
+    same-length-7
+    same-length-8
     returns-4
+    same-length-9
+    same-length-10
     returns-5)

@@ -1,4 +1,4 @@
--- `shelf_encode` meets its contract. Assumes nothing.
+-- The outcome is told by its number; the stripe is encoding's. Assumes nothing.
 use Rattle.shelf.proofs.Telling.{outcome-told}
 use borrow.Author.Needs.{needs}
 use Rattle.shelf.proofs.shelf_encode.Statement.{statement}

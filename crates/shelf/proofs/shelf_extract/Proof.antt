@@ -1,4 +1,4 @@
--- `shelf_extract` meets its contract. Assumes nothing.
+-- The outcome is told by its number; the data is extraction's. Assumes nothing.
 use Rattle.shelf.proofs.Telling.{outcome-told}
 use borrow.Author.Needs.{needs}
 use Rattle.shelf.proofs.shelf_extract.Statement.{statement}

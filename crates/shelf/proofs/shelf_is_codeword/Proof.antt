@@ -1,4 +1,4 @@
--- `shelf_is_codeword` meets its contract. Assumes nothing.
+-- The verdict is told by its number. Assumes nothing.
 use mathlib.Core.Path.{ap, _∙_}
 use Rattle.plans.specs.Answers.{verdictNumber}
 use borrow.Author.Needs.{needs}

@@ -1,4 +1,4 @@
--- `shelf_level_step` meets its contract. Assumes nothing.
+-- A buffer of another size is 11; else the step is made on the bench in it, and its bench put back. Assumes nothing.
 use Rattle.shelf.proofs.Benches.{steps-unfit, steps-fit}
 use Rattle.shelf.proofs.Fitting.{level-small}
 use native.Mathlib.Omega.{arith}
@@ -17,8 +17,9 @@ level-step-requires c κs = search needs
 
 put-bench-requires : tie.Need-put-bench-requires
 put-bench-requires c κs =
-    let step = c .before .before .level-step in
-    (omega (arith, c .before .before .before .before .before .if1 .left), level-small _ (c .before .before .before .bench-in .ensures .1) (step .ensures))
+    let step = c .before .before in
+    let bench = step .before in
+    record { small = level-small _ (bench .bench-in .ensures .1) (step .level-step .ensures); fits = bench .before .before .if1 .left }
 
 of-step-requires : tie.Need-of-step-requires
 of-step-requires c κs = search needs
@@ -28,12 +29,10 @@ same-length c = search needs
 
 returns-2 : tie.Need-returns-2
 returns-2 c =
-    let put-bench = c .before .before .before .put-bench in
-    let level-step = c .before .before .before .before .before .before .level-step in
-    let bench-in = c .before .before .before .before .before .before .before .bench-in in
-    let if1 = c .before .before .before .before .before .before .before .before .before .if1 in
-    steps-fit _ _ _ _ (if1 .left) (bench-in .ensures .0) (level-step .ensures)
-    (c .of-step .ensures) (put-bench .ensures)
+    let put = c .before .before .before in
+    let step = put .before .before .before in
+    let bench = step .before in
+    steps-fit _ _ _ _ (bench .before .before .if1 .left) (bench .bench-in .ensures .0) (step .level-step .ensures) (c .of-step .ensures) (put .put-bench .ensures)
 
 pub shelf-level-step-spec : {M : Type 1} → statement M
 shelf-level-step-spec =

@@ -1,12 +1,19 @@
--- `shelf_mend` meets its contract. Assumes nothing.
+-- By the size of the report, and by whether mending was refused. Assumes nothing.
 use mathlib.Core.Path.{sym, _∙_}
-use Rattle.files.proofs.Writing.{put-whole}
+use Rattle.words.proofs.Writing.{put-whole}
 use Rattle.shelf.proofs.Fitting.{report-fits}
 use Rattle.shelf.proofs.Mending.{mends-unfit, mends-fit, after-refusal, after-answer}
 use native.Mathlib.Omega.{arith}
 use borrow.Author.Needs.{needs}
 use Rattle.shelf.proofs.shelf_mend.Statement.{statement}
 use Rattle.shelf.proofs.shelf_mend.Tie as tie
+
+-- from behind the test of a refusal: mending, and the test of the report's size
+abbrev mend : tie.After-is-refusal → tie.After-mend
+mend c = c .before .before .before .before .before .before
+
+abbrev sized : tie.After-mend → tie.Else1
+sized c = c .before .before .before
 
 of-unfit-requires : tie.Need-of-unfit-requires
 of-unfit-requires c κs = search needs
@@ -31,16 +38,13 @@ same-length-2 c = search needs
 
 returns-2 : tie.Need-returns-2
 returns-2 c =
-    let of-answer = c .before .before .of-answer in
-    let mend2 = c .before .before .before .before .before .before .before .mend in
-    let if1 = c .before .before .before .before .before .before .before .before .before .before .if1 in
-    let mend = mend2 in
-    let refuses = sym (c .before .is-refusal .ensures) ∙ c .if2 .taken in
-    mends-fit _ _ _ _ (if1 .left) _ (mend .ensures .0) (of-answer .ensures) (mend .ensures .1 .0) (mend .ensures .1 .1)
-    (after-refusal _ _ _ refuses)
+    let refused = c .before in
+    let e = mend refused .mend .ensures in
+    mends-fit _ _ _ _ (sized (mend refused) .if1 .left) _ (e .0) (refused .before .of-answer .ensures) (e .1 .0) (e .1 .1)
+    (after-refusal _ _ _ (sym (refused .is-refusal .ensures) ∙ c .if2 .taken))
 
 report-bytes-requires : tie.Need-report-bytes-requires
-report-bytes-requires c κs = report-fits _ _ _ (c .before .before .before .before .before .before .before .mend .ensures .0)
+report-bytes-requires c κs = report-fits _ _ _ (mend (c .before) .mend .ensures .0)
 
 slice-aggregate-put : tie.Need-slice-aggregate-put
 slice-aggregate-put c = search needs
@@ -59,19 +63,15 @@ same-length-5 c = search needs
 
 returns-3 : tie.Need-returns-3
 returns-3 c =
-    let put = c .before .before .put in
-    let report-bytes = c .before .before .before .before .before .report-bytes in
-    let if2 = c .before .before .before .before .before .before .if2 in
-    let is-refusal = c .before .before .before .before .before .before .before .is-refusal in
-    let of-answer = c .before .before .before .before .before .before .before .before .of-answer in
-    let mend2 = c .before .before .before .before .before .before .before .before .before .before .before .before .before .mend in
-    let if1 = c .before .before .before .before .before .before .before .before .before .before .before .before .before .before .before .before .if1 in
-    let mend = mend2 in
-    let fits = if1 .left in
-    let bytes = report-bytes .ensures in
-    let refuses = sym (is-refusal .ensures) ∙ if2 .left in
-    mends-fit _ _ _ _ fits _ (mend .ensures .0) (of-answer .ensures) (mend .ensures .1 .0) (mend .ensures .1 .1)
-    (put-whole (put .ensures) (omega (arith, fits)) ∙ bytes ∙ after-answer _ _ _ refuses)
+    let put = c .before .before in
+    let bytes = put .before .before .before in
+    let told = bytes .before in
+    let refused = told .before in
+    let e = mend refused .mend .ensures in
+    let fits = sized (mend refused) .if1 .left in
+    mends-fit _ _ _ _ fits _ (e .0) (refused .before .of-answer .ensures) (e .1 .0) (e .1 .1)
+    (put-whole (put .put .ensures) (omega (arith, fits)) ∙ bytes .report-bytes .ensures
+    ∙ after-answer _ _ _ (sym (refused .is-refusal .ensures) ∙ told .if2 .left))
 
 pub shelf-mend-spec : {M : Type 1} → statement M
 shelf-mend-spec =

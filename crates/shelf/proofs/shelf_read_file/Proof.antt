@@ -1,4 +1,4 @@
--- `shelf_read_file` meets its contract. Assumes nothing.
+-- The outcome is told by its number; stripe and marks are reading's. Assumes nothing.
 use Rattle.shelf.proofs.Telling.{outcome-told}
 use borrow.Author.Needs.{needs}
 use Rattle.shelf.proofs.shelf_read_file.Statement.{statement}

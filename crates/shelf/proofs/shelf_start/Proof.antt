@@ -1,4 +1,4 @@
--- `shelf_start` meets its contract. Assumes nothing.
+-- By the size of the buffer: the started bench is put over the whole of it. Assumes nothing.
 use Rattle.shelf.proofs.Benches.{starts-unfit, starts-fit}
 use Rattle.shelf.proofs.Fitting.{start-small}
 use native.Mathlib.Omega.{arith}
@@ -16,7 +16,7 @@ start-requires : tie.Need-start-requires
 start-requires c κs = search needs
 
 put-bench-requires : tie.Need-put-bench-requires
-put-bench-requires c κs = (omega (arith, c .before .before .before .if1 .left), start-small _ _ _ (c .before .before .start .ensures))
+put-bench-requires c κs = record { small = start-small _ _ _ (c .before .before .start .ensures); fits = c .before .before .before .if1 .left }
 
 of-outcome-requires : tie.Need-of-outcome-requires
 of-outcome-requires c κs = search needs

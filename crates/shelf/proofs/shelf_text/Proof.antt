@@ -1,12 +1,20 @@
--- `shelf_text` meets its contract. Assumes nothing.
+-- A buffer of another size is 11; else the text's room is put over the one, and its length over the other. Assumes nothing.
 use mathlib.Core.Path.{ap, _∙_}
-use Rattle.repair.specs.File.{bytes2}
-use Rattle.files.proofs.Writing.{put-whole}
-use Rattle.shelf.proofs.Telling.{tells-no-text, tells-no-size, tells}
 use native.Mathlib.Omega.{arith}
 use borrow.Author.Needs.{needs}
+use Rattle.words.specs.Words.{bytes2}
+use Rattle.words.proofs.Writing.{put-whole}
+use Rattle.shelf.proofs.Telling.{tells-no-text, tells-no-size, tells}
 use Rattle.shelf.proofs.shelf_text.Statement.{statement}
 use Rattle.shelf.proofs.shelf_text.Tie as tie
+
+-- from behind the text's room: its length in bytes
+abbrev size : tie.After-put-room → tie.After-size-bytes
+size c = c .before .before .before
+
+-- the two buffers have their sizes
+abbrev sized : tie.After-size-bytes → tie.Else2
+sized c = c .before .before .before
 
 returns : tie.Need-returns
 returns c = tells-no-text _ _ _ (c .if1 .taken)
@@ -37,17 +45,14 @@ same-length-2 c = search needs
 
 returns-3 : tie.Need-returns-3
 returns-3 c =
-    let put = c .before .before .put in
-    let put-room = c .before .before .before .before .before .before .before .put-room in
-    let size-bytes = c .before .before .before .before .before .before .before .before .before .before .size-bytes in
-    let text2 = c .before .before .before .before .before .before .before .before .before .before .before .text in
-    let if2 = c .before .before .before .before .before .before .before .before .before .before .before .before .before .if2 in
-    let if1 = c .before .before .before .before .before .before .before .before .before .before .before .before .before .before .if1 in
-    let text = text2 in
-    let bytes = size-bytes .ensures in
-    let fits = if2 .left in
-    tells _ _ _ (if1 .left) fits (put-room .ensures ∙ text .ensures .1)
-    (put-whole (put .ensures) (omega (arith, fits)) ∙ bytes ∙ ap bytes2 (text .ensures .0))
+    let told = c .before .before in
+    let put = told .before .before .before .before .before in
+    let bytes = size put in
+    let fits = sized bytes in
+    let text = bytes .before .text .ensures in
+    tells _ _ _ (fits .before .if1 .left) (fits .if2 .left)
+    (put .put-room .ensures ∙ text .1)
+    (put-whole (told .put .ensures) (omega (arith, fits .if2 .left)) ∙ bytes .size-bytes .ensures ∙ ap bytes2 (text .0))
 
 pub shelf-text-spec : {M : Type 1} → statement M
 shelf-text-spec =

@@ -1,4 +1,4 @@
--- `shelf_write_file` meets its contract. Assumes nothing.
+-- The outcome is told by its number; the file is writing's. Assumes nothing.
 use Rattle.shelf.proofs.Telling.{outcome-told}
 use borrow.Author.Needs.{needs}
 use Rattle.shelf.proofs.shelf_write_file.Statement.{statement}

@@ -1,4 +1,4 @@
--- `start` meets its contract. Assumes nothing.
+-- `start`: what is refused gives the empty bench; else stripe and marks are copied with zeros behind them, which makes the fresh bench. Assumes nothing.
 use mathlib.Core.Path.{_≡_, sym, _∙_}
 use borrow.Author.Needs.{needs}
 use denote.Ref.{now}
@@ -6,7 +6,7 @@ use Rattle.steps.specs.Steps.{empty}
 use Rattle.plans.specs.Refusal.{lentRefusal}
 use Rattle.plans.proofs.Plans.{rows-most, symbols-most}
 use Rattle.plans.proofs.Refusals.{lent-fits, stripe-length, marks-length}
-use Rattle.steps.proofs.Starts.{started-done, started-refused}
+use Rattle.steps.proofs.Ends.{started-done, started-refused}
 use Rattle.steps.proofs.start.Statement.{statement}
 use Rattle.steps.proofs.start.Tie as tie
 

@@ -1,8 +1,8 @@
--- `find_solution` meets its contract. Assumes nothing.
+-- `find_solution`: a row from r on with a right-hand side has no solution; where there is none, column k read off is one. Assumes nothing.
 use native.Mathlib.Omega.{arith}
 use borrow.Author.Needs.{needs}
 use Rattle.field.proofs.Fields.{our-field}
-use Rattle.systems.proofs.Elimination.{consistent-yes, consistent-no}
+use Rattle.elimination.proofs.Elimination.{consistent-yes, consistent-no}
 use Rattle.systems.proofs.find_solution.Statement.{statement}
 use Rattle.systems.proofs.find_solution.Tie as tie
 
@@ -10,16 +10,15 @@ add-find-row : tie.Need-add-find-row
 add-find-row c = search needs
 
 find-row-requires : tie.Need-find-row-requires
-find-row-requires c κs = let s = c .before .before .before in (omega arith, s .pre .1 .1 .rows, omega arith)
+find-row-requires c κs = let s = c .before .before .before in (omega arith, s .pre .form .rows, omega arith)
 
 returns : tie.Need-returns
 returns c = let s = c .before .before .before .before .before in
     let found = c .before .find-row .ensures in
-    consistent-no _ (our-field (s .args .q)) _ _ _ _ _ _ _ (s .pre .1 .1) (found .least) (c .if1 .taken) (found .nonzero (c .if1 .taken))
+    consistent-no _ (our-field (s .args .q)) _ _ _ _ _ _ _ (s .pre .form) (found .least) (c .if1 .taken) (found .nonzero (c .if1 .taken))
 
 read-off-requires : tie.Need-read-off-requires
-read-off-requires c κs = let s = c .before .before .before .before .before .before in
-    ((omega arith, omega arith, omega arith, omega arith), (s .pre .1 .0, s .pre .1 .1))
+read-off-requires c κs = search needs
 
 same-length : tie.Need-same-length
 same-length c = search needs

@@ -1,4 +1,4 @@
--- `read_off` meets its contract. Assumes nothing.
+-- `read_off`: the invariant is `ReadOff` of the rows before t; a pivot's column is in z, its row in the buffer. Assumes nothing.
 use mathlib.Core.Path.{refl, _≡_}
 use Prim.Native.Nat.{_*_, _<_, _+_, _-_, _≤_}
 use native.Mathlib.Omega.{arith}
@@ -6,10 +6,11 @@ use borrow.Author.Needs.{needs}
 use lib.ListN.{length-set, length}
 use Rattle.field.specs.Ours.{fieldOf}
 use Rattle.field.proofs.Fields.{our-field}
-use Rattle.systems.specs.System.{vec, ent, ReadOff}
-use Rattle.systems.proofs.Turns.{reading-turn}
-use Rattle.systems.proofs.Elimination.{read-start}
-use Rattle.systems.proofs.Rows.{row-fits}
+use Rattle.equations.specs.System.{vec, ent}
+use Rattle.elimination.specs.Steps.{ReadOff}
+use Rattle.elimination.proofs.Turns.{reading-turn}
+use Rattle.elimination.proofs.Elimination.{read-start}
+use Rattle.equations.proofs.Rows.{row-fits}
 use Rattle.systems.proofs.read_off.Statement.{statement}
 use Rattle.systems.proofs.read_off.Tie as tie
 
@@ -35,11 +36,11 @@ start c = c .before .before .before .before .before .before .before .before .bef
 -- row t lies in the buffer, and its pivot's column in z
 row : (c : tie.In-loop Inv-loop μ-loop) → let s = start c .args in c .before .loop .t * (s .k + 1) + (s .k + 1) ≤ length (s .a .now)
 row c =
-    let s = start c in omega (arith, row-fits (s .args .m) (s .args .k + 1) (c .before .loop .t) (omega (arith, s .pre .1 .1 .rows)))
+    let s = start c in omega (arith, row-fits (s .args .m) (s .args .k + 1) (c .before .loop .t) (omega (arith, s .pre .form .rows)))
 
 column : (c : tie.In-loop Inv-loop μ-loop) → vec (start c .args .pivots .now) (c .before .loop .t) < length (c .before .loop .z)
 column c =
-    let form = start c .pre .1 .1 in
+    let form = start c .pre .form in
     omega (arith, form .col (c .before .loop .t) (omega arith), c .before .loop .inv .1, c .before .before .before .before .wipe .kept .0)
 
 mul-p : tie.Need-mul-p Inv-loop μ-loop
@@ -67,20 +68,22 @@ loop-less : tie.Need-loop-less Inv-loop μ-loop
 loop-less c = search needs
 
 loop-again : tie.Need-loop-again Inv-loop μ-loop
-loop-again c = let s = c .before .before .before .before .before .before .before .before .before .before .before in
-    let inv = c .before .before .before .loop .inv in (
+loop-again c =
+    let turn = c .before .before in
+    let s = start turn in
+    let inv = turn .before .loop .inv in (
       omega arith,
       simp length-set (inv .1),
-      reading-turn _ (our-field (s .args .q)) (s .args .a .now) (s .args .pivots .now) _ _ _ _ (s .pre .1 .0) (s .pre .1 .1)
-          (c .before .before .before .loop .z) _ (column (c .before .before)) (omega arith) (inv .2),
+      reading-turn _ (our-field (s .args .q)) (s .args .a .now) (s .args .pivots .now) _ _ _ _ (s .pre .elements) (s .pre .form)
+          (turn .before .loop .z) _ (column turn) (omega arith) (inv .2),
     )
 
 same-length : tie.Need-same-length Inv-loop μ-loop
 same-length c = search needs
 
 returns : tie.Need-returns Inv-loop μ-loop
-returns c = let s = c .before .before .before .before .before .before .before .before .before in
-    let e : c .before .loop .t ≡ s .args .r = omega arith in rw e at (c .before .loop .inv .2)
+returns c = let e : c .before .loop .t ≡ c .before .before .before .before .before .before .before .before .before .args .r = omega arith in
+    rw e at (c .before .loop .inv .2)
 
 pub read-off-spec : {M : Type 1} → statement M
 read-off-spec =

@@ -1,56 +1,76 @@
--- `solve` meets its contract. Assumes nothing.
+-- `solve`: the reduced system has the solutions and dependencies of the system, and both are read off it. Assumes nothing.
 use native.Mathlib.Omega.{arith}
 use Rattle.field.proofs.Fields.{our-field}
-use Rattle.systems.proofs.Elimination.{same-consistency, same-dependence}
+use Rattle.elimination.proofs.Elimination.{free-in, same-consistency, same-dependence}
 use Rattle.systems.proofs.solve.Statement.{statement}
 use Rattle.systems.proofs.solve.Tie as tie
 
--- the places before: the start, and the reduced system
+-- the places before: the start, the reduced system, and the solution
 abbrev start : tie.After-reduce → tie.Start
-start c = c .before .before .before .before .before .before .before
+start c = c .before .before .before .before .before .before .before .before
 
 abbrev reduced-at : tie.After-find-solution → tie.After-reduce
 reduced-at c = c .before .before .before .before .before .before .before .before
 
+abbrev solution-at : tie.After-find-dependency → tie.After-find-solution
+solution-at c = c .before .before .before .before .before .before
+
 reduce-requires : tie.Need-reduce-requires
-reduce-requires c κs = let pre = c .before .before .before .before .before .before .pre in (pre .0, ((pre .1 .0 .0, pre .1 .0 .1), pre .1 .1))
+reduce-requires c κs = let asked = c .before .before .before .before .before .before .before .pre in
+    record { products = asked .products; rows = asked .rows; pivots = asked .pivots; elements = asked .elements }
 
 find-solution-requires : tie.Need-find-solution-requires
-find-solution-requires c κs = let pre = start (c .before .before .before .before .before .before .before) .pre .1 .0 in
-    let reduced = c .before .before .before .before .before .before .before .reduce in
-    let form = reduced .ensures .0 in (
-      (omega (arith, reduced .kept .1 .1 .0, pre .0), omega (arith, reduced .kept .1 .1 .1 .1 .1 .0, form .cols, pre .1), pre .2),
-      (reduced .ensures .1 .1 .1, form),
-    )
+find-solution-requires c κs =
+    let at = c .before .before .before .before .before .before .before in
+    let asked = start at .pre in
+    let reduced = at .reduce in
+    record {
+      rows = omega (arith, reduced .kept .1 .1 .0);
+      pivots = omega (arith, reduced .kept .1 .1 .1 .1 .1 .0, reduced .ensures .form .cols, asked .pivots);
+      room = asked .solution;
+      column = omega arith;
+      elements = reduced .ensures .elements;
+      form = reduced .ensures .form;
+    }
 
 find-dependency-requires : tie.Need-find-dependency-requires
-find-dependency-requires c κs = let pre = start (reduced-at (c .before .before .before .before .before)) .pre .1 .0 in
-    let reduced = reduced-at (c .before .before .before .before .before) .reduce in
-    let form = reduced .ensures .0 in (
-      (omega (arith, reduced .kept .1 .1 .0, pre .0), omega (arith, reduced .kept .1 .1 .1 .1 .1 .0, form .cols, pre .1), pre .3),
-      (reduced .ensures .1 .1 .1, (form, reduced .ensures .1 .0)),
+find-dependency-requires c κs =
+    let at = reduced-at (c .before .before .before .before .before) in
+    let asked = start at .pre in
+    let reduced = at .reduce in (
+      record {
+        rows = omega (arith, reduced .kept .1 .1 .0, asked .rows);
+        pivots = omega (arith, reduced .kept .1 .1 .1 .1 .1 .0, reduced .ensures .form .cols, asked .pivots);
+        room = asked .dependency;
+        column = free-in _ _ _ _ (reduced .ensures .column);
+        elements = reduced .ensures .elements;
+        form = reduced .ensures .form;
+      },
+      reduced .ensures .column,
     )
 
 same-length : tie.Need-same-length
-same-length c = reduced-at (c .before .before .before .before .before .before .before .before) .reduce .kept .1 .1 .0
+same-length c = reduced-at (solution-at (c .before .before)) .reduce .kept .1 .1 .0
 
 same-length-2 : tie.Need-same-length-2
-same-length-2 c = reduced-at (c .before .before .before .before .before .before .before .before) .reduce .kept .1 .1 .1 .1 .1 .0
+same-length-2 c = reduced-at (solution-at (c .before .before)) .reduce .kept .1 .1 .1 .1 .1 .0
 
 same-length-3 : tie.Need-same-length-3
-same-length-3 c = c .before .before .before .before .before .before .before .before .find-solution .kept .1 .1 .1 .1 .1 .1 .0
+same-length-3 c = solution-at (c .before .before) .find-solution .kept .1 .1 .1 .1 .1 .1 .0
 
 same-length-4 : tie.Need-same-length-4
 same-length-4 c = c .before .before .find-dependency .kept .1 .1 .1 .1 .1 .1 .1 .0
 
 returns : tie.Need-returns
-returns c = let s = start (reduced-at (c .before .before .before .before .before .before .before .before)) in
+returns c =
+    let solution = solution-at (c .before .before) in
+    let s = start (reduced-at solution) in
     let field = our-field (s .args .q) in
-    let reduced = reduced-at (c .before .before .before .before .before .before .before .before) .reduce .ensures .1 .1 in
-    let solution = c .before .before .before .before .before .before .before .before .find-solution .ensures in
-    let dependency = c .before .before .find-dependency .ensures in record {
-      consistency = same-consistency _ field _ _ _ _ (reduced .0) _ _ (λ i. s .pre .1 .1 _) (λ i. reduced .1 _) solution;
-      dependence = same-dependence _ field _ _ _ _ (reduced .0) _ _ dependency;
+    let reduced = reduced-at solution .reduce .ensures in
+    record {
+      consistency = same-consistency _ field _ _ _ _ (reduced .same) _ _ (λ i. s .pre .elements _) (λ i. reduced .elements _)
+          (solution .find-solution .ensures);
+      dependence = same-dependence _ field _ _ _ _ (reduced .same) _ _ (c .before .before .find-dependency .ensures);
     }
 
 pub solve-spec : {M : Type 1} → statement M

@@ -1,4 +1,4 @@
--- `wipe` meets its contract. Assumes nothing.
+-- `wipe`: the invariant is that the first j symbols are 0; past the end every symbol is. Assumes nothing.
 use mathlib.Core.Path.{_∙_, _≡_}
 use Prim.Native.Nat.{ℕ, _≤_, _<_, _-_}
 use native.Mathlib.Decide.{decLt}
@@ -7,7 +7,7 @@ use borrow.Author.Count.{below-more}
 use borrow.Author.Needs.{needs}
 use lib.Seq.{getD-set-same, getD-set-other}
 use lib.ListN.{length-set, List·getD-eq-default, length}
-use Rattle.systems.specs.System.{vec}
+use Rattle.equations.specs.System.{vec}
 use Rattle.systems.proofs.wipe.Statement.{statement}
 use Rattle.systems.proofs.wipe.Tie as tie
 

@@ -1,4 +1,4 @@
--- `encoding::lengths_fit` meets its contract. Assumes nothing.
+-- The two lengths are compared one after the other.
 use mathlib.Core.Path.{sym, _∙_}
 use borrow.Author.Needs.{needs}
 use borrow.Author.Tests.{eq-eqb, ne-eqb}

@@ -1,5 +1,5 @@
--- `encoding::place_row` meets its contract: after c turns the first c columns are written. Assumes nothing.
-use mathlib.Core.Path.{_≡_, refl}
+-- After c turns the first c columns are written: data where the mark is clear, 0 where it stands.
+use mathlib.Core.Path.{_≡_, refl, sym, _∙_}
 use mathlib.Core.Logic.{⊎-elim}
 use Prim.Native.Nat.{_-_, _≤_, _<_}
 use native.Mathlib.Omega.{arith}
@@ -16,29 +16,33 @@ Inv-loop word «data» row₀ next₀ c₀ c-end row next c = (c-end ≡ length 
 abbrev μ-loop : tie.MeasureT-loop
 μ-loop word «data» row₀ next₀ c₀ c-end row next c = length row₀ - c
 
-within : (c : tie.Then1 Inv-loop μ-loop) → c .before .before .loop .next < length (now (c .before .before .before .args .«data»))
-within c = bit-within _ _ (c .if1 .taken) (c .before .loop-test .taken) (c .before .before .before .pre .1) (c .before .before .loop .inv .2 .count)
+-- the start of a turn's function
+abbrev start : tie.In-loop Inv-loop μ-loop → tie.Start Inv-loop μ-loop
+start c = c .before .before .before .before
+
+-- there is data, or room for it, at an unmarked column
+within : (c : tie.Else1 Inv-loop μ-loop) → c .before .before .before .loop .next < length (now (start (c .before .before) .args .«data»))
+within c =
+    let turn = c .before .before in
+    bit-within _ _ (sym (c .before .is-marked .ensures) ∙ c .if1 .left) (turn .loop-test .taken) (start turn .pre .room) (turn .before .loop .inv .2 .count)
 
 loop-holds : tie.Need-loop-holds Inv-loop μ-loop
 loop-holds c = (refl, omega arith, placing-starts)
 
-cast-mark : tie.Need-cast-mark Inv-loop μ-loop
-cast-mark c = search needs
-
-shr-mark : tie.Need-shr-mark Inv-loop μ-loop
-shr-mark c = search needs
-
-shared-slice-read-row : tie.Need-shared-slice-read-row Inv-loop μ-loop
-shared-slice-read-row c = within (c .before)
+is-marked-requires : tie.Need-is-marked-requires Inv-loop μ-loop
+is-marked-requires c κs = search needs
 
 slice-write-row : tie.Need-slice-write-row Inv-loop μ-loop
 slice-write-row c = omega (arith, placing-length (c .before .before .before .loop .inv .2))
 
-add-next : tie.Need-add-next Inv-loop μ-loop
-add-next c = omega (arith, c .before .before .before .before .good, within (c .before))
+shared-slice-read-row : tie.Need-shared-slice-read-row Inv-loop μ-loop
+shared-slice-read-row c = within (c .before)
 
 slice-write-row-2 : tie.Need-slice-write-row-2 Inv-loop μ-loop
-slice-write-row-2 c = omega (arith, placing-length (c .before .before .loop .inv .2))
+slice-write-row-2 c = omega (arith, placing-length (c .before .before .before .before .loop .inv .2))
+
+add-next : tie.Need-add-next Inv-loop μ-loop
+add-next c = omega (arith, start (c .before .before .before) .good, within (c .before))
 
 add-c : tie.Need-add-c Inv-loop μ-loop
 add-c c = search needs
@@ -48,10 +52,11 @@ loop-less c = search needs
 
 loop-again : tie.Need-loop-again Inv-loop μ-loop
 loop-again c =
-    let p = c .before .before .loop .inv .2 in (
+    let p = c .before .before .before .loop .inv .2 in
+    let is = sym (c .before .is-marked .ensures) in (
       refl,
       omega arith,
-      ⊎-elim (λ w. rw (w .2, w .3) (place-data _ _ p (w .0 .taken))) (λ w. rw (w .1, w .2) (place-none _ _ p (w .0 .left))) (c .if1 .came),
+      ⊎-elim (λ w. rw (w .1, w .2) (place-none _ _ p (is ∙ w .0 .taken))) (λ w. rw (w .2, w .3) (place-data _ _ p (is ∙ w .0 .left))) (c .if1 .came),
     )
 
 same-length : tie.Need-same-length Inv-loop μ-loop
@@ -63,4 +68,4 @@ returns c = row-placed _ _ (c .before .loop .inv .2) (omega arith)
 pub place-row-spec : {M : Type 1} → statement M
 place-row-spec =
     tie.close
-    (tie.spec Inv-loop μ-loop loop-holds cast-mark shr-mark shared-slice-read-row slice-write-row add-next slice-write-row-2 add-c loop-less loop-again same-length returns)
+    (tie.spec Inv-loop μ-loop loop-holds is-marked-requires slice-write-row shared-slice-read-row slice-write-row-2 add-next add-c loop-less loop-again same-length returns)

@@ -1,11 +1,11 @@
--- `encoding::take` meets its contract: after r turns the symbols of the first r rows are taken. Assumes nothing.
+-- After r turns the symbols of the first r rows are taken, and those of the rows to come go behind them: row r stands from r times the columns on.
 use mathlib.Core.Path.{_∙_}
 use Prim.Native.Nat.{_-_, _≤_}
 use native.Mathlib.Omega.{arith}
 use borrow.Author.Needs.{needs}
 use denote.Ref.{now}
 use Rattle.plans.specs.Plan.{planOf, marksAt}
-use Rattle.plans.proofs.Numbers.{numbers}
+use Rattle.tables.proofs.Numbers.{Numbers, numbers}
 use Rattle.encoding.proofs.Placing.{Taking, taking-starts, taking-length, AtRow, at-row, row-takes, rows-taken}
 use Rattle.encoding.proofs.encoding.take.Statement.{statement}
 use Rattle.encoding.proofs.encoding.take.Tie as tie
@@ -16,12 +16,20 @@ Inv-loop plan words stripe data₀ rows columns next₀ r₀ «data» next r = (
 abbrev μ-loop : tie.MeasureT-loop
 μ-loop plan words stripe data₀ rows columns next₀ r₀ «data» next r = rows - r
 
-here : (c : tie.In-loop Inv-loop μ-loop) → let a = c .before .before .before .before .before .before .args in
+-- the start of a turn's function, and the turn that a taken row belongs to
+abbrev start : tie.In-loop Inv-loop μ-loop → tie.Start Inv-loop μ-loop
+start c = c .before .before .before .before .before .before
+
+abbrev turn : tie.After-take-row Inv-loop μ-loop → tie.In-loop Inv-loop μ-loop
+turn c = c .before .before .before .before
+
+is : (c : tie.In-loop Inv-loop μ-loop) → let f = c .before .before .facts-of .result in Numbers (start c .args .plan) (f .field) (f .rows) (f .columns)
+is c = numbers _ (c .before .before .facts-of .ensures)
+
+-- row r and the room for its data
+here : (c : tie.In-loop Inv-loop μ-loop) → let a = start c .args in
     AtRow (now (a .words)) (now (a .stripe)) (c .before .loop .«data») (c .before .before .facts-of .result .columns) (c .before .loop .r) (c .before .loop .next)
-here c =
-    let start = c .before .before .before .before .before .before in
-    at-row (numbers _ (c .before .before .facts-of .ensures)) _ _ (start .pre .1 .1) (c .loop-test .taken) _ (taking-length (c .before .loop .inv .1) ∙ start .pre .1 .0)
-    (c .before .loop .inv .1 .count)
+here c = at-row (is c) _ _ (start c .pre .long) (c .loop-test .taken) _ (taking-length (c .before .loop .inv .1) ∙ start c .pre .room) (c .before .loop .inv .1 .count)
 
 facts-of-requires : tie.Need-facts-of-requires Inv-loop μ-loop
 facts-of-requires c κs = search needs
@@ -30,18 +38,16 @@ loop-holds : tie.Need-loop-holds Inv-loop μ-loop
 loop-holds c = (omega arith, taking-starts)
 
 mul-start : tie.Need-mul-start Inv-loop μ-loop
-mul-start c = omega (arith, here c .ends, here c .few)
+mul-start c = omega (arith, here c .ends)
 
 add-end : tie.Need-add-end Inv-loop μ-loop
-add-end c = omega (arith, here c .ends, here c .few)
+add-end c = omega (arith, here c .ends)
 
 mul-take-row : tie.Need-mul-take-row Inv-loop μ-loop
-mul-take-row c = let start = c .before .before .before .before .before .before in omega (arith, start .pre .0, c .before .before .facts-of .ensures .rows, start .good)
+mul-take-row c = omega (arith, start c .pre .high, is c .high, start c .good)
 
 shared-slice-read-take-row : tie.Need-shared-slice-read-take-row Inv-loop μ-loop
-shared-slice-read-take-row c =
-    let facts-of = c .before .before .before .facts-of in
-    let start = c .before .before .before .before .before .before .before in omega (arith, start .pre .0, facts-of .ensures .rows)
+shared-slice-read-take-row c = omega (arith, start (c .before) .pre .high, is (c .before) .high)
 
 sub-take-row : tie.Need-sub-take-row Inv-loop μ-loop
 sub-take-row c = search needs
@@ -66,10 +72,9 @@ take-row-requires c κs = here (c .before .before .before) .lent
 
 add-next : tie.Need-add-next Inv-loop μ-loop
 add-next c =
-    let take-row = c .before .before .take-row in
-    let here2 = c .before .before .before .before .before .before in
-    let at = c .before .before .before .before .before .before .before in
-    omega (arith, here here2 .room, take-row .ensures .0, at .before .before .before .before .before .good, taking-length (at .loop .inv .1))
+    let taken-row = c .before .before in
+    let t = turn taken-row in
+    omega (arith, here t .room, taken-row .take-row .ensures .0, start t .good, taking-length (t .before .loop .inv .1))
 
 add-r : tie.Need-add-r Inv-loop μ-loop
 add-r c = search needs
@@ -79,21 +84,18 @@ loop-less c = search needs
 
 loop-again : tie.Need-loop-again Inv-loop μ-loop
 loop-again c =
-    let at = c .before .before .before .before .before .before .before in
-    let turn = c .before .before .take-row .ensures in (
-      omega arith,
-      row-takes (numbers _ (at .before .facts-of .ensures)) _ _ (at .before .before .before .before .before .pre .1 .1)
-          (c .before .before .before .before .before .before .loop-test .taken) (at .loop .inv .1) (turn .0) (turn .1),
-    )
+    let t = turn (c .before .before) in
+    let got = c .before .before .take-row .ensures in
+    (omega arith, row-takes (is t) _ _ (start t .pre .long) (t .loop-test .taken) (t .before .loop .inv .1) (got .0) (got .1))
 
 same-length : tie.Need-same-length Inv-loop μ-loop
 same-length c = taking-length (c .before .loop .inv .1)
 
 returns : tie.Need-returns Inv-loop μ-loop
 returns c =
-    let start = c .before .before .before .before .before .before in
-    rows-taken _ _ (omega (arith, c .before .loop .inv .0, c .loop-test .left, c .before .before .facts-of .ensures .rows))
-    (start .pre .1 .0) (c .before .loop .inv .1)
+    let facts = c .before .before in
+    rows-taken _ _ (omega (arith, c .before .loop .inv .0, c .loop-test .left, facts .facts-of .ensures .rows))
+    (facts .before .before .before .before .pre .room) (c .before .loop .inv .1)
 
 pub take-spec : {M : Type 1} → statement M
 take-spec =

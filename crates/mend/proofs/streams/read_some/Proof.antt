@@ -1,4 +1,4 @@
--- `streams::read_some` meets its contract: from turn to turn the buffer keeps its length. Assumes nothing.
+-- From turn to turn the buffer keeps its length; the tries left fall. Assumes nothing.
 use mathlib.Core.Path.{_≡_}
 use lib.ListN.{length}
 use borrow.Author.Needs.{needs}

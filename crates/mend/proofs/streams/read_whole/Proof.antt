@@ -1,4 +1,4 @@
--- `streams::read_whole` meets its contract: no more is read than there is room for, and the buffer keeps its length. Assumes nothing.
+-- No more is read than there is room for, and the buffer keeps its length; the room left falls. Assumes nothing.
 use mathlib.Core.Path.{_≡_, sym}
 use mathlib.Core.List.{List}
 use Prim.Native.Nat.{ℕ, _-_, _≤_}

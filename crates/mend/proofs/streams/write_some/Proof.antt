@@ -1,4 +1,4 @@
--- `streams::write_some` meets its contract: nothing has to hold from turn to turn. Assumes nothing.
+-- Nothing has to hold from turn to turn; the tries left fall. Assumes nothing.
 use borrow.Author.Needs.{needs}
 use Rattle.mend.proofs.streams.write_some.Statement.{statement}
 use Rattle.mend.proofs.streams.write_some.Tie as tie

@@ -1,4 +1,4 @@
--- `streams::write_whole` meets its contract: no more is written than there is. Assumes nothing.
+-- No more is written than there is; what is left falls. Assumes nothing.
 use Prim.Native.Nat.{_-_, _≤_}
 use lib.ListN.{length}
 use borrow.Author.Needs.{needs}

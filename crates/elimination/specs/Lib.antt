@@ -1,0 +1,2 @@
+-- What the contracts of elimination cite.
+pub mod Steps

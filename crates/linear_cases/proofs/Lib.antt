@@ -1,0 +1,2 @@
+-- What is shown of the cases.
+pub mod Symbols

@@ -1,0 +1,2 @@
+-- What the cases are made of.
+pub mod Symbols

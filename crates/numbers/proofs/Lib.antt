@@ -1,0 +1,2 @@
+-- What is shown of the values beside an answer.
+pub mod Values

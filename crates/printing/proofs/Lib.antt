@@ -1,0 +1,2 @@
+-- What mending leaves can be printed. Assumes nothing.
+pub mod Printing

@@ -1,0 +1,2 @@
+-- What the contracts of inner functions cite.
+pub mod Parts

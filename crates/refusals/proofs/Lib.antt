@@ -1,0 +1,2 @@
+-- What the proofs of the tests rest on.
+pub mod Fits

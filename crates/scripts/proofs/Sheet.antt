@@ -1,0 +1,43 @@
+-- The bench sheet's file is read and printed as the sheet says, by computation. Assumes nothing.
+use mathlib.Core.Path.{_≡_, refl}
+use mathlib.Core.List.{[], flatMap}
+use Rattle.field.specs.Lists.{if_then_else_, upFrom}
+use Rattle.field.specs.Field.{_⊕_, size, double, times, mul, dot, gf2}
+use Rattle.fills.specs.Lists.{any, all, only, same, zeros, vanish, first, rest, beside}
+use Rattle.fills.specs.Marks.{bitsOf}
+use Rattle.fills.specs.Fill.{sumsOf, options, before, oneOfEach, choices, loose, dependent, fillings, fillBy, fill, isNone, vectorIn}
+use Rattle.plans.specs.Plan.{allOnes, bitChecks, locations1, plan1, known, planOf, noLevel, levelOf, checksTo, rowAt, marksAt, marksOf, across, marksOffset, symbolsOffset, fileLength}
+use Rattle.plans.specs.Answers.{answerNumber, placeValues, endValues, answerValues, reportValues}
+use Rattle.plans.specs.Refusal.{firstFailed, unasked, stripeFits, wordsFit, marksFit, allBelow, unmarkedBelow, symbolsFit, sumsAt, sumsFit, levelFits, lentTests, lentRefusal, benchTests, benchRefusal}
+use Rattle.steps.specs.Steps.{fresh, stepped, unlessRefused, rowFill, putRow, rowStepBy, rowStep, lossy, checkFill, levelFill, keepSums, raise, levelStepBy, levelStep}
+use Rattle.steps.specs.Rounds.{more, afterRow, afterLevel, takeTurn, goOn, turns}
+use Rattle.repair.specs.Mending.{mended, turnReport, turnStripe, turnMarks, mendReport, mendStripe, mendMarks}
+use Rattle.rounds.specs.Reports.{rowsLeft, endReport}
+use Rattle.repair.specs.Sheet.{exampleStripe, exampleMarks}
+use Rattle.words.specs.Words.{bytes2, wordAt}
+use Rattle.files.specs.File.{headerOf, blanked, planIn, marksIn, symbolsIn, fileRefusal}
+use Rattle.files.specs.Example.{exampleFile}
+use Rattle.texts.specs.Text.{bytes, digitsIn, decimal, hex, item, lineEnd, shown, grid, captioned, endText, placeText, answerText, mendText, printed}
+use Rattle.scripts.specs.Sheet.{FileSheet}
+use Rattle.plans.specs.declared.Place.the-variants.{Row, Across}
+use Rattle.plans.specs.declared.Answer.the-variants.{Clash}
+
+pub file-sheet : FileSheet
+unfolding if_then_else_ upFrom _⊕_ size double times mul dot gf2 flatMap
+    any all only same zeros vanish first rest beside bitsOf sumsOf options before oneOfEach choices loose dependent fillings fillBy fill
+    allOnes bitChecks locations1 plan1 known planOf noLevel levelOf checksTo rowAt marksAt marksOf
+    answerNumber endValues answerValues reportValues
+    firstFailed unasked stripeFits wordsFit marksFit allBelow unmarkedBelow symbolsFit sumsAt sumsFit levelFits lentTests lentRefusal benchTests benchRefusal
+    fresh stepped unlessRefused rowFill putRow rowStepBy rowStep lossy across checkFill isNone vectorIn levelFill keepSums raise levelStepBy levelStep
+    more afterRow afterLevel takeTurn goOn turns mended rowsLeft endReport turnReport turnStripe turnMarks mendReport mendStripe mendMarks
+    bytes2 marksOffset symbolsOffset fileLength headerOf blanked planIn wordAt marksIn symbolsIn fileRefusal
+    bytes digitsIn decimal hex item lineEnd shown grid captioned endText answerText mendText printed
+    exampleStripe exampleMarks exampleFile
+file-sheet = record { fileStripe = refl; fileMarks = refl; filePrinted = refl }
+
+-- what follows the number of a Clash in row 2 at level 1, and of one across rows at level 2
+pub clash-lines :
+    (answerText (Clash (Row 2 1)) (placeValues (Row 2 1)) [] ≡ bytes " level 1 place row 2\n")
+    × (answerText (Clash (Across 2)) (placeValues (Across 2)) [] ≡ bytes " level 2 place across\n")
+unfolding if_then_else_ placeValues bytes digitsIn decimal item lineEnd captioned placeText answerText
+clash-lines = (refl, refl)

@@ -1,0 +1,91 @@
+-- A plan's numbers and its tables as the code has and lends them, and what its rows, checks and weights are by them. Assumes nothing.
+use mathlib.Core.Path.{_≡_, sym, ap, ap₂, _∙_, subst}
+use mathlib.Core.List.{List}
+use Prim.Native.Nat.{ℕ, suc, _+_, _*_, _≤_, _<_}
+use native.Mathlib.Nat.{le-trans, zero-add}
+use native.Mathlib.Numerals.{add-one}
+use lib.ListN.{length, take, drop}
+use lib.Seq.{take-at, length-take-le, length-sets, sets-eq}
+use Rattle.field.specs.Field.{size}
+use Rattle.field.specs.Ours.{fieldOf, products, tableOf}
+use Rattle.field.proofs.Table.{lent}
+use Rattle.fills.specs.Marks.{rowsOf}
+use Rattle.plans.specs.Plan.{Plan, planOf, levelOf, checksTo}
+use Rattle.words.specs.Written.{Put}
+use Rattle.plans.specs.Tables.{checkTable, weightTable}
+use Rattle.tables.specs.Tables.{FactsOf, Lent}
+use Rattle.tables.specs.declared.Facts.{Facts}
+use Rattle.plans.proofs.Rows.{row-end}
+use Rattle.plans.proofs.Sizes.{checks-room, weights-room, weights-length}
+use Rattle.plans.proofs.Flat.{rowIn}
+use Rattle.plans.proofs.Tables.{weights-in}
+use Rattle.plans.proofs.Parts.{part, part-of, part-length, rows-of}
+
+pub record Numbers (p q rows n : ℕ) : Type 0 where
+  pub field : fieldOf q ≡ planOf p .field
+  pub high : rows ≡ planOf p .rows
+  pub wide : n ≡ planOf p .columns
+
+pub numbers : (p : ℕ) {f : Facts} → FactsOf (planOf p) f → Numbers p (f .field) (f .rows) (f .columns)
+numbers p is = record { field = is .field .names; high = is .rows; wide = is .columns }
+
+-- what is lent of the room that row checks are written to is these checks
+module _ {checks room after : List ℕ} {size : ℕ} (put : Put room 0 checks size after) where
+  pub checks-fit : size ≤ length after
+  checks-fit = rw (put .written, length-sets room 0 checks) (put .inside)
+
+  pub checks-lent : take size after ≡ checks
+  checks-lent =
+      ap (take size) (put .written ∙ sets-eq checks room 0 (subst (λ k. k ≤ length room) (put .reached) (put .inside)))
+      ∙ take-at checks _ size (sym (put .reached ∙ zero-add _))
+
+  pub checks-long : size ≡ length (take size after)
+  checks-long = sym (length-take-le size after checks-fit)
+
+-- the front of the products, and of that room, are a plan's tables
+pub tables-lent : {P : Plan} {f : Facts} {n size : ℕ} {t room after : List ℕ} → FactsOf P f → t ≡ products → n ≡ length (tableOf (f .field))
+    → Put room 0 (checkTable P) size after → Lent P (take n t) (take size after)
+tables-lent {f = f} is all count put = record { products = lent (f .field) all count ∙ ap tableOf (is .field .its-size); checks = checks-lent put }
+
+-- the products lent for a plan are those of its field's number
+pub own-products : {P : Plan} {q : ℕ} {table checks : List ℕ} → Lent P table checks → q ≡ size (P .field) → table ≡ tableOf q
+own-products l e = l .products ∙ ap tableOf (sym e)
+
+module _ {p q rows n : ℕ} (is : Numbers p q rows n) where
+  -- row r of a stripe stands in it
+  pub row-within : {stripe : ℕ} → planOf p .rows * planOf p .columns ≤ stripe → {r : ℕ} → r < rows → r * n + n ≤ stripe
+  row-within long more = le-trans (row-end n more) (rw (is .high, is .wide) long)
+
+  -- ---- check j
+
+  module _ {checks : List ℕ} (lent : checks ≡ checkTable (planOf p)) (t : ℕ) {j : ℕ} (more : j < length (checksTo (planOf p) t)) where
+    pub check-within : j * n + n ≤ length checks
+    check-within = rw lent (le-trans (row-end n more) (rw (is .wide) (checks-room p t)))
+
+    pub check-length : length (part (j * n) n checks) ≡ n
+    check-length = part-length (j * n) n checks check-within
+
+    pub check-part : part (j * n) n checks ≡ rowIn (planOf p .columns) (checkTable (planOf p)) j
+    check-part = part-of (j * n) n checks ∙ ap₂ (λ k l. take k (drop (j * k) l)) (is .wide) lent
+
+  -- ---- weights
+
+  pub weights-are : (t : ℕ) → rowsOf (length (levelOf (planOf p) t .weights)) rows (weightTable (planOf p) t) ≡ levelOf (planOf p) t .weights
+  weights-are t = ap (λ k. rowsOf (length (levelOf (planOf p) t .weights)) k (weightTable (planOf p) t)) (is .high) ∙ rows-of _ _ _ ∙ weights-in p t
+
+  pub weights-suffice : (t : ℕ) → length (levelOf (planOf p) t .weights) * rows ≤ length (weightTable (planOf p) t)
+  weights-suffice t = rw (weights-length p t, is .high) (weights-room p t)
+
+-- the weights of level t + 1, and how many totals they give
+pub record Weighing (p t q rows n : ℕ) (weights : List ℕ) (totals : ℕ) : Type 0 where
+  pub is : Numbers p q rows n
+  pub weighs : weights ≡ weightTable (planOf p) (suc t)
+  pub count : totals ≡ length (levelOf (planOf p) (suc t) .weights)
+
+pub weighing : (p t : ℕ) {f : Facts} {weights : List ℕ} {totals : ℕ} → FactsOf (planOf p) f → weights ≡ weightTable (planOf p) (t + 1)
+    → totals ≡ length (levelOf (planOf p) (t + 1) .weights) → Weighing p t (f .field) (f .rows) (f .columns) weights totals
+weighing p t is weighs count = record {
+  is = numbers p is;
+  weighs = weighs ∙ ap (weightTable (planOf p)) (add-one t);
+  count = count ∙ ap (λ u. length (levelOf (planOf p) u .weights)) (add-one t);
+}

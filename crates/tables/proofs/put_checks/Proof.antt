@@ -1,0 +1,85 @@
+-- Each plan's numbers are its table's, one test for each, and `put` writes them; without a plan nothing is written. Assumes nothing.
+use mathlib.Core.Path.{_≡_, refl, sym, subst}
+use mathlib.Core.List.{List, flatMap}
+use Prim.Native.Nat.{ℕ, zero-le}
+use borrow.Author.Needs.{needs}
+use Rattle.field.specs.Lists.{upFrom}
+use Rattle.field.specs.Field.{_⊕_, size, double, times, mul, gf16, gf32}
+use Rattle.field.specs.Power.{power}
+use Rattle.field.proofs.Words.{_&_}
+use Rattle.words.specs.Written.{Put}
+use Rattle.plans.specs.Plan.{Plan, allOnes, bitChecks, locations1, plan1, locations2, powers2, plan2, locations3, powers3, plan3, noPlan, planOf, checksTo}
+use Rattle.plans.specs.Tables.{checkTable}
+use Rattle.plans.proofs.Plans.{unknown}
+use Rattle.tables.proofs.put_checks.Statement.{statement}
+use Rattle.tables.proofs.put_checks.Tie as tie
+
+-- what is written for a number is written for the plan
+puts-at : {p k r : ℕ} {old new : List ℕ} → p ≡ k → Put old 0 (checkTable (planOf k)) r new → Put old 0 (checkTable (planOf p)) r new
+puts-at {r = r} {old = old} {new = new} e = subst (λ n. Put old 0 (checkTable (planOf n)) r new) (sym e)
+
+puts-none : {P : Plan} {old : List ℕ} → P ≡ noPlan → Put old 0 (checkTable P) 0 old
+unfolding flatMap noPlan checksTo checkTable
+puts-none {old = old} e =
+    subst (λ (P : Plan). Put old 0 (checkTable P) 0 old) (sym e) (record { reached = refl; inside = zero-le; written = refl })
+
+slice-aggregate-put : tie.Need-slice-aggregate-put
+slice-aggregate-put c = search needs
+
+put-requires : tie.Need-put-requires
+put-requires c κs = search needs
+
+slice-aggregate-put-2 : tie.Need-slice-aggregate-put-2
+slice-aggregate-put-2 c = search needs
+
+put-requires-2 : tie.Need-put-requires-2
+put-requires-2 c κs = search needs
+
+slice-aggregate-put-3 : tie.Need-slice-aggregate-put-3
+slice-aggregate-put-3 c = search needs
+
+put-requires-3 : tie.Need-put-requires-3
+put-requires-3 c κs = search needs
+
+same-length : tie.Need-same-length
+same-length c = search needs
+
+returns : tie.Need-returns
+unfolding upFrom flatMap allOnes bitChecks locations1 plan1 planOf checksTo checkTable
+returns c = puts-at (c .before .before .before .before .before .match .keys1) (c .before .before .put .ensures)
+
+same-length-2 : tie.Need-same-length-2
+same-length-2 c = search needs
+
+returns-2 : tie.Need-returns-2
+unfolding upFrom flatMap _⊕_ size double times mul gf32 power allOnes bitChecks locations2 powers2 plan2 planOf checksTo checkTable
+returns-2 c = puts-at (c .before .before .before .before .before .match .keys2) (c .before .before .put2 .ensures)
+
+same-length-3 : tie.Need-same-length-3
+same-length-3 c = search needs
+
+returns-3 : tie.Need-returns-3
+unfolding upFrom flatMap _⊕_ size double times mul gf16 power locations3 powers3 plan3 planOf checksTo checkTable
+returns-3 c = puts-at (c .before .before .before .before .before .match .keys3) (c .before .before .put3 .ensures)
+
+returns-4 : tie.Need-returns-4
+unfolding upFrom
+returns-4 c = puts-none (unknown _ (c .match .rest .0 .0 .1 & c .match .rest .0 .1 & c .match .rest .1 & tt))
+
+pub put-checks-spec : {M : Type 1} → statement M
+put-checks-spec =
+    tie.close
+    (tie.spec
+    slice-aggregate-put
+    put-requires
+    slice-aggregate-put-2
+    put-requires-2
+    slice-aggregate-put-3
+    put-requires-3
+    same-length
+    returns
+    same-length-2
+    returns-2
+    same-length-3
+    returns-3
+    returns-4)

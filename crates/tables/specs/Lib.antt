@@ -1,0 +1,2 @@
+-- What the contracts of the functions of `tables` cite.
+pub mod Tables

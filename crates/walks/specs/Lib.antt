@@ -1,0 +1,2 @@
+-- what the contracts of inner functions cite
+pub mod Walk
