@@ -14,6 +14,7 @@ use Rattle.steps.specs.Rounds.{more, afterRow, afterLevel, takeTurn, goOn, turn
 use Rattle.repair.specs.Mending.{mended, turnReport, turnStripe, turnMarks, mendReport, mendStripe, mendMarks}
 use Rattle.rounds.specs.Reports.{rowsLeft, endReport}
 use Rattle.repair.specs.Sheet.{exampleStripe, exampleMarks}
+use Rattle.repair.proofs.Sheet.{sheet}
 use Rattle.words.specs.Words.{bytes2, wordAt}
 use Rattle.files.specs.File.{headerOf, blanked, planIn, marksIn, symbolsIn, fileRefusal}
 use Rattle.files.specs.Example.{exampleFile}
@@ -33,7 +34,7 @@ unfolding if_then_else_ upFrom _⊕_ size double times mul dot gf2 flatMap
     bytes2 marksOffset symbolsOffset fileLength headerOf blanked planIn wordAt marksIn symbolsIn fileRefusal
     bytes digitsIn decimal hex item lineEnd shown grid captioned endText answerText mendText printed
     exampleStripe exampleMarks exampleFile
-file-sheet = record { fileStripe = refl; fileMarks = refl; filePrinted = refl }
+file-sheet = record { library = sheet; fileStripe = refl; fileMarks = refl; filePrinted = refl }
 
 -- what follows the number of a Clash in row 2 at level 1, and of one across rows at level 2
 pub clash-lines :
