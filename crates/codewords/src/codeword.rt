@@ -51,7 +51,7 @@ pub fn rows_hold(plan: usize, table: &[u8], checks: &[u8], stripe: &[u8]) -> boo
 }
 
 // Adds each symbol of a row of weight 1 to the total, without products. Of a symbol the field's bits count. The row is as long as the total.
-fn add_plain(q: usize, row: &[u8], total: &mut [u8])
+pub fn add_plain(q: usize, row: &[u8], total: &mut [u8])
     requires { ⌜ length (now row) ≡ length (now total) ⌝ }
     ensures { λ _. ⌜ now (total .exit) ≡ plus (now (total .entry)) (map (mul (fieldOf q) 1) (now (row .entry))) ⌝ }
 {

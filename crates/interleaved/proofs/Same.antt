@@ -37,7 +37,7 @@ vanish-powers f word e k m =
     ∙ ap (λ g. all g (upFrom k m)) (fun-ext (λ p. ap (λ x. eqb x 0) (e p)))
 
 -- the checks of plan 3 give power sums
-power-check : (word : List ℕ) (p : ℕ) → dot gf16 (powers3 p) word ≡ powerSum gf16 locations word p
+pub power-check : (word : List ℕ) (p : ℕ) → dot gf16 (powers3 p) word ≡ powerSum gf16 locations word p
 unfolding powerSum locations3 powers3 a^ locations
 power-check word p = refl
 
@@ -57,7 +57,7 @@ rows-same stripe = ap (λ f. all f (upFrom 0 rows)) (fun-ext (λ r. in-code 1 (r
 
 -- ---- totals
 
-its-ones : allOnes rows ≡ map (λ r. 1) (upFrom 0 rows)
+pub its-ones : allOnes rows ≡ map (λ r. 1) (upFrom 0 rows)
 unfolding upFrom allOnes
 its-ones = refl
 

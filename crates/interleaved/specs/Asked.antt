@@ -1,15 +1,24 @@
--- What the test of a sum of the rows asks.
-use Prim.Native.Nat.{ℕ}
-use mathlib.Core.List.{List}
+-- What the inner functions of the test ask and make.
+use Prim.Native.Nat.{ℕ, _*_, _≤_}
+use mathlib.Core.Path.{_≡_}
+use mathlib.Core.List.{List, map}
 use lib.ListN.{length}
-use Rattle.codewords.specs.Asked.{RowsIn}
-use Rattle.interleaved.specs.Interleaved.{columns}
+use Rattle.field.specs.Lists.{upFrom}
+use Rattle.field.specs.Field.{dot, gf16}
+use Rattle.field.specs.Ours.{tableOf}
+use Rattle.interleaved.specs.Interleaved.{rows, columns, row}
 
 -- the field's number
 abbrev pub fieldNumber : ℕ
 fieldNumber = 16
 
--- m checks, and a row for each weight
-pub record Summed (table checks : List ℕ) (m : ℕ) (weights stripe : List ℕ) : Type 0 where
-  pub tested : RowsIn fieldNumber table m columns checks
-  pub added : RowsIn fieldNumber table (length weights) columns stripe
+-- a check, a weight for each row, and the rows
+pub record Weighted (table check weights stripe : List ℕ) : Type 0 where
+  pub products : table ≡ tableOf fieldNumber
+  pub wide : length check ≡ columns
+  pub high : length weights ≡ rows
+  pub long : rows * columns ≤ length stripe
+
+-- the rows' sums under a check
+unfoldable pub sumsUnder : (check stripe : List ℕ) → List ℕ
+sumsUnder check stripe = map (λ r. dot gf16 check (row stripe r)) (upFrom 0 rows)

@@ -4,8 +4,9 @@ use mathlib.Core.List.{List}
 use Prim.Native.Nat.{ℕ, suc, _+_, _*_, _≤_, _<_}
 use native.Mathlib.Nat.{le-trans, zero-add}
 use native.Mathlib.Numerals.{add-one}
+use native.Mathlib.Omega.{arith}
 use lib.ListN.{length, take, drop}
-use lib.Seq.{take-at, length-take-le, length-sets, sets-eq}
+use lib.Seq.{take-all, take-at, length-take-le, length-sets, sets-eq}
 use Rattle.field.specs.Field.{size}
 use Rattle.field.specs.Ours.{fieldOf, products, tableOf}
 use Rattle.field.proofs.Table.{lent}
@@ -41,6 +42,10 @@ module _ {checks room after : List ℕ} {size : ℕ} (put : Put room 0 checks si
 
   pub checks-long : size ≡ length (take size after)
   checks-long = sym (length-take-le size after checks-fit)
+
+  -- where there is no more room, all of it is
+  pub checks-whole : length room ≤ length checks → after ≡ checks
+  checks-whole full = sym (take-all size after (omega (arith, put .reached, ap length (put .written) ∙ length-sets room 0 checks))) ∙ checks-lent
 
 -- the front of the products, and of that room, are a plan's tables
 pub tables-lent : {P : Plan} {f : Facts} {n size : ℕ} {t room after : List ℕ} → FactsOf P f → t ≡ products → n ≡ length (tableOf (f .field))

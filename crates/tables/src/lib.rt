@@ -7,7 +7,6 @@ ghost use mathlib.Core.Path.{_≡_};
 ghost use lib.ListN.{length};
 ghost use Prim.Native.Nat.{_≤_};
 ghost use Rattle.plans.specs.Plan.{planOf, known, levelOf, checksTo};
-ghost use Rattle.plans.specs.Rooms.{checkRoom};
 ghost use Rattle.plans.specs.Tables.{checkTable, weightTable, placeTable};
 ghost use Rattle.words.specs.Written.{Put};
 ghost use Rattle.tables.specs.Tables.{FactsOf};
@@ -155,7 +154,7 @@ const CHECKS_3: [u8; 105] = *b"\
 // Writes the row checks of all levels, one behind the other, to the front of `checks`, and gives how many numbers they are. A table
 // that is chosen by the plan and given back as a value would be put together number by number.
 pub fn put_checks(plan: usize, checks: &mut [u8]) -> usize
-    requires { ⌜ checkRoom ≤ length (now checks) ⌝ }
+    requires { ⌜ length (checkTable (planOf plan)) ≤ length (now checks) ⌝ }
     ensures { λ r. ⌜ Put (now (checks .entry)) 0 (checkTable (planOf plan)) r (now (checks .exit)) ⌝ }
 {
     match plan {

@@ -9,6 +9,7 @@ use Rattle.field.proofs.Table.{lent-length}
 use Rattle.plans.specs.Plan.{planOf}
 use Rattle.plans.specs.Refusal.{unasked}
 use Rattle.plans.proofs.Plans.{levels-most}
+use Rattle.plans.proofs.Sizes.{checks-length}
 use Rattle.tables.proofs.Numbers.{checks-long, tables-lent}
 use Rattle.steps.specs.Steps.{stepped}
 use Rattle.steps.proofs.Fit.{Sized, sized-by, sized-room}
@@ -72,7 +73,7 @@ slice-aggregate-put-checks : tie.Need-slice-aggregate-put-checks
 slice-aggregate-put-checks c = search needs
 
 put-checks-requires : tie.Need-put-checks-requires
-put-checks-requires c κs = search needs
+put-checks-requires c κs = checks-length _
 
 array-share-prefix-products : tie.Need-array-share-prefix-products
 array-share-prefix-products c = search needs

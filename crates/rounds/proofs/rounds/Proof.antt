@@ -9,6 +9,7 @@ use lib.ListN.{length, take}
 use Rattle.field.proofs.Table.{lent-length}
 use Rattle.plans.specs.Plan.{planOf}
 use Rattle.plans.proofs.Plans.{levels-most}
+use Rattle.plans.proofs.Sizes.{checks-length}
 use Rattle.tables.specs.Tables.{Lent}
 use Rattle.tables.proofs.Numbers.{checks-long, tables-lent}
 use Rattle.steps.proofs.Sound.{sound-of, ready-of}
@@ -90,7 +91,7 @@ slice-aggregate-put-checks : tie.Need-slice-aggregate-put-checks Inv-loop μ-loo
 slice-aggregate-put-checks c = search needs
 
 put-checks-requires : tie.Need-put-checks-requires Inv-loop μ-loop
-put-checks-requires c κs = search needs
+put-checks-requires c κs = checks-length _
 
 array-share-prefix-products : tie.Need-array-share-prefix-products Inv-loop μ-loop
 array-share-prefix-products c = search needs

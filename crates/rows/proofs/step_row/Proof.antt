@@ -12,6 +12,7 @@ use Rattle.plans.specs.Plan.{planOf, marksAt}
 use Rattle.plans.specs.declared.Bench.{Bench}
 use Rattle.plans.proofs.Plans.{rows-most}
 use Rattle.plans.proofs.Rows.{row-end}
+use Rattle.plans.proofs.Sizes.{checks-length}
 use Rattle.steps.specs.Steps.{stepped, rowFill}
 use Rattle.steps.specs.Parts.{benchOf}
 use Rattle.steps.proofs.Fit.{BenchFit, fit-sums}
@@ -82,7 +83,7 @@ slice-aggregate-put-checks : tie.Need-slice-aggregate-put-checks
 slice-aggregate-put-checks c = search needs
 
 put-checks-requires : tie.Need-put-checks-requires
-put-checks-requires c κs = search needs
+put-checks-requires c κs = checks-length _
 
 array-share-prefix-products : tie.Need-array-share-prefix-products
 array-share-prefix-products c = search needs

@@ -1,8 +1,9 @@
 -- Each plan's numbers are its table's, one test for each, and `put` writes them; without a plan nothing is written. Assumes nothing.
 use mathlib.Core.Path.{_≡_, refl, sym, subst}
 use mathlib.Core.List.{List, flatMap}
-use Prim.Native.Nat.{ℕ, zero-le}
+use Prim.Native.Nat.{ℕ, _≤_, zero-le}
 use borrow.Author.Needs.{needs}
+use lib.ListN.{length}
 use Rattle.field.specs.Lists.{upFrom}
 use Rattle.field.specs.Field.{_⊕_, size, double, times, mul, gf16, gf32}
 use Rattle.field.specs.Power.{power}
@@ -23,23 +24,30 @@ unfolding flatMap noPlan checksTo checkTable
 puts-none {old = old} e =
     subst (λ (P : Plan). Put old 0 (checkTable P) 0 old) (sym e) (record { reached = refl; inside = zero-le; written = refl })
 
+-- and what has room for the plan's table has room for the number's
+fits-at : {p k n : ℕ} → p ≡ k → length (checkTable (planOf p)) ≤ n → length (checkTable (planOf k)) ≤ n
+fits-at {n = n} e = subst (λ p. length (checkTable (planOf p)) ≤ n) e
+
 slice-aggregate-put : tie.Need-slice-aggregate-put
 slice-aggregate-put c = search needs
 
 put-requires : tie.Need-put-requires
-put-requires c κs = search needs
+unfolding upFrom flatMap allOnes bitChecks locations1 plan1 planOf checksTo checkTable
+put-requires c κs = fits-at (c .before .before .match .keys1) (c .before .before .before .before .pre)
 
 slice-aggregate-put-2 : tie.Need-slice-aggregate-put-2
 slice-aggregate-put-2 c = search needs
 
 put-requires-2 : tie.Need-put-requires-2
-put-requires-2 c κs = search needs
+unfolding upFrom flatMap allOnes bitChecks locations2 powers2 plan2 planOf checksTo checkTable
+put-requires-2 c κs = fits-at (c .before .before .match .keys2) (c .before .before .before .before .pre)
 
 slice-aggregate-put-3 : tie.Need-slice-aggregate-put-3
 slice-aggregate-put-3 c = search needs
 
 put-requires-3 : tie.Need-put-requires-3
-put-requires-3 c κs = search needs
+unfolding upFrom flatMap locations3 powers3 plan3 planOf checksTo checkTable
+put-requires-3 c κs = fits-at (c .before .before .match .keys3) (c .before .before .before .before .pre)
 
 same-length : tie.Need-same-length
 same-length c = search needs

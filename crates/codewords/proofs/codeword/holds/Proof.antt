@@ -3,6 +3,7 @@ use mathlib.Core.Path.{sym}
 use borrow.Author.Needs.{needs}
 use Rattle.field.proofs.Table.{lent-length}
 use Rattle.tables.proofs.Numbers.{checks-long, tables-lent}
+use Rattle.plans.proofs.Sizes.{checks-length}
 use Rattle.codewords.proofs.codeword.holds.Statement.{statement}
 use Rattle.codewords.proofs.codeword.holds.Tie as tie
 
@@ -23,7 +24,7 @@ slice-aggregate-put-checks : tie.Need-slice-aggregate-put-checks
 slice-aggregate-put-checks c = search needs
 
 put-checks-requires : tie.Need-put-checks-requires
-put-checks-requires c κs = search needs
+put-checks-requires c κs = checks-length _
 
 array-share-prefix-table : tie.Need-array-share-prefix-table
 array-share-prefix-table c = search needs
