@@ -2,13 +2,18 @@
 
 use std::ops::RangeInclusive;
 
-pub const ROWS: usize = 8;
-pub const COLUMNS: usize = 32;
-pub const SYMBOLS: usize = 256;
-pub const SUMS: usize = 16;
+pub const ROWS: usize = 12;
+pub const COLUMNS: usize = 64;
+pub const SYMBOLS: usize = 512;
+pub const SUMS: usize = 19;
 pub const TOTALS: usize = 2;
-/// Bytes of a bench.
-pub const BENCH: usize = 418;
+/// Bytes of a bench, and where its symbols, its mark words and its learned sums begin.
+pub const BENCH: usize = 838;
+pub const SYMBOLS_AT: usize = 2;
+pub const MARKS_AT: usize = 514;
+pub const SUMS_AT: usize = 610;
+/// Bytes of a mark word in a bench.
+pub const WORD: usize = 8;
 
 pub const RESTORED: usize = 0;
 pub const STUCK: usize = 1;
@@ -43,17 +48,30 @@ pub const fn times32(x: u8, y: u8) -> u8 {
     product(x, y, 0b00101, 5)
 }
 
-/// The location of a column: a^c, in plan 2 with 0 for the last column, in plan 1 the number c + 1.
+pub const fn times64(x: u8, y: u8) -> u8 {
+    product(x, y, 0b000011, 6)
+}
+
+/// The product of two locations of a plan.
+pub const fn times_located(plan: usize, x: u8, y: u8) -> u8 {
+    match plan {
+        2 => times32(x, y),
+        5 => times64(x, y),
+        _ => times16(x, y),
+    }
+}
+
+/// The location of a column: a^c, in plans 2 and 5 with 0 for the last column, in plan 1 the number c + 1.
 pub const fn location(plan: usize, column: usize) -> u8 {
     if plan == 1 {
         return column as u8 + 1;
     }
-    if plan == 2 && column == 31 {
+    if plan == 2 && column == 31 || plan == 5 && column == 63 {
         return 0;
     }
     let (mut power, mut exponent) = (1, 0);
     while exponent < column {
-        power = if plan == 2 { times32(power, 2) } else { times16(power, 2) };
+        power = times_located(plan, power, 2);
         exponent += 1;
     }
     power
@@ -100,7 +118,7 @@ pub struct Plan {
     /// The number of totals of each level, and their weights.
     pub totals: [usize; 4],
     pub weights: [[[u8; ROWS]; TOTALS]; 4],
-    pub check_places: [u32; ROWS],
+    pub check_places: [u64; ROWS],
 }
 
 const ONES: [u8; ROWS] = [1; ROWS];
@@ -115,7 +133,12 @@ pub const POWERS: [u8; ROWS] = {
     powers
 };
 
-static PLANS: [Plan; 3] = [
+/// The check places of eight rows: the same in seven of them.
+const fn places(first: u64, last: u64) -> [u64; ROWS] {
+    [first, first, first, first, first, first, first, last, 0, 0, 0, 0]
+}
+
+static PLANS: [Plan; 4] = [
     Plan {
         number: 1,
         q: 2,
@@ -126,7 +149,7 @@ static PLANS: [Plan; 3] = [
         sums_to: [0, 1, 4, 4],
         totals: [0, 0, 1, 0],
         weights: [[ONES; 2]; 4],
-        check_places: [1 << 6, 1 << 6, 0b1110100, 0, 0, 0, 0, 0],
+        check_places: [1 << 6, 1 << 6, 0b1110100, 0, 0, 0, 0, 0, 0, 0, 0, 0],
     },
     Plan {
         number: 2,
@@ -138,11 +161,7 @@ static PLANS: [Plan; 3] = [
         sums_to: [0, 6, 11, 16],
         totals: [0, 0, 1, 1],
         weights: [[ONES; 2]; 4],
-        check_places: {
-            let mut places = [1 << 31 | 0x1f; ROWS];
-            places[7] = 1 << 31 | 0x7fff;
-            places
-        },
+        check_places: places(1 << 31 | 0x1f, 1 << 31 | 0x7fff),
     },
     Plan {
         number: 3,
@@ -154,13 +173,25 @@ static PLANS: [Plan; 3] = [
         sums_to: [0, 2, 3, 7],
         totals: [0, 0, 2, 1],
         weights: [[ONES; 2], [ONES; 2], [ONES, POWERS], [ONES; 2]],
-        check_places: [0x6000, 0x6000, 0x6000, 0x6000, 0x6000, 0x6000, 0x7000, 0x7f00],
+        check_places: [0x6000, 0x6000, 0x6000, 0x6000, 0x6000, 0x6000, 0x7000, 0x7f00, 0, 0, 0, 0],
+    },
+    Plan {
+        number: 5,
+        q: 2,
+        rows: 8,
+        columns: 64,
+        levels: 3,
+        carried: 444,
+        sums_to: [0, 7, 13, 19],
+        totals: [0, 0, 1, 1],
+        weights: [[ONES; 2]; 4],
+        check_places: places(1 << 63 | 0x3f, 1 << 63 | 0x3ffff),
     },
 ];
 
 impl Plan {
     pub fn numbered(number: usize) -> Result<&'static Plan, usize> {
-        PLANS.get(number.wrapping_sub(1)).ok_or(10)
+        PLANS.iter().find(|plan| plan.number == number).ok_or(10)
     }
 
     pub fn symbols(&self) -> usize {
@@ -175,14 +206,14 @@ pub fn all_below(q: u8, symbols: &[u8]) -> bool {
 }
 
 /// Refusals 12 and 13.
-pub fn test(plan: &Plan, stripe: &[u8], marks: &[u32]) -> Result<(), usize> {
-    if plan.columns < 32 && marks.iter().any(|word| word >> plan.columns != 0) {
+pub fn test(plan: &Plan, stripe: &[u8], marks: &[u64]) -> Result<(), usize> {
+    if plan.columns < COLUMNS && marks.iter().any(|word| word >> plan.columns != 0) {
         return Err(12);
     }
     if all_below(plan.q, stripe) {
         return Ok(());
     }
-    let fits = |(row, &word): (&[u8], &u32)| {
+    let fits = |(row, &word): (&[u8], &u64)| {
         row.iter().enumerate().all(|(column, &symbol)| symbol < plan.q || word >> column & 1 == 1)
     };
     match stripe.chunks_exact(plan.columns).zip(marks).all(fits) {
@@ -192,7 +223,7 @@ pub fn test(plan: &Plan, stripe: &[u8], marks: &[u32]) -> Result<(), usize> {
 }
 
 /// Refusals 10 to 13 of a call that is lent a stripe and its marks.
-pub fn lent(plan: usize, stripe: &[u8], marks: &[u32], rest_fits: impl Fn(&Plan) -> bool) -> Result<&'static Plan, usize> {
+pub fn lent(plan: usize, stripe: &[u8], marks: &[u64], rest_fits: impl Fn(&Plan) -> bool) -> Result<&'static Plan, usize> {
     let plan = Plan::numbered(plan)?;
     if stripe.len() != plan.symbols() || marks.len() != plan.rows || !rest_fits(plan) {
         return Err(11);
@@ -254,17 +285,24 @@ fn add<const CELLS: usize>(q: u8, factor: u8, row: &[u8; CELLS], other: &mut [u8
 
 // ---- the bench
 
+/// The number of at most eight bytes, low byte first.
+pub fn number(bytes: &[u8]) -> u64 {
+    let mut eight = [0; 8];
+    eight[..bytes.len()].copy_from_slice(bytes);
+    u64::from_le_bytes(eight)
+}
+
 pub struct Bench {
     pub plan: &'static Plan,
     pub level: usize,
     pub symbols: [u8; SYMBOLS],
-    pub marks: [u32; ROWS],
+    pub marks: [u64; ROWS],
     /// The learned sums.
     pub sums: [[u8; SUMS]; ROWS],
 }
 
 impl Bench {
-    pub fn new(plan: &'static Plan, stripe: &[u8], marks: &[u32]) -> Bench {
+    pub fn new(plan: &'static Plan, stripe: &[u8], marks: &[u64]) -> Bench {
         let mut bench = Bench { plan, level: 1, symbols: [0; SYMBOLS], marks: [0; ROWS], sums: [[0; SUMS]; ROWS] };
         bench.symbols[..stripe.len()].copy_from_slice(stripe);
         bench.marks[..marks.len()].copy_from_slice(marks);
@@ -281,14 +319,14 @@ impl Bench {
             return Err(15);
         }
         let mut marks = [0; ROWS];
-        for (word, four) in marks[..plan.rows].iter_mut().zip(bytes[258..290].chunks_exact(4)) {
-            *word = u32::from_le_bytes([four[0], four[1], four[2], four[3]]);
+        for (word, bytes) in marks[..plan.rows].iter_mut().zip(bytes[MARKS_AT..SUMS_AT].chunks_exact(WORD)) {
+            *word = number(bytes);
         }
-        let stripe = &bytes[2..2 + plan.symbols()];
+        let stripe = &bytes[SYMBOLS_AT..][..plan.symbols()];
         test(plan, stripe, &marks[..plan.rows])?;
         let mut bench = Bench::new(plan, stripe, &marks[..plan.rows]);
         bench.level = level;
-        for (row, sums) in bench.sums[..plan.rows].iter_mut().zip(bytes[290..].chunks_exact(SUMS)) {
+        for (row, sums) in bench.sums[..plan.rows].iter_mut().zip(bytes[SUMS_AT..].chunks_exact(SUMS)) {
             row.copy_from_slice(sums);
         }
         match bench.sums[..plan.rows].iter().all(|sums| all_below(plan.q, &sums[..plan.sums_to[level]])) {

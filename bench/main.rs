@@ -6,6 +6,7 @@
 
 use outside::chance::Chance;
 use outside::damage::{self, Content, Marks};
+use outside::oracle::answers::{BENCH_LENGTH, REPORT_LENGTH};
 use outside::oracle::{self, Plan};
 use std::hint::black_box;
 use std::time::{Duration, Instant};
@@ -23,7 +24,7 @@ struct Side {
     is_codeword: fn(usize, &[u8]) -> usize,
     is_interleaved: fn(&[u8]) -> usize,
     encode: fn(usize, &[u8], &mut [u8]) -> usize,
-    mend: fn(usize, &mut [u8], &mut [u32], &mut [u8]) -> usize,
+    mend: fn(usize, &mut [u8], &mut [u64], &mut [u8]) -> usize,
     row_step: fn(&mut [u8], usize) -> usize,
 }
 
@@ -91,7 +92,7 @@ struct Pool {
     data: Vec<u8>,
     stripes: Vec<u8>,
     copies: Vec<u8>,
-    marks: Vec<u32>,
+    marks: Vec<u64>,
     reports: Vec<u8>,
     benches: Vec<u8>,
     rows: Vec<usize>,
@@ -109,14 +110,14 @@ impl Pool {
             stripes: Vec::new(),
             copies: vec![0; POOL * plan.symbols()],
             marks: Vec::new(),
-            reports: vec![0; POOL * 8],
+            reports: vec![0; POOL * REPORT_LENGTH],
             benches: Vec::new(),
             rows: Vec::new(),
         };
         for _ in 0..POOL {
             let word = damage::stripe(plan, Content::Codeword, chance);
             let marks = damage::marks(plan, kind, chance);
-            let (mut data, mut bench) = (vec![0; plan.carried()], vec![0; 418]);
+            let (mut data, mut bench) = (vec![0; plan.carried()], vec![0; BENCH_LENGTH]);
             oracle::extract(plan.number, &word, &mut data);
             let stripe = damage::zero_under_marks(plan, &word, &marks);
             oracle::start(plan.number, &stripe, &marks, &mut bench);
@@ -154,11 +155,12 @@ impl Pool {
                 data.zip(stripes).map(|(data, stripe)| (side.encode)(number, data, stripe)).sum()
             }
             Work::Mend(_) => {
-                let lent = stripes.zip(self.marks.chunks_exact_mut(plan.rows)).zip(self.reports.chunks_exact_mut(8));
+                let lent =
+                    stripes.zip(self.marks.chunks_exact_mut(plan.rows)).zip(self.reports.chunks_exact_mut(REPORT_LENGTH));
                 lent.map(|((stripe, marks), report)| (side.mend)(number, stripe, marks, report)).sum()
             }
             Work::RowStep => {
-                let benches = self.benches.chunks_exact_mut(418).zip(&self.rows);
+                let benches = self.benches.chunks_exact_mut(BENCH_LENGTH).zip(&self.rows);
                 benches.map(|(bench, &row)| (side.row_step)(bench, row)).sum()
             }
         }
@@ -220,6 +222,46 @@ fn timed(plan: &Plan, work: Work, start: &Pool) -> Times {
     Times { library: median(library), plain: median(plain), packed: median(packed), ratio: median(ratios) }
 }
 
+/// The work of which plan 5 may take at most so many times as long as plan 2.
+const MOST_OF_PLAN_2: f64 = 2.5;
+const BESIDE_PLAN_2: [(&str, Work); 3] = [
+    ("mending, no marks", Work::Mend(Marks::None)),
+    ("mending, one mark", Work::Mend(Marks::One)),
+    ("mending, d - 1 marks anywhere", Work::Mend(Marks::BelowDistance)),
+];
+
+/// Passes of plans 2 and 5 in turn, by one side: the median times, and the median of the ratios of passes beside each other.
+fn beside_plan_2(work: Work, side: Side) -> (f64, f64, f64) {
+    let plans = [2, 5].map(|number| Plan::numbered(number).expect("a plan"));
+    let starts = plans.map(|plan| Pool::new(plan, work, &mut Chance::seeded(122)));
+    let mut pools = starts.clone();
+    let mut times = [Vec::new(), Vec::new()];
+    let begun = Instant::now();
+    while times[0].len() < LEAST_PASSES || begun.elapsed() < TIME_ENOUGH && times[0].len() < MOST_PASSES {
+        for n in 0..2 {
+            times[n].push(timed_pass(plans[n], work, side, &mut pools[n], &starts[n]));
+        }
+    }
+    let [second, fifth] = times;
+    let ratios = second.iter().zip(&fifth).map(|(second, fifth)| fifth / second).collect();
+    (median(second), median(fifth), median(ratios))
+}
+
+fn print_beside_plan_2() {
+    println!("\n| Side | Work | plan 2, ns | plan 5, ns | plan 5 / plan 2 |");
+    println!("|---|---|---:|---:|---:|");
+    let mut most = 0.0;
+    for (whose, side) in SIDES {
+        for (name, work) in BESIDE_PLAN_2 {
+            let (second, fifth, ratio) = beside_plan_2(work, side);
+            println!("| {whose} | {name} | {second:.1} | {fifth:.1} | {ratio:.2} |");
+            most = if whose == SIDES[0].0 { ratio.max(most) } else { most };
+        }
+    }
+    let verdict = if most <= MOST_OF_PLAN_2 { "within" } else { "ABOVE" };
+    println!("\nPlan 5 takes the library at most {most:.2} times as long as plan 2: {verdict} the {MOST_OF_PLAN_2} that are allowed.");
+}
+
 fn main() {
     let mut slowest = (0.0, String::new());
     println!("| Plan | Work | library, ns | plain, ns | library / plain | packed, ns |");
@@ -249,4 +291,5 @@ fn main() {
         }
     }
     println!("\nThe slowest ratio is {:.2}: {}.", slowest.0, slowest.1);
+    print_beside_plan_2();
 }

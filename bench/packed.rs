@@ -15,17 +15,31 @@ use std::sync::LazyLock;
 type Shares = [[u32; 16]; COLUMNS];
 
 /// What a symbol in a column adds to its row's packed sums.
-static SHARES: [Shares; 3] = [binary_shares(1), binary_shares(2), nibble_shares()];
+static SHARES_1: Shares = located_shares();
+static SHARES_2: Shares = power_shares(2, 5);
+static SHARES_3: Shares = nibble_shares();
+static SHARES_5: Shares = power_shares(5, 6);
 
-const fn binary_shares(plan: usize) -> Shares {
+const fn located_shares() -> Shares {
     let mut shares = [[0; 16]; COLUMNS];
     let mut column = 0;
-    while column < if plan == 1 { 7 } else { 32 } {
+    while column < 7 {
+        shares[column][1] = 1 | (location(1, column) as u32) << 1;
+        column += 1;
+    }
+    shares
+}
+
+/// Plans 2 and 5, whose locations have 5 and 6 bits.
+const fn power_shares(plan: usize, width: usize) -> Shares {
+    let mut shares = [[0; 16]; COLUMNS];
+    let mut column = 0;
+    while column < 1 << width {
         let at = location(plan, column);
-        let square = times32(at, at);
-        let cube = times32(square, at);
-        let powers = if plan == 1 { 0 } else { (cube as u32) << 6 | (times32(cube, square) as u32) << 11 };
-        shares[column][1] = 1 | (at as u32) << 1 | powers;
+        let square = times_located(plan, at, at);
+        let cube = times_located(plan, square, at);
+        let fifth = times_located(plan, cube, square);
+        shares[column][1] = 1 | (at as u32) << 1 | (cube as u32) << (1 + width) | (fifth as u32) << (1 + 2 * width);
         column += 1;
     }
     shares
@@ -61,7 +75,12 @@ impl Plan {
     }
 
     fn shares(&self) -> &'static Shares {
-        &SHARES[self.number - 1]
+        match self.number {
+            1 => &SHARES_1,
+            2 => &SHARES_2,
+            3 => &SHARES_3,
+            _ => &SHARES_5,
+        }
     }
 
     /// The bits of the packed sums of levels 1 to a level.
@@ -79,7 +98,7 @@ impl Plan {
     }
 
     /// The packed sums of the unmarked symbols of a row.
-    fn row_sums(&self, row: &[u8], word: u32) -> u32 {
+    fn row_sums(&self, row: &[u8], word: u64) -> u32 {
         let shares = self.shares().iter().zip(row);
         if word == 0 {
             return shares.fold(0, |sums, (share, &symbol)| sums ^ share[symbol as usize & 15]);
@@ -90,19 +109,19 @@ impl Plan {
 }
 
 /// The marked columns, ascending.
-fn columns_of(word: u32) -> impl Iterator<Item = usize> {
+fn columns_of(word: u64) -> impl Iterator<Item = usize> {
     let mut rest = word;
     std::iter::from_fn(move || {
         let column = rest.trailing_zeros() as usize;
         rest &= rest.wrapping_sub(1);
-        (column < 32).then_some(column)
+        (column < COLUMNS).then_some(column)
     })
 }
 
 // ---- steps
 
 /// Fills the marked columns of a row, of whose sums up to a level the packed ones are missing.
-fn fill_row(plan: &Plan, level: usize, row: &mut [u8], word: u32, missing: u32) -> usize {
+fn fill_row(plan: &Plan, level: usize, row: &mut [u8], word: u64, missing: u32) -> usize {
     if word == 0 {
         return if missing == 0 { WHOLE } else { CLASH };
     }
@@ -112,20 +131,29 @@ fn fill_row(plan: &Plan, level: usize, row: &mut [u8], word: u32, missing: u32) 
     }
 }
 
-/// Takes the kept vectors out of another. Its low half are packed sums, its high half says which columns it adds up; a kept
-/// vector stands at the place of its lowest sum.
-fn reduced(kept: &[u64], vector: u64) -> u64 {
-    kept.iter().enumerate().fold(vector, |left, (sum, own)| left ^ own & (left >> sum & 1).wrapping_neg())
+/// Packed sums, and which columns add up to them.
+#[derive(Clone, Copy, Default)]
+struct Vector {
+    sums: u32,
+    columns: u64,
 }
 
-fn fill_bits(plan: &Plan, level: usize, row: &mut [u8], word: u32, missing: u32) -> usize {
+/// Takes the kept vectors out of another. A kept vector stands at the place of its lowest sum.
+fn reduced(kept: &[Vector], vector: Vector) -> Vector {
+    kept.iter().enumerate().fold(vector, |left, (sum, own)| {
+        let taken = (left.sums >> sum & 1).wrapping_neg();
+        Vector { sums: left.sums ^ own.sums & taken, columns: left.columns ^ own.columns & taken as i32 as u64 }
+    })
+}
+
+fn fill_bits(plan: &Plan, level: usize, row: &mut [u8], word: u64, missing: u32) -> usize {
     let (sums, count) = (plan.sums_to[level], word.count_ones() as usize);
-    let (mut kept, mut rank) = ([0; SUMS], 0);
+    let (mut kept, mut rank) = ([Vector::default(); SUMS], 0);
     for column in columns_of(word) {
         let shares = plan.shares()[column][1] & plan.mask(level);
-        let left = reduced(&kept[..sums], 1 << (32 + column) | shares as u64);
-        if left as u32 != 0 {
-            kept[left.trailing_zeros() as usize & 15] = left;
+        let left = reduced(&kept[..sums], Vector { sums: shares, columns: 1 << column });
+        if left.sums != 0 {
+            kept[left.sums.trailing_zeros() as usize] = left;
             rank += 1;
         }
         // every target is met, in more than one way
@@ -133,20 +161,20 @@ fn fill_bits(plan: &Plan, level: usize, row: &mut [u8], word: u32, missing: u32)
             return TIED;
         }
     }
-    let left = reduced(&kept[..sums], missing as u64);
-    if left as u32 != 0 {
+    let left = reduced(&kept[..sums], Vector { sums: missing, columns: 0 });
+    if left.sums != 0 {
         return CLASH;
     }
     if rank < count {
         return TIED;
     }
     for column in columns_of(word) {
-        row[column] = (left >> (32 + column)) as u8 & 1;
+        row[column] = (left.columns >> column) as u8 & 1;
     }
     FILLED
 }
 
-fn fill_nibbles(plan: &Plan, level: usize, row: &mut [u8], word: u32, missing: u32) -> usize {
+fn fill_nibbles(plan: &Plan, level: usize, row: &mut [u8], word: u64, missing: u32) -> usize {
     let (sums, count) = (plan.sums_to[level], word.count_ones() as usize);
     // power sums of different locations: with more marks than sums every target is met, in more than one way
     if count > sums {
@@ -181,12 +209,12 @@ pub fn row_step(bench: &mut [u8], row: usize) -> usize {
         return 14;
     }
     let (word, level) = (held.marks[row], held.level);
-    let symbols = &mut bench[2 + row * plan.columns..][..plan.columns];
+    let symbols = &mut bench[SYMBOLS_AT + row * plan.columns..][..plan.columns];
     let known = plan.row_sums(symbols, word) & plan.mask(level);
     let missing = known ^ plan.packed(&held.sums[row][..plan.sums_to[level]]);
     let answer = fill_row(plan, level, symbols, word, missing);
     if answer == FILLED {
-        bench[258 + 4 * row..][..4].fill(0);
+        bench[MARKS_AT + WORD * row..][..WORD].fill(0);
     }
     answer
 }
@@ -199,7 +227,7 @@ struct Packed {
 }
 
 impl Packed {
-    fn new(plan: &'static Plan, stripe: &[u8], marks: &[u32]) -> Packed {
+    fn new(plan: &'static Plan, stripe: &[u8], marks: &[u64]) -> Packed {
         let mut known = [0; ROWS];
         for (sums, (row, &word)) in known.iter_mut().zip(stripe.chunks_exact(plan.columns).zip(marks)) {
             *sums = plan.row_sums(row, word);
@@ -287,7 +315,7 @@ impl Packed {
     }
 }
 
-pub fn mend(plan: usize, stripe: &mut [u8], marks: &mut [u32], report: &mut [u8]) -> usize {
+pub fn mend(plan: usize, stripe: &mut [u8], marks: &mut [u64], report: &mut [u8]) -> usize {
     let fits = report.len() == 8;
     let plan = match lent(plan, stripe, marks, |_| fits) {
         Ok(plan) => plan,
@@ -343,7 +371,7 @@ pub fn is_interleaved(stripe: &[u8]) -> usize {
 /// For each row, sum and value: the packed check symbols that give the row this sum and no other.
 type Encoder = [[[u32; 16]; SUMS]; ROWS];
 
-static ENCODERS: LazyLock<[Encoder; 3]> = LazyLock::new(|| [1, 2, 3].map(encoder));
+static ENCODERS: LazyLock<[Encoder; 5]> = LazyLock::new(|| [1, 2, 3, 4, 5].map(encoder));
 
 fn encoder(number: usize) -> Encoder {
     let mut encoder = [[[0; 16]; SUMS]; ROWS];
@@ -366,7 +394,7 @@ fn encoder(number: usize) -> Encoder {
 }
 
 /// Writes a row's check symbols, such that its sums are the target as far as its check places decide them.
-fn encode_row(plan: &Plan, solutions: &[[u32; 16]; SUMS], word: u32, symbols: &mut [u8], target: u32) -> u32 {
+fn encode_row(plan: &Plan, solutions: &[[u32; 16]; SUMS], word: u64, symbols: &mut [u8], target: u32) -> u32 {
     let missing = plan.row_sums(symbols, 0) ^ target;
     let places = word.count_ones() as usize;
     let checks = (0..places).fold(0, |checks, sum| checks ^ solutions[sum][plan.unpacked(missing, sum) as usize & 15]);
@@ -381,7 +409,7 @@ fn target(plan: &Plan, row: usize, total: u32, second: u8) -> u32 {
     if row == plan.rows - 1 {
         return total;
     }
-    if plan.number < 3 || row < 6 {
+    if plan.q == 2 || row < 6 {
         return 0;
     }
     // Rows 6 and 7 share what the totals of level 2 leave: s6 + s7 = x and a^6 s6 + a^7 s7 = y, where a^6 + a^7 = a^10.

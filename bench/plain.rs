@@ -33,16 +33,18 @@ const fn checks_1() -> Checks {
     checks
 }
 
-const fn checks_2() -> Checks {
+/// Plans 2 and 5, whose locations have 5 and 6 bits: parity, and the bits of the locations, of their cubes and of their fifth powers.
+const fn power_checks(plan: usize, width: usize) -> Checks {
     let mut checks = [[0; COLUMNS]; SUMS];
     let mut column = 0;
-    while column < 32 {
-        let at = location(2, column);
-        let cube = times32(times32(at, at), at);
+    while column < 1 << width {
+        let at = location(plan, column);
+        let square = times_located(plan, at, at);
+        let cube = times_located(plan, square, at);
         checks[0][column] = 1;
-        write_bits(&mut checks, 1, column, at, 5);
-        write_bits(&mut checks, 6, column, cube, 5);
-        write_bits(&mut checks, 11, column, times32(times32(cube, at), at), 5);
+        write_bits(&mut checks, 1, column, at, width);
+        write_bits(&mut checks, 1 + width, column, cube, width);
+        write_bits(&mut checks, 1 + 2 * width, column, times_located(plan, cube, square), width);
         column += 1;
     }
     checks
@@ -63,12 +65,29 @@ const fn checks_3() -> Checks {
     checks
 }
 
-static CHECKS: [Checks; 3] = [checks_1(), checks_2(), checks_3()];
+static CHECKS_1: Checks = checks_1();
+static CHECKS_2: Checks = power_checks(2, 5);
+static CHECKS_3: Checks = checks_3();
+static CHECKS_5: Checks = power_checks(5, 6);
 
 impl Plan {
     /// The row checks of all levels. Those of a level are the ones from the level below's `sums_to` on.
     fn checks(&self) -> &'static Checks {
-        &CHECKS[self.number - 1]
+        match self.number {
+            1 => &CHECKS_1,
+            2 => &CHECKS_2,
+            3 => &CHECKS_3,
+            _ => &CHECKS_5,
+        }
+    }
+
+    /// The bytes of a mark word in a file.
+    fn word_bytes(&self) -> usize {
+        if self.columns > 32 {
+            8
+        } else {
+            4
+        }
     }
 }
 
@@ -82,13 +101,13 @@ fn sum(q: u8, check: &[u8], symbols: &[u8]) -> u8 {
 }
 
 /// Fills the marked places of a vector so that its sums under the checks are the target, where one filling alone does so.
-/// An equation has a cell for each place and one for what the target leaves: CELLS is N + 1.
+/// An equation has a cell for each marked place, of which there are fewer than CELLS, and one for what the target leaves.
 fn fill<const N: usize, const CELLS: usize>(
     q: u8,
     checks: &[[u8; N]],
     target: &[u8],
     vector: &mut [u8],
-    marks: u32,
+    marks: u64,
 ) -> Solved {
     if marks == 0 {
         return match checks.iter().zip(target).all(|(check, &wanted)| sum(q, check, vector) == wanted) {
@@ -135,7 +154,12 @@ impl Bench {
         }
         let symbols = &mut self.symbols[row * plan.columns..][..plan.columns];
         let (checks, target) = (&plan.checks()[..sums], &self.sums[row][..sums]);
-        match fill::<COLUMNS, { COLUMNS + 1 }>(plan.q, checks, target, symbols, word) {
+        let filled = match word.count_ones() {
+            // rooms for few marks are cleared and added in less time
+            0..=32 => fill::<COLUMNS, 33>(plan.q, checks, target, symbols, word),
+            _ => fill::<COLUMNS, { COLUMNS + 1 }>(plan.q, checks, target, symbols, word),
+        };
+        match filled {
             Solved::None => CLASH,
             Solved::Many => TIED,
             Solved::One if word == 0 => WHOLE,
@@ -153,7 +177,7 @@ impl Bench {
         }
         let next = self.level + 1;
         let weights = &plan.weights[next][..plan.totals[next]];
-        let lossy = (0..plan.rows).filter(|&row| self.marks[row] != 0).fold(0u32, |rows, row| rows | 1 << row);
+        let lossy = (0..plan.rows).filter(|&row| self.marks[row] != 0).fold(0u64, |rows, row| rows | 1 << row);
         // any as many weight columns as there are totals are independent: more of them meet every target, in more than one
         // way, and fewer meet one in one way at most
         if lossy.count_ones() as usize > weights.len() {
@@ -200,7 +224,7 @@ impl Bench {
     }
 }
 
-pub fn start(plan: usize, stripe: &[u8], marks: &[u32], bench: &mut [u8]) -> usize {
+pub fn start(plan: usize, stripe: &[u8], marks: &[u64], bench: &mut [u8]) -> usize {
     let fits = bench.len() == BENCH;
     let refused = lent(plan, stripe, marks, |_| fits).err();
     if fits {
@@ -211,9 +235,9 @@ pub fn start(plan: usize, stripe: &[u8], marks: &[u32], bench: &mut [u8]) -> usi
     }
     bench[0] = plan as u8;
     bench[1] = 1;
-    bench[2..2 + stripe.len()].copy_from_slice(stripe);
-    for (four, word) in bench[258..290].chunks_exact_mut(4).zip(marks) {
-        four.copy_from_slice(&word.to_le_bytes());
+    bench[SYMBOLS_AT..][..stripe.len()].copy_from_slice(stripe);
+    for (bytes, word) in bench[MARKS_AT..SUMS_AT].chunks_exact_mut(WORD).zip(marks) {
+        bytes.copy_from_slice(&word.to_le_bytes());
     }
     0
 }
@@ -229,8 +253,8 @@ pub fn row_step(bench: &mut [u8], row: usize) -> usize {
     let answer = held.row_step(row);
     if answer == FILLED {
         let columns = held.plan.columns;
-        bench[2 + row * columns..][..columns].copy_from_slice(&held.symbols[row * columns..][..columns]);
-        bench[258 + 4 * row..][..4].fill(0);
+        bench[SYMBOLS_AT + row * columns..][..columns].copy_from_slice(&held.symbols[row * columns..][..columns]);
+        bench[MARKS_AT + WORD * row..][..WORD].fill(0);
     }
     answer
 }
@@ -243,7 +267,7 @@ pub fn level_step(bench: &mut [u8]) -> usize {
     let answer = held.level_step();
     if answer == RAISED {
         bench[1] = held.level as u8;
-        for (row, sums) in bench[290..].chunks_exact_mut(SUMS).zip(held.sums).take(held.plan.rows) {
+        for (row, sums) in bench[SUMS_AT..].chunks_exact_mut(SUMS).zip(held.sums).take(held.plan.rows) {
             row.copy_from_slice(&sums);
         }
     }
@@ -252,7 +276,7 @@ pub fn level_step(bench: &mut [u8]) -> usize {
 
 // ---- mending and coding
 
-pub fn mend(plan: usize, stripe: &mut [u8], marks: &mut [u32], report: &mut [u8]) -> usize {
+pub fn mend(plan: usize, stripe: &mut [u8], marks: &mut [u64], report: &mut [u8]) -> usize {
     let fits = report.len() == 8;
     let plan = match lent(plan, stripe, marks, |_| fits) {
         Ok(plan) => plan,
@@ -303,7 +327,7 @@ pub fn is_codeword(plan: usize, stripe: &[u8]) -> usize {
 
 /// Whether the first power sums of a word of plan 3 are zero.
 fn in_code(sums: usize, word: &[u8]) -> bool {
-    CHECKS[2][..sums].iter().all(|check| sum(16, check, word) == 0)
+    CHECKS_3[..sums].iter().all(|check| sum(16, check, word) == 0)
 }
 
 /// Plan 3's codeword test in its interleaved form.
@@ -379,18 +403,23 @@ pub fn extract(plan: usize, stripe: &[u8], data: &mut [u8]) -> usize {
 
 // ---- the stripe file and its text
 
+fn symbols_offset(plan: &Plan) -> usize {
+    8 + plan.word_bytes() * plan.rows
+}
+
 fn file_length(plan: &Plan) -> usize {
-    8 + 4 * plan.rows + plan.symbols()
+    symbols_offset(plan) + plan.symbols()
 }
 
 fn header(plan: &Plan) -> [u8; 8] {
-    [plan.number as u8, plan.rows as u8, plan.columns as u8, 0, 8, 0, 8 + 4 * plan.rows as u8, 0]
+    let wide = plan.word_bytes() == WORD;
+    [plan.number as u8, plan.rows as u8, plan.columns as u8, wide as u8, 8, 0, symbols_offset(plan) as u8, 0]
 }
 
 fn open(
     file: &[u8],
     stripe: &mut [u8; SYMBOLS],
-    marks: &mut [u32; ROWS],
+    marks: &mut [u64; ROWS],
     fits: impl Fn(&Plan) -> bool,
 ) -> Result<&'static Plan, usize> {
     if file.len() < 8 {
@@ -406,9 +435,9 @@ fn open(
     if !fits(plan) {
         return Err(11);
     }
-    let (words, symbols) = file[8..].split_at(4 * plan.rows);
-    for (word, four) in marks.iter_mut().zip(words.chunks_exact(4)) {
-        *word = u32::from_le_bytes([four[0], four[1], four[2], four[3]]);
+    let (words, symbols) = file[8..].split_at(plan.word_bytes() * plan.rows);
+    for (word, bytes) in marks.iter_mut().zip(words.chunks_exact(plan.word_bytes())) {
+        *word = number(bytes);
     }
     test(plan, symbols, &marks[..plan.rows])?;
     let lost = |place: usize| marks[place / plan.columns] >> (place % plan.columns) & 1 == 1;
@@ -419,7 +448,7 @@ fn open(
     Ok(plan)
 }
 
-pub fn read_file(file: &[u8], stripe: &mut [u8], marks: &mut [u32]) -> usize {
+pub fn read_file(file: &[u8], stripe: &mut [u8], marks: &mut [u64]) -> usize {
     let (mut symbols, mut words) = ([0; SYMBOLS], [0; ROWS]);
     let fits = |plan: &Plan| stripe.len() == plan.symbols() && marks.len() == plan.rows;
     match open(file, &mut symbols, &mut words, fits) {
@@ -432,24 +461,24 @@ pub fn read_file(file: &[u8], stripe: &mut [u8], marks: &mut [u32]) -> usize {
     }
 }
 
-pub fn write_file(plan: usize, stripe: &[u8], marks: &[u32], file: &mut [u8]) -> usize {
+pub fn write_file(plan: usize, stripe: &[u8], marks: &[u64], file: &mut [u8]) -> usize {
     let length = file.len();
     let plan = match lent(plan, stripe, marks, |plan| length == file_length(plan)) {
         Ok(plan) => plan,
         Err(number) => return number,
     };
     file[..8].copy_from_slice(&header(plan));
-    for (four, word) in file[8..].chunks_exact_mut(4).zip(marks) {
-        four.copy_from_slice(&word.to_le_bytes());
+    for (bytes, word) in file[8..].chunks_exact_mut(plan.word_bytes()).zip(marks) {
+        bytes.copy_from_slice(&word.to_le_bytes()[..plan.word_bytes()]);
     }
-    for (place, byte) in file[8 + 4 * plan.rows..].iter_mut().enumerate() {
+    for (place, byte) in file[symbols_offset(plan)..].iter_mut().enumerate() {
         let lost = marks[place / plan.columns] >> (place % plan.columns) & 1 == 1;
         *byte = if lost { 0 } else { stripe[place] };
     }
     0
 }
 
-fn shown(plan: &Plan, answer: usize, report: &[u8; 8], stripe: &[u8], marks: &[u32]) -> String {
+fn shown(plan: &Plan, answer: usize, report: &[u8; 8], stripe: &[u8], marks: &[u64]) -> String {
     let number = plan.number;
     if answer == CLASH {
         let [.., place, row, level] = *report;
@@ -469,7 +498,7 @@ fn shown(plan: &Plan, answer: usize, report: &[u8; 8], stripe: &[u8], marks: &[u
 }
 
 pub fn text(file: &[u8], text: &mut [u8], length: &mut [u8]) -> usize {
-    if text.len() != 320 || length.len() != 2 {
+    if text.len() != 640 || length.len() != 2 {
         return 11;
     }
     let (mut symbols, mut words) = ([0; SYMBOLS], [0; ROWS]);

@@ -1,13 +1,14 @@
 /* The repair library for scripts: plain numbers and buffers that the caller lends.
  *
  * A stripe is rows (shelves) by columns (modules) of symbols, one byte each, row after row. Rows and columns count from 0. A row's
- * marks are one 32-bit word, bit c for column c; a set bit says that the symbol there is lost. The library finds lost symbols from
- * the others: first inside a row, then across rows. README.md tells it with a picture, and explains the words.
+ * marks are one 64-bit word, whatever the plan, bit c for column c; a set bit says that the symbol there is lost. The library finds
+ * lost symbols from the others: first inside a row, then across rows. README.md tells it with a picture, and explains the words.
  *
  * What a caller keeps to, and no call can test:
  *   - A buffer is a pointer and then its length in elements (bytes, or mark words). The length is true: so much can be read and,
  *     where the pointer is not const, written.
  *   - No pointer is null, not even with length 0, and two buffers of one call do not overlap.
+ *   - Mark words are uint64_t. Scripts written before plan 5 had words of 32 bits: README.md says what they must change.
  * All else is tested. Every call ends and answers, for any numbers, any bytes and any lengths; it keeps no buffer, allocates
  * nothing and prints nothing. Calls share nothing, so any number of them may run side by side, each on buffers of its own.
  *
@@ -31,6 +32,9 @@ extern "C" {
  *        1     3        7              2            21           3          15          41       2                    3
  *        2     8       32              2           256           8         198         296       3                    7
  *        3     8       15             16           120           8          98         160       3                    7
+ *        5     8       64              2           512           8         444         584       3                    7
+ *
+ * There is no plan 4: the number is refused by 10, like any other that is not in the table.
  */
 #define SHELF_PLAN_1_ROWS 3
 #define SHELF_PLAN_1_COLUMNS 7
@@ -59,10 +63,19 @@ extern "C" {
 #define SHELF_PLAN_3_FILE 160
 #define SHELF_PLAN_3_LEVELS 3
 
+#define SHELF_PLAN_5_ROWS 8
+#define SHELF_PLAN_5_COLUMNS 64
+#define SHELF_PLAN_5_BELOW 2
+#define SHELF_PLAN_5_STRIPE 512
+#define SHELF_PLAN_5_MARKS 8
+#define SHELF_PLAN_5_DATA 444
+#define SHELF_PLAN_5_FILE 584
+#define SHELF_PLAN_5_LEVELS 3
+
 /* Lengths of the buffers whose layout does not depend on the plan. */
-#define SHELF_BENCH 418
+#define SHELF_BENCH 838
 #define SHELF_REPORT 8
-#define SHELF_TEXT 320
+#define SHELF_TEXT 640
 #define SHELF_TEXT_SIZE 2
 
 /* ---- numbers that are returned ---- */
@@ -84,13 +97,13 @@ extern "C" {
  * for a file that is read in the order 20 (shorter than 8 bytes), 10, 21, 20 (of a wrong length), 11, 12, 13, 22. */
 #define SHELF_UNKNOWN_PLAN 10    /* there is no plan of this number */
 #define SHELF_WRONG_LENGTH 11    /* a buffer's length is not the plan's */
-#define SHELF_MARK_OUTSIDE 12    /* a mark at a column that the plan does not have */
+#define SHELF_MARK_OUTSIDE 12    /* a mark at a column that the plan does not have: any set bit from its columns on, up to bit 63 */
 #define SHELF_TOO_LARGE 13       /* an unmarked symbol, a data symbol, or a learned sum that is no symbol of the plan */
 #define SHELF_NO_SUCH_ROW 14     /* a row step on a row that the plan does not have */
 #define SHELF_NO_SUCH_LEVEL 15   /* a bench at no level of its plan */
 #define SHELF_NO_CODEWORD 16     /* extraction from a stripe that is not a codeword */
 #define SHELF_FILE_LENGTH 20     /* a file that is shorter than 8 bytes or not as long as its plan's */
-#define SHELF_FILE_HEADER 21     /* a file header that disagrees with its plan */
+#define SHELF_FILE_HEADER 21     /* a file header that disagrees with its plan, byte 3 too: the size of mark words */
 #define SHELF_FILE_NOT_BLANK 22  /* a file with a byte other than 0 under a mark */
 
 #define SHELF_IS_REFUSAL(number) ((number) >= 10)
@@ -115,7 +128,7 @@ extern "C" {
  * After Restored and Stuck bytes 5 to 7 are 0; after a Clash bytes 0 to 4 are, and byte 6 of a Clash across rows.
  * The wrong symbol of a Clash in a row at level 1 stands in that row. At a higher level the row's sums were learned from the other
  * rows, so it may stand in any of these too. */
-size_t shelf_mend(size_t plan, uint8_t *stripe, size_t stripe_length, uint32_t *marks, size_t marks_length,
+size_t shelf_mend(size_t plan, uint8_t *stripe, size_t stripe_length, uint64_t *marks, size_t marks_length,
                   uint8_t *report, size_t report_length);
 
 /* Whether a stripe is a codeword, that is, whether all its checks hold: 0 yes, 1 no; or refused by 10, 11 or 13. It takes no
@@ -139,12 +152,12 @@ size_t shelf_extract(size_t plan, const uint8_t *stripe, size_t stripe_length, u
 
 /* ---- mending step by step ----
  *
- * A bench is 418 bytes that the caller keeps and may copy, with one stripe at work:
+ * A bench is 838 bytes that the caller keeps and may copy, with one stripe at work. The layout is the same for every plan:
  *     0         plan
  *     1         level t: the checks of levels 1 to t are in use
- *     2..257    symbols, row after row; those beyond the plan's are not used
- *     258..289  eight mark words of 4 bytes, low byte first; those beyond the plan's rows are not used
- *     290..417  learned sums, row r's from 290 + 16 r on, in the order of the levels
+ *     2..513    symbols, row after row; those beyond the plan's are not used
+ *     514..609  twelve mark words of 8 bytes, low byte first: row r's from 514 + 8 r on; those beyond the plan's rows are not used
+ *     610..837  learned sums, row r's from 610 + 19 r on, in the order of the levels; those beyond the plan's are not used
  * A row's sums at a level are what its checks of that level add up to. At level 1 every row of a true stripe has sums 0. At a
  * higher level only the weighted totals over all rows are 0; a row's own sums must be learned there: a row without marks gives its
  * own, and those of rows with marks follow from the totals where few enough rows have marks. That is what a level step does. A row
@@ -155,7 +168,7 @@ size_t shelf_extract(size_t plan, const uint8_t *stripe, size_t stripe_length, u
 
 /* Starts a bench at level 1 with the stripe and the marks as they are, zeros elsewhere: 0; or refused by 10, 11, 12 or 13, with zeros
  * all over the bench. */
-size_t shelf_start(size_t plan, const uint8_t *stripe, size_t stripe_length, const uint32_t *marks, size_t marks_length,
+size_t shelf_start(size_t plan, const uint8_t *stripe, size_t stripe_length, const uint64_t *marks, size_t marks_length,
                    uint8_t *bench, size_t bench_length);
 
 /* The row step. Only Filled changes the bench.
@@ -176,18 +189,25 @@ size_t shelf_row_step(uint8_t *bench, size_t bench_length, size_t row);
  *     11, 10, 15, 12, 13   refused */
 size_t shelf_level_step(uint8_t *bench, size_t bench_length);
 
-/* ---- stripe files ---- */
+/* ---- stripe files ----
+ *
+ *     0     plan                                4, 5  where the marks start, low byte first: always 8
+ *     1, 2  rows, columns                       6, 7  where the symbols start, low byte first
+ *     3     0: mark words of 4 bytes (plans 1, 2 and 3); 1: of 8 bytes (plan 5)
+ *     8..   a mark word for each row, low byte first; behind them the symbols, row after row, 0 at each marked place
+ * The symbols start at 20, 40, 40 and 72 in files of plans 1, 2, 3 and 5. Files of plans 1, 2 and 3 are what they were before mark
+ * words in memory had 64 bits: every stored file is read as it was, and written with the same bytes. */
 
 /* Reads a stripe file's stripe and marks: 0; or refused by 10, 11, 12, 13, 20, 21 or 22. The file's first byte is its plan, and
- * the two buffers have that plan's lengths. */
+ * the two buffers have that plan's lengths. The marks are 64-bit words here too, whatever the size of the file's words. */
 size_t shelf_read_file(const uint8_t *file, size_t file_length, uint8_t *stripe, size_t stripe_length,
-                       uint32_t *marks, size_t marks_length);
+                       uint64_t *marks, size_t marks_length);
 
 /* Writes a stripe and its marks as a stripe file, with 0 at each marked place: 0; or refused by 10, 11, 12 or 13. */
-size_t shelf_write_file(size_t plan, const uint8_t *stripe, size_t stripe_length, const uint32_t *marks, size_t marks_length,
+size_t shelf_write_file(size_t plan, const uint8_t *stripe, size_t stripe_length, const uint64_t *marks, size_t marks_length,
                         uint8_t *file, size_t file_length);
 
-/* Writes what the program `mend` prints for a file of any bytes: into text, 320 bytes, with zeros behind it; and how many bytes
+/* Writes what the program `mend` prints for a file of any bytes: into text, 640 bytes, with zeros behind it; and how many bytes
  * it is into size, 2 bytes, low byte first. Returns 0, or 11 where one of these two buffers has another length.
  *
  * WARNING: 0 says that the text was written, and not that the stripe was restored. It is 0 for a file that is Stuck or a Clash,

@@ -7,7 +7,7 @@ use std::fmt;
 #[derive(Clone, PartialEq, Eq, Debug)]
 pub enum Buffer {
     Bytes(Vec<u8>),
-    Words(Vec<u32>),
+    Words(Vec<u64>),
 }
 
 impl Buffer {
@@ -18,7 +18,7 @@ impl Buffer {
         }
     }
 
-    pub fn words(&self) -> &[u32] {
+    pub fn words(&self) -> &[u64] {
         match self {
             Buffer::Words(words) => words,
             Buffer::Bytes(_) => panic!("the buffer holds bytes"),
@@ -33,7 +33,7 @@ impl Buffer {
         }
     }
 
-    fn lent_words(&mut self) -> &mut [u32] {
+    fn lent_words(&mut self) -> &mut [u64] {
         match self {
             Buffer::Words(words) => inner(words),
             Buffer::Bytes(_) => panic!("the buffer holds bytes"),
@@ -62,8 +62,8 @@ impl From<&[u8]> for Buffer {
     }
 }
 
-impl From<&[u32]> for Buffer {
-    fn from(words: &[u32]) -> Buffer {
+impl From<&[u64]> for Buffer {
+    fn from(words: &[u64]) -> Buffer {
         Buffer::Words(words.to_vec())
     }
 }
@@ -160,16 +160,16 @@ pub struct Outcome {
 /// One maker of answers.
 pub struct Side {
     pub name: &'static str,
-    start: fn(usize, &[u8], &[u32], &mut [u8]) -> usize,
+    start: fn(usize, &[u8], &[u64], &mut [u8]) -> usize,
     row_step: fn(&mut [u8], usize) -> usize,
     level_step: fn(&mut [u8]) -> usize,
-    mend: fn(usize, &mut [u8], &mut [u32], &mut [u8]) -> usize,
+    mend: fn(usize, &mut [u8], &mut [u64], &mut [u8]) -> usize,
     is_codeword: fn(usize, &[u8]) -> usize,
     is_interleaved: fn(&[u8]) -> usize,
     encode: fn(usize, &[u8], &mut [u8]) -> usize,
     extract: fn(usize, &[u8], &mut [u8]) -> usize,
-    read_file: fn(&[u8], &mut [u8], &mut [u32]) -> usize,
-    write_file: fn(usize, &[u8], &[u32], &mut [u8]) -> usize,
+    read_file: fn(&[u8], &mut [u8], &mut [u64]) -> usize,
+    write_file: fn(usize, &[u8], &[u64], &mut [u8]) -> usize,
     text: fn(&[u8], &mut [u8], &mut [u8]) -> usize,
 }
 
@@ -206,7 +206,7 @@ pub const ORACLE: Side = Side {
 /// Elements on either side of a lent buffer, which no call may touch.
 const GUARD: usize = 16;
 const GUARD_BYTE: u8 = 0xa5;
-const GUARD_WORD: u32 = 0xa5c3_965a;
+const GUARD_WORD: u64 = 0xa5c3_965a_3c69_5aa5;
 
 fn guarded<T: Copy>(content: &[T], guard: T) -> Vec<T> {
     [vec![guard; GUARD], content.to_vec(), vec![guard; GUARD]].concat()
@@ -224,7 +224,7 @@ fn inner<T>(buffer: &mut [T]) -> &mut [T] {
 }
 
 impl Call {
-    pub fn start(plan: usize, stripe: &[u8], marks: &[u32], bench: &[u8]) -> Call {
+    pub fn start(plan: usize, stripe: &[u8], marks: &[u64], bench: &[u8]) -> Call {
         Call { function: Function::Start, number: plan, buffers: vec![stripe.into(), marks.into(), bench.into()] }
     }
 
@@ -236,7 +236,7 @@ impl Call {
         Call { function: Function::LevelStep, number: 0, buffers: vec![bench.into()] }
     }
 
-    pub fn mend(plan: usize, stripe: &[u8], marks: &[u32], report: &[u8]) -> Call {
+    pub fn mend(plan: usize, stripe: &[u8], marks: &[u64], report: &[u8]) -> Call {
         Call { function: Function::Mend, number: plan, buffers: vec![stripe.into(), marks.into(), report.into()] }
     }
 
@@ -256,11 +256,11 @@ impl Call {
         Call { function: Function::Extract, number: plan, buffers: vec![stripe.into(), data.into()] }
     }
 
-    pub fn read_file(file: &[u8], stripe: &[u8], marks: &[u32]) -> Call {
+    pub fn read_file(file: &[u8], stripe: &[u8], marks: &[u64]) -> Call {
         Call { function: Function::ReadFile, number: 0, buffers: vec![file.into(), stripe.into(), marks.into()] }
     }
 
-    pub fn write_file(plan: usize, stripe: &[u8], marks: &[u32], file: &[u8]) -> Call {
+    pub fn write_file(plan: usize, stripe: &[u8], marks: &[u64], file: &[u8]) -> Call {
         Call { function: Function::WriteFile, number: plan, buffers: vec![stripe.into(), marks.into(), file.into()] }
     }
 
@@ -320,14 +320,14 @@ impl Buffer {
         let (kind, digits) = word.split_once(':')?;
         let each = match kind {
             "bytes" => 2,
-            "words" => 8,
+            "words" => 16,
             _ => return None,
         };
         if !digits.is_ascii() || digits.len() % each != 0 {
             return None;
         }
         let starts = (0..digits.len()).step_by(each);
-        let numbers: Option<Vec<u32>> = starts.map(|at| u32::from_str_radix(&digits[at..at + each], 16).ok()).collect();
+        let numbers: Option<Vec<u64>> = starts.map(|at| u64::from_str_radix(&digits[at..at + each], 16).ok()).collect();
         Some(match each {
             2 => Buffer::Bytes(numbers?.into_iter().map(|number| number as u8).collect()),
             _ => Buffer::Words(numbers?),
@@ -344,13 +344,13 @@ impl fmt::Display for Buffer {
             }
             Buffer::Words(words) => {
                 write!(out, "words:")?;
-                words.iter().try_for_each(|word| write!(out, "{word:08x}"))
+                words.iter().try_for_each(|word| write!(out, "{word:016x}"))
             }
         }
     }
 }
 
-/// The function's name, its number (0 where it takes none), then the buffers: bytes in two hex digits, words in eight.
+/// The function's name, its number (0 where it takes none), then the buffers: bytes in two hex digits, words in sixteen.
 impl fmt::Display for Call {
     fn fmt(&self, out: &mut fmt::Formatter) -> fmt::Result {
         write!(out, "{} {}", self.function.name(), self.number)?;

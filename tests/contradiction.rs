@@ -21,7 +21,7 @@ fn takes_part(part: u32, checks: u32) -> bool {
 }
 
 /// The combinations of the checks of the levels from 1 to this one that the unmarked symbols decide, the empty one too.
-fn decided(plan: &Plan, level: usize, word: u32) -> Vec<u32> {
+fn decided(plan: &Plan, level: usize, word: u64) -> Vec<u32> {
     let parts = parts(plan, level);
     let lost: Vec<u32> = (0..plan.columns).filter(|&column| marked(word, column)).map(|column| parts[column]).collect();
     let all = 0..1 << plan.sums_to(level);
@@ -29,7 +29,7 @@ fn decided(plan: &Plan, level: usize, word: u32) -> Vec<u32> {
 }
 
 /// The least level at which a row with these marks has no filling once the unmarked symbol in a column is changed.
-pub fn level_of(plan: &Plan, word: u32, column: usize) -> Option<usize> {
+pub fn level_of(plan: &Plan, word: u64, column: usize) -> Option<usize> {
     let is_seen = |level: usize| {
         let part = parts(plan, level)[column];
         decided(plan, level, word).into_iter().any(|checks| takes_part(part, checks))
@@ -38,12 +38,12 @@ pub fn level_of(plan: &Plan, word: u32, column: usize) -> Option<usize> {
 }
 
 /// Columns by chance whose parts add up to nothing, as few as can be: all but one, and the one that they add up to.
-fn light_word(plan: &Plan, level: usize, chance: &mut Chance) -> u32 {
+fn light_word(plan: &Plan, level: usize, chance: &mut Chance) -> u64 {
     let parts = parts(plan, level);
     let least = plan.counts[level - 1].0;
     loop {
         let columns = chance.different(least - 1, plan.columns);
-        let word = columns.iter().fold(0, |word, column| word | 1 << column);
+        let word = columns.iter().fold(0u64, |word, column| word | 1 << column);
         let sum = columns.iter().fold(0, |sum, &column| sum ^ parts[column]);
         if let Some(last) = (0..plan.columns).find(|&column| !marked(word, column) && parts[column] == sum) {
             return word | 1 << last;
@@ -53,7 +53,7 @@ fn light_word(plan: &Plan, level: usize, chance: &mut Chance) -> u32 {
 
 /// A row's marks, whose columns are dependent at a level, and an unmarked column: where its symbol is changed the row has no
 /// filling. None where every combination of the checks has a marked column, as at level 1 of plan 1.
-pub fn tied(plan: &Plan, level: usize, chance: &mut Chance) -> Option<(u32, usize)> {
+pub fn tied(plan: &Plan, level: usize, chance: &mut Chance) -> Option<(u64, usize)> {
     let light = light_word(plan, level, chance);
     let combinations: Vec<u32> = decided(plan, level, light).into_iter().filter(|&checks| checks != 0).collect();
     if combinations.is_empty() {

@@ -1,10 +1,17 @@
 //! Stripes and marks for the cases: whole and damaged stripes, and marks near, at and beyond the published row counts.
 
 use crate::chance::Chance;
+use crate::oracle::answers::{BENCH_LENGTH, FILLED};
 use crate::oracle::plan::{marked, share};
 use crate::oracle::stripe::failing_one_check;
 use crate::oracle::{bench, encode, Plan};
+use std::collections::BTreeMap;
 use std::sync::OnceLock;
+
+/// One of the plans.
+pub fn any_plan(chance: &mut Chance) -> &'static Plan {
+    chance.pick(&Plan::all().collect::<Vec<&Plan>>())
+}
 
 /// A codeword with data by chance.
 pub fn codeword(plan: &Plan, chance: &mut Chance) -> Vec<u8> {
@@ -68,8 +75,8 @@ fn sum_of(stripe: &[u8], other: &[u8]) -> Vec<u8> {
 
 /// For each check of the stripe a word that fails it and no other.
 pub fn words_failing_one_check(plan: &Plan) -> &'static [Vec<u8>] {
-    static WORDS: OnceLock<Vec<Vec<Vec<u8>>>> = OnceLock::new();
-    &WORDS.get_or_init(|| Plan::all().map(failing_one_check).collect())[plan.number - 1]
+    static WORDS: OnceLock<BTreeMap<usize, Vec<Vec<u8>>>> = OnceLock::new();
+    &WORDS.get_or_init(|| Plan::all().map(|plan| (plan.number, failing_one_check(plan))).collect())[&plan.number]
 }
 
 fn with_errors(plan: &Plan, errors: usize, chance: &mut Chance) -> Vec<u8> {
@@ -95,11 +102,11 @@ fn silent_row(plan: &Plan, level: usize, chance: &mut Chance) -> Vec<u8> {
         let row = chance.bytes_below(plan.q(), plan.symbols());
         let mut marks = vec![0; plan.rows];
         marks[0] = columns(plan.sums_to(level), plan, chance);
-        let mut held = vec![0; 418];
+        let mut held = vec![0; BENCH_LENGTH];
         bench::start(plan.number, &row, &marks, &mut held);
         held[1] = level as u8;
-        if bench::row_step(&mut held, 0) == crate::oracle::answers::FILLED {
-            return held[2..2 + plan.columns].to_vec();
+        if bench::row_step(&mut held, 0) == FILLED {
+            return held[bench::SYMBOLS..][..plan.columns].to_vec();
         }
     }
 }
@@ -145,7 +152,7 @@ pub const MARKS: [Marks; 14] = [
     Marks::Everything,
 ];
 
-pub fn marks(plan: &Plan, kind: Marks, chance: &mut Chance) -> Vec<u32> {
+pub fn marks(plan: &Plan, kind: Marks, chance: &mut Chance) -> Vec<u64> {
     match kind {
         Marks::None => vec![0; plan.rows],
         Marks::One => anywhere(plan, 1, chance),
@@ -172,16 +179,16 @@ pub fn marks(plan: &Plan, kind: Marks, chance: &mut Chance) -> Vec<u32> {
     }
 }
 
-fn word(plan: &Plan, mut test: impl FnMut(usize) -> bool) -> u32 {
+fn word(plan: &Plan, mut test: impl FnMut(usize) -> bool) -> u64 {
     (0..plan.columns).filter(|&column| test(column)).map(|column| 1 << column).sum()
 }
 
 /// A mark word with so many columns by chance.
-pub fn columns(count: usize, plan: &Plan, chance: &mut Chance) -> u32 {
+pub fn columns(count: usize, plan: &Plan, chance: &mut Chance) -> u64 {
     chance.different(count, plan.columns).into_iter().map(|column| 1 << column).sum()
 }
 
-fn anywhere(plan: &Plan, count: usize, chance: &mut Chance) -> Vec<u32> {
+fn anywhere(plan: &Plan, count: usize, chance: &mut Chance) -> Vec<u64> {
     let mut marks = vec![0; plan.rows];
     for place in chance.different(count, plan.symbols()) {
         marks[place / plan.columns] |= 1 << (place % plan.columns);
@@ -190,7 +197,7 @@ fn anywhere(plan: &Plan, count: usize, chance: &mut Chance) -> Vec<u32> {
 }
 
 /// Marks in the named rows, as many in each as the function says for its place in the list.
-fn in_rows(plan: &Plan, rows: &[usize], count: impl Fn(usize, &mut Chance) -> usize, chance: &mut Chance) -> Vec<u32> {
+fn in_rows(plan: &Plan, rows: &[usize], count: impl Fn(usize, &mut Chance) -> usize, chance: &mut Chance) -> Vec<u64> {
     let mut marks = vec![0; plan.rows];
     for (n, &row) in rows.iter().enumerate() {
         let count = count(n, chance);
@@ -205,17 +212,17 @@ fn allowed(plan: &Plan, n: usize) -> usize {
     limits.map(|&(marks, _)| marks - 1).min().unwrap_or(plan.columns)
 }
 
-fn edge(plan: &Plan, chance: &mut Chance) -> Vec<u32> {
+fn edge(plan: &Plan, chance: &mut Chance) -> Vec<u64> {
     let rows = chance.different(plan.rows, plan.rows);
     in_rows(plan, &rows, |n, _| allowed(plan, n), chance)
 }
 
-fn within_counts(plan: &Plan, chance: &mut Chance) -> Vec<u32> {
+fn within_counts(plan: &Plan, chance: &mut Chance) -> Vec<u64> {
     let rows = chance.different(plan.rows, plan.rows);
     in_rows(plan, &rows, |n, chance| chance.below(allowed(plan, n) + 1), chance)
 }
 
-fn beyond(plan: &Plan, chance: &mut Chance) -> Vec<u32> {
+fn beyond(plan: &Plan, chance: &mut Chance) -> Vec<u64> {
     let mut marks = edge(plan, chance);
     let row = chance.below(plan.rows);
     let free: Vec<usize> = (0..plan.columns).filter(|&column| !marked(marks[row], column)).collect();
@@ -224,22 +231,22 @@ fn beyond(plan: &Plan, chance: &mut Chance) -> Vec<u32> {
 }
 
 /// Whether marks meet the published row counts.
-pub fn meets_counts(plan: &Plan, marks: &[u32]) -> bool {
+pub fn meets_counts(plan: &Plan, marks: &[u64]) -> bool {
     let rows_with = |least: usize| marks.iter().filter(|word| word.count_ones() as usize >= least).count();
     plan.counts.iter().all(|&(least, rows)| rows_with(least) <= rows)
 }
 
 /// The stripe with any byte at all under each mark.
-pub fn any_under_marks(plan: &Plan, stripe: &[u8], marks: &[u32], chance: &mut Chance) -> Vec<u8> {
+pub fn any_under_marks(plan: &Plan, stripe: &[u8], marks: &[u64], chance: &mut Chance) -> Vec<u8> {
     under_marks(plan, stripe, marks, || chance.byte())
 }
 
 /// The stripe with 0 under each mark.
-pub fn zero_under_marks(plan: &Plan, stripe: &[u8], marks: &[u32]) -> Vec<u8> {
+pub fn zero_under_marks(plan: &Plan, stripe: &[u8], marks: &[u64]) -> Vec<u8> {
     under_marks(plan, stripe, marks, || 0)
 }
 
-fn under_marks(plan: &Plan, stripe: &[u8], marks: &[u32], mut new: impl FnMut() -> u8) -> Vec<u8> {
+fn under_marks(plan: &Plan, stripe: &[u8], marks: &[u64], mut new: impl FnMut() -> u8) -> Vec<u8> {
     let places = stripe.iter().enumerate();
     let lost = |place: usize| marked(marks[place / plan.columns], place % plan.columns);
     places.map(|(place, &symbol)| if lost(place) { new() } else { symbol }).collect()

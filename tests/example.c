@@ -13,7 +13,7 @@ int main(void) {
         0, 0, 0, 0, 0, 1, 0, /* columns 0, 2 and 4 are lost */
         0, 0, 0, 0, 0, 0, 0, /* column 2 is lost */
     };
-    uint32_t marks[3] = {0x02, 0x15, 0x04};
+    uint64_t marks[3] = {0x02, 0x15, 0x04};
     uint8_t report[SHELF_REPORT] = {0};
 
     size_t answer = shelf_mend(1, stripe, 21, marks, 3, report, SHELF_REPORT);

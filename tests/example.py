@@ -5,14 +5,14 @@
     python3 tests/example.py ./libshelf.so
 """
 import sys
-from ctypes import CDLL, POINTER, c_size_t, c_uint8, c_uint32
+from ctypes import CDLL, POINTER, c_size_t, c_uint8, c_uint64
 
 if len(sys.argv) != 2:
     sys.stderr.write(__doc__)
     sys.exit(2)
 
 shelf = CDLL(sys.argv[1])
-bytes_lent, words_lent = (POINTER(c_uint8), c_size_t), (POINTER(c_uint32), c_size_t)
+bytes_lent, words_lent = (POINTER(c_uint8), c_size_t), (POINTER(c_uint64), c_size_t)
 shelf.shelf_mend.argtypes = (c_size_t, *bytes_lent, *words_lent, *bytes_lent)
 shelf.shelf_mend.restype = c_size_t
 
@@ -21,7 +21,7 @@ stripe = (c_uint8 * 21)(
     0, 0, 0, 0, 0, 1, 0,  # columns 0, 2 and 4 are lost
     0, 0, 0, 0, 0, 0, 0,  # column 2 is lost
 )
-marks = (c_uint32 * 3)(0x02, 0x15, 0x04)
+marks = (c_uint64 * 3)(0x02, 0x15, 0x04)
 report = (c_uint8 * 8)()
 
 answer = shelf.shelf_mend(1, stripe, len(stripe), marks, len(marks), report, len(report))

@@ -31,7 +31,7 @@ pub fn calls(ledger: &mut Ledger) {
 }
 
 /// Some of the marks: all but one, all but those of a row, or each with some chance.
-fn some_of(plan: &Plan, marks: &[u32], chance: &mut Chance) -> Vec<u32> {
+fn some_of(plan: &Plan, marks: &[u64], chance: &mut Chance) -> Vec<u64> {
     let mut fewer = marks.to_vec();
     match chance.below(5) {
         0 => {
@@ -43,15 +43,15 @@ fn some_of(plan: &Plan, marks: &[u32], chance: &mut Chance) -> Vec<u32> {
             }
         }
         1 => fewer[chance.below(plan.rows)] = 0,
-        2 => fewer.iter_mut().for_each(|word| *word &= chance.word() as u32),
-        3 => fewer.iter_mut().for_each(|word| *word &= (chance.word() | chance.word() | chance.word()) as u32),
-        _ => fewer.iter_mut().for_each(|word| *word &= (chance.word() & chance.word() & chance.word()) as u32),
+        2 => fewer.iter_mut().for_each(|word| *word &= chance.word()),
+        3 => fewer.iter_mut().for_each(|word| *word &= chance.word() | chance.word() | chance.word()),
+        _ => fewer.iter_mut().for_each(|word| *word &= chance.word() & chance.word() & chance.word()),
     }
     fewer
 }
 
 /// Mends the codeword under both sets of marks, with any byte at all under each mark, and compares the ends.
-fn mended(ledger: &mut Ledger, plan: &Plan, word: &[u8], marks: [&[u32]; 2], chance: &mut Chance) -> [Outcome; 2] {
+fn mended(ledger: &mut Ledger, plan: &Plan, word: &[u8], marks: [&[u64]; 2], chance: &mut Chance) -> [Outcome; 2] {
     let calls = marks.map(|marks| {
         let lent = damage::any_under_marks(plan, word, marks, chance);
         Call::mend(plan.number, &lent, marks, &chance.bytes(REPORT_LENGTH))

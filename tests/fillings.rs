@@ -44,7 +44,7 @@ fn add(sums: &mut [u8], shares: &[u8]) {
 }
 
 /// The fillings of a row's marked columns that give it these sums at the levels from 1 to this one.
-pub fn of_row(plan: &Plan, level: usize, row: &[u8], word: u32, sums: &[u8]) -> Fillings {
+pub fn of_row(plan: &Plan, level: usize, row: &[u8], word: u64, sums: &[u8]) -> Fillings {
     let (lost, known): (Vec<usize>, Vec<usize>) = (0..plan.columns).partition(|&column| marked(word, column));
     let mut missing = sums.to_vec();
     known.iter().for_each(|&column| add(&mut missing, &shares(plan, level, column, row[column])));

@@ -15,8 +15,9 @@ static void hold(const char *what, size_t answer, size_t expected) {
     printf("%s: %zu, and the header says %zu\n", what, answer, expected);
 }
 
-static uint8_t stripe[512], data[512], file[512], bench[SHELF_BENCH], report[SHELF_REPORT], text[SHELF_TEXT], size[SHELF_TEXT_SIZE];
-static uint32_t marks[16];
+/* Room for each plan's buffers, and one byte more. */
+static uint8_t stripe[513], data[513], file[585], bench[SHELF_BENCH], report[SHELF_REPORT], text[SHELF_TEXT], size[SHELF_TEXT_SIZE];
+static uint64_t marks[16];
 
 static void blank(void) {
     memset(stripe, 0, sizeof stripe);
@@ -49,6 +50,10 @@ static void plan_is(struct plan p) {
     hold("writing, a file too long", shelf_write_file(p.number, stripe, p.stripe, marks, p.marks, file, p.file + 1), SHELF_WRONG_LENGTH);
     hold("reading", shelf_read_file(file, p.file, stripe, p.stripe, marks, p.marks), SHELF_DONE);
     hold("reading, a file too short", shelf_read_file(file, p.file - 1, stripe, p.stripe, marks, p.marks), SHELF_FILE_LENGTH);
+    hold("bytes of the words in a file", (p.file - 8 - p.stripe) / p.rows, p.columns > 32 ? 8 : 4);
+    hold("byte 3 of the file", file[3], p.columns > 32);
+    file[3] ^= 1;
+    hold("another byte 3", shelf_read_file(file, p.file, stripe, p.stripe, marks, p.marks), SHELF_FILE_HEADER);
     hold("start", shelf_start(p.number, stripe, p.stripe, marks, p.marks, bench, SHELF_BENCH), SHELF_DONE);
     hold("start, another bench", shelf_start(p.number, stripe, p.stripe, marks, p.marks, bench, SHELF_BENCH - 1), SHELF_WRONG_LENGTH);
     hold("the last row", shelf_row_step(bench, SHELF_BENCH, p.rows - 1), SHELF_WHOLE);
@@ -56,10 +61,10 @@ static void plan_is(struct plan p) {
     for (size_t level = 1; level < p.levels; level++)
         hold("a level step", shelf_level_step(bench, SHELF_BENCH), SHELF_RAISED);
     hold("at the last level", shelf_level_step(bench, SHELF_BENCH), SHELF_TOP);
-    marks[0] = (uint32_t)1 << (p.columns - 1);
+    marks[0] = (uint64_t)1 << (p.columns - 1);
     hold("the last column", shelf_mend(p.number, stripe, p.stripe, marks, p.marks, report, SHELF_REPORT), SHELF_RESTORED);
-    if (p.columns < 32) {
-        marks[0] = (uint32_t)1 << p.columns;
+    for (size_t column = p.columns; column < 64; column++) {
+        marks[0] = (uint64_t)1 << column;
         hold("one column more", shelf_mend(p.number, stripe, p.stripe, marks, p.marks, report, SHELF_REPORT), SHELF_MARK_OUTSIDE);
     }
 }
@@ -91,6 +96,7 @@ static void answers(void) {
     hold("no codeword", shelf_is_codeword(1, stripe, n), SHELF_NO);
     hold("its data", shelf_extract(1, stripe, n, data, SHELF_PLAN_1_DATA), SHELF_NO_CODEWORD);
     hold("no plan", shelf_is_codeword(4, stripe, n), SHELF_UNKNOWN_PLAN);
+    hold("no plan either", shelf_is_codeword(6, stripe, n), SHELF_UNKNOWN_PLAN);
     hold("interleaved form, no codeword", shelf_is_interleaved(stripe, SHELF_PLAN_3_STRIPE), SHELF_NO);
     hold("interleaved form, another length", shelf_is_interleaved(stripe, n), SHELF_WRONG_LENGTH);
     hold("a file", shelf_write_file(1, stripe, n, marks, r, file, SHELF_PLAN_1_FILE), SHELF_DONE);
@@ -110,6 +116,7 @@ int main(void) {
     plan_is(PLAN(1));
     plan_is(PLAN(2));
     plan_is(PLAN(3));
+    plan_is(PLAN(5));
     answers();
     printf("shelf.h: %zu numbers held, %zu wrong\n", calls, wrong);
     return wrong != 0 || !SHELF_IS_REFUSAL(SHELF_UNKNOWN_PLAN) || SHELF_IS_REFUSAL(SHELF_TOP);

@@ -37,6 +37,7 @@ fn every_group(program: Option<&str>) {
     let mut ledger = Ledger::new();
     ledger.group("bench sheet", sheet_cases::calls);
     ledger.group("refusals, every set of flaws", refusals::calls);
+    ledger.group("marks at columns that the plan does not have", refusals::outer_marks);
     ledger.group("plan 1 throughout", throughout::calls);
     ledger.group("codeword test, encoding, extraction", coding::calls);
     ledger.group("interleaved form of plan 3", interleaved::calls);
@@ -50,6 +51,7 @@ fn every_group(program: Option<&str>) {
     ledger.group("levels whose totals fail", tied::failing_levels);
     ledger.group("orders of steps", orders::calls);
     ledger.group("files and their text", files::calls);
+    ledger.group("files stored before mark words had 64 bits", files::stored);
     ledger.group("any bytes as a file", files::any_bytes);
     match program {
         Some(path) => every_run(&mut ledger, path),

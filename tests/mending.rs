@@ -40,7 +40,7 @@ pub fn calls(ledger: &mut Ledger) {
 }
 
 /// Restored at the last level, Stuck at each, Clash in a row at each, and Clash across rows at each from 2 on. Two of these
-/// can't be: in plan 2, levels 2 and 3 have one total each, so that the step to level 3 is never Blocked; and in plan 3 a
+/// can't be: in plans 2 and 5, levels 2 and 3 have one total each, so that the step to level 3 is never Blocked; and in plan 3 a
 /// row that is tied at level 1 has three marks or more, for three checks at level 2, so that it always has a filling there.
 fn every_end(plan: &Plan) -> Ends {
     let last = plan.last() as u8;
@@ -48,7 +48,7 @@ fn every_end(plan: &Plan) -> Ends {
     let in_rows = (1..=last).map(|level| (CLASH, level, IN_A_ROW));
     let across = (2..=last).map(|level| (CLASH, level, ACROSS));
     let can_be = |&end: &(usize, u8, u8)| match plan.number {
-        2 => end != (STUCK, 2, 0),
+        2 | 5 => end != (STUCK, 2, 0),
         3 => end != (CLASH, 2, IN_A_ROW),
         _ => true,
     };
@@ -61,7 +61,7 @@ fn one_call(
     plan: &Plan,
     content: Content,
     stripe: &[u8],
-    marks: &[u32],
+    marks: &[u64],
     chance: &mut Chance,
 ) -> (usize, u8, u8) {
     let lent = damage::any_under_marks(plan, stripe, marks, chance);
@@ -87,7 +87,7 @@ fn one_call(
 
 /// Restored is the one codeword that agrees. With Clash none agrees. After Stuck every codeword that agrees has the
 /// symbols that are now unmarked.
-fn means_what_it_says(plan: &Plan, stripe: &[u8], marks: &[u32], outcome: &Outcome) -> bool {
+fn means_what_it_says(plan: &Plan, stripe: &[u8], marks: &[u64], outcome: &Outcome) -> bool {
     let (symbols, words) = (outcome.buffers[0].bytes(), outcome.buffers[1].words());
     let known = |place: usize| !marked(words[place / plan.columns], place % plan.columns);
     match (outcome.number, agreeing(plan, stripe, marks)) {
@@ -101,8 +101,8 @@ fn means_what_it_says(plan: &Plan, stripe: &[u8], marks: &[u32], outcome: &Outco
 }
 
 /// Rows restored and rows left are the rows that had marks, and what is left is what still has some.
-fn report_adds_up(plan: &Plan, marks: &[u32], outcome: &Outcome) -> bool {
-    let with_marks = |words: &[u32]| words.iter().filter(|&&word| word != 0).count();
+fn report_adds_up(plan: &Plan, marks: &[u64], outcome: &Outcome) -> bool {
+    let with_marks = |words: &[u64]| words.iter().filter(|&&word| word != 0).count();
     let report = outcome.buffers[2].bytes();
     let [level, left, restored @ ..] = [0, 1, 2, 3, 4].map(|at| report[at] as usize);
     match outcome.number {

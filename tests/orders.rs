@@ -6,6 +6,7 @@ use crate::ledger::Ledger;
 use outside::chance::Chance;
 use outside::damage::{self, Content, CONTENTS, MARKS};
 use outside::oracle::answers::*;
+use outside::oracle::bench::{MARKS as MARKS_AT, SYMBOLS};
 use outside::oracle::Plan;
 
 const ORDERS_TO_THE_END: usize = 1200;
@@ -43,7 +44,7 @@ fn to_the_end(ledger: &mut Ledger, plan: &Plan, kind: damage::Marks, chance: &mu
     ledger.demand(is_the_end_of(plan, &by_rounds, &mended), "steps and mending in one call end differently", &call);
 }
 
-fn started(ledger: &mut Ledger, plan: &Plan, stripe: &[u8], marks: &[u32]) -> Vec<u8> {
+fn started(ledger: &mut Ledger, plan: &Plan, stripe: &[u8], marks: &[u64]) -> Vec<u8> {
     let call = Call::start(plan.number, stripe, marks, &[0x5a; BENCH_LENGTH]);
     ledger.hold(&call).buffers[2].bytes().to_vec()
 }
@@ -97,8 +98,8 @@ fn order_by_chance(ledger: &mut Ledger, plan: &Plan, fresh: &[u8], chance: &mut 
 fn is_the_end_of(plan: &Plan, bench: &[u8], mended: &Outcome) -> bool {
     let words: Vec<u8> = mended.buffers[1].words().iter().flat_map(|word| word.to_le_bytes()).collect();
     bench[1] == mended.buffers[2].bytes()[0]
-        && bench[2..].starts_with(mended.buffers[0].bytes())
-        && bench[258..].starts_with(&words)
+        && bench[SYMBOLS..].starts_with(mended.buffers[0].bytes())
+        && bench[MARKS_AT..].starts_with(&words)
         && mended.number == if words.iter().all(|&byte| byte == 0) { RESTORED } else { STUCK }
-        && bench[2 + plan.symbols()..258].iter().all(|&byte| byte == 0)
+        && bench[SYMBOLS + plan.symbols()..MARKS_AT].iter().all(|&byte| byte == 0)
 }

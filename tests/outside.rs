@@ -5,3 +5,4 @@ pub mod contradiction;
 pub mod damage;
 pub mod oracle;
 pub mod sheet;
+pub mod stored;

@@ -6,6 +6,7 @@ use outside::chance::Chance;
 use outside::oracle::text::printed;
 use outside::oracle::Plan;
 use outside::sheet;
+use outside::stored::STORED;
 use std::io::Write;
 use std::process::{Command, Stdio};
 use std::time::Duration;
@@ -17,6 +18,9 @@ const RANDOM_FILES: usize = 100;
 pub fn runs(ledger: &mut Ledger, path: &str) {
     let mut chance = Chance::seeded(111);
     hold(ledger, path, &sheet::EXAMPLE_FILE, usize::MAX);
+    for stored in &STORED {
+        expect(ledger, path, &stored.bytes(), usize::MAX, stored.text);
+    }
     for plan in Plan::all() {
         for n in 0..FIT_FILES {
             // Some files come in pieces, as through a slow pipe.
@@ -29,10 +33,10 @@ pub fn runs(ledger: &mut Ledger, path: &str) {
     (0..RANDOM_FILES).for_each(|_| hold(ledger, path, &random_file(&mut chance), usize::MAX));
 }
 
-/// A file cut short, and made longer than any file (the longest has 296 bytes), so that the program must see its end.
+/// A file cut short, and made longer than any file (the longest has 584 bytes), so that the program must see its end.
 fn long_and_short(ledger: &mut Ledger, path: &str, file: &[u8]) {
     let length = file.len();
-    for other in [0, 1, 7, 8, 9, length - 1, length + 1, 297, 298, 4096, 100_000] {
+    for other in [0, 1, 7, 8, 9, length - 1, length + 1, 585, 586, 4096, 100_000] {
         let mut bytes = file.to_vec();
         bytes.resize(other, 0);
         hold(ledger, path, &bytes, usize::MAX);
@@ -40,7 +44,11 @@ fn long_and_short(ledger: &mut Ledger, path: &str, file: &[u8]) {
 }
 
 fn hold(ledger: &mut Ledger, path: &str, file: &[u8], piece: usize) {
-    let expected = printed(file);
+    expect(ledger, path, file, piece, &printed(file));
+}
+
+/// Holds the program's output for a file, which comes in pieces of so many bytes, to a text.
+fn expect(ledger: &mut Ledger, path: &str, file: &[u8], piece: usize, expected: &str) {
     let found = output(path, file, piece);
     if found != expected.as_bytes() {
         let hex: String = file.iter().map(|byte| format!("{byte:02x}")).collect();

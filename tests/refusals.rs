@@ -1,18 +1,19 @@
 //! Refusals: each function with every set of flaws. The number expected is that of the set's first flaw in the order of the
 //! requirements, by construction and not by the independent decoder, and nothing may change.
 
-use crate::calls::{Buffer, Call, Function, FUNCTIONS};
+use crate::calls::{Buffer, Call, Function, Outcome, FUNCTIONS};
 use crate::ledger::Ledger;
 use outside::chance::Chance;
 use outside::damage::{self, Marks};
 use outside::oracle::answers::*;
+use outside::oracle::bench::{number_of, sums_of, LEVEL, MARKS as BENCH_MARKS, SYMBOLS};
 use outside::oracle::plan::marked;
 use outside::oracle::{file, Plan};
 
 const ROUNDS: usize = 8;
 
 /// Numbers that are no plan, among them some that are one in their low bits.
-const UNKNOWN_PLANS: [usize; 10] = [0, 4, 5, 17, 255, 256, 257, 65_537, (1 << 32) + 1, usize::MAX];
+const UNKNOWN_PLANS: [usize; 12] = [0, 4, 6, 17, 255, 256, 257, 261, 65_537, (1 << 32) + 1, (1 << 32) + 5, usize::MAX];
 
 /// What can be wrong with a call.
 #[derive(Clone, Copy)]
@@ -87,7 +88,7 @@ pub fn calls(ledger: &mut Ledger) {
         for plan in Plan::all().filter(|plan| function != Function::IsInterleaved || plan.number == 3) {
             for set in 0..1u32 << all.len() {
                 let chosen: Vec<Flaw> = (0..all.len()).filter(|n| set >> n & 1 == 1).map(|n| all[n]).collect();
-                if plan.columns == 32 && chosen.iter().any(|flaw| matches!(flaw, Flaw::MarkOutside)) {
+                if outer_bits(function, plan) == 0 && chosen.iter().any(|flaw| matches!(flaw, Flaw::MarkOutside)) {
                     continue;
                 }
                 (0..ROUNDS).for_each(|_| one_set(ledger, function, plan, &chosen, &mut chance));
@@ -96,18 +97,52 @@ pub fn calls(ledger: &mut Ledger) {
     }
 }
 
+/// Every bit that is no column of the plan, alone in a row's mark word: 12 in memory up to bit 63, in a file up to its word's last.
+/// And number 4, with buffers that fit some plan: 10.
+pub fn outer_marks(ledger: &mut Ledger) {
+    let mut chance = Chance::seeded(92);
+    let marked =
+        FUNCTIONS.into_iter().filter(|&function| flaws(function).iter().any(|flaw| matches!(flaw, Flaw::MarkOutside)));
+    for (function, plan) in marked.flat_map(|function| Plan::all().map(move |plan| (function, plan))) {
+        for bit in plan.columns..plan.columns + outer_bits(function, plan) {
+            for row in 0..plan.rows {
+                let mut call = fit_call(function, plan, &mut chance);
+                set_mark_word(&mut call, plan, row, 1 << bit);
+                due(ledger, &call, Flaw::MarkOutside);
+            }
+        }
+    }
+    for (function, plan) in FUNCTIONS.into_iter().flat_map(|function| Plan::all().map(move |plan| (function, plan))) {
+        let mut call = fit_call(function, plan, &mut chance);
+        match function {
+            Function::IsInterleaved => continue,
+            _ if in_a_buffer(function) => bytes_of(&mut call, 0)[0] = 4,
+            _ => call.number = 4,
+        }
+        due(ledger, &call, Flaw::UnknownPlan);
+    }
+}
+
+/// Holds a call with one flaw, or with others behind it, to the flaw's number; and nothing may change. Says what it came to.
+fn due(ledger: &mut Ledger, call: &Call, first: Flaw) -> Outcome {
+    let outcome = ledger.hold(call);
+    let number = first.answer_due(call.function);
+    ledger.demand(outcome.number == number, &format!("{number} is due"), call);
+    ledger.demand(outcome.buffers == left_by_refusal(call, first), "a refusal leaves other buffers behind", call);
+    outcome
+}
+
 fn one_set(ledger: &mut Ledger, function: Function, plan: &Plan, flaws: &[Flaw], chance: &mut Chance) {
     let mut call = fit_call(function, plan, chance);
     // What is refused last is spoilt first, so that a buffer is cut only after its content is spoilt.
     flaws.iter().rev().for_each(|&flaw| spoil(&mut call, plan, flaw, chance));
-    let outcome = ledger.hold(&call);
     match flaws.first() {
-        None => ledger.demand(outcome.number < UNKNOWN_PLAN, "a fit call is refused", &call),
+        None => {
+            let outcome = ledger.hold(&call);
+            ledger.demand(outcome.number < UNKNOWN_PLAN, "a fit call is refused", &call);
+        }
         Some(first) => {
-            let due = first.answer_due(function);
-            ledger.demand(outcome.number == due, &format!("{due} is due"), &call);
-            let left = left_by_refusal(&call, *first);
-            ledger.demand(outcome.buffers == left, "a refusal leaves other buffers behind", &call);
+            let outcome = due(ledger, &call, *first);
             if function == Function::Start && outcome.buffers[2].bytes().len() == BENCH_LENGTH {
                 refused_bench(ledger, outcome.buffers[2].bytes(), chance);
             }
@@ -157,7 +192,7 @@ fn fit_call(function: Function, plan: &Plan, chance: &mut Chance) -> Call {
         Function::Encode => Call::encode(p, &chance.bytes_below(plan.q(), plan.carried()), &symbols),
         Function::Extract => Call::extract(p, &word, &carried),
         Function::ReadFile => {
-            let words: Vec<u32> = (0..plan.rows).map(|_| chance.word() as u32).collect();
+            let words: Vec<u64> = (0..plan.rows).map(|_| chance.word()).collect();
             Call::read_file(&fit_file(plan, &word, &marks), &symbols, &words)
         }
         Function::Text => {
@@ -166,34 +201,51 @@ fn fit_call(function: Function, plan: &Plan, chance: &mut Chance) -> Call {
     }
 }
 
-fn fit_file(plan: &Plan, stripe: &[u8], marks: &[u32]) -> Vec<u8> {
+fn fit_file(plan: &Plan, stripe: &[u8], marks: &[u64]) -> Vec<u8> {
     let mut bytes = vec![0; plan.file_length()];
     file::write_file(plan.number, stripe, marks, &mut bytes);
     bytes
 }
 
-fn fit_bench(plan: &Plan, stripe: &[u8], marks: &[u32], chance: &mut Chance) -> Vec<u8> {
+fn fit_bench(plan: &Plan, stripe: &[u8], marks: &[u64], chance: &mut Chance) -> Vec<u8> {
     let mut bench = vec![0; BENCH_LENGTH];
     outside::oracle::start(plan.number, stripe, marks, &mut bench);
-    bench[1] = 1 + chance.below(plan.last()) as u8;
+    bench[LEVEL] = 1 + chance.below(plan.last()) as u8;
     bench
 }
 
-/// Where a call keeps its symbols and its marks: the buffer and the first place in it.
+/// Where a call keeps its symbols and its marks: the buffer and the first place in it; and the bytes of a mark word there.
 struct Layout {
     symbols: (usize, usize),
     marks: Option<(usize, usize)>,
+    word_bytes: usize,
 }
 
 fn layout(function: Function, plan: &Plan) -> Layout {
     match function {
-        Function::Start | Function::Mend | Function::WriteFile => Layout { symbols: (0, 0), marks: Some((1, 0)) },
-        Function::RowStep | Function::LevelStep => Layout { symbols: (0, 2), marks: Some((0, 258)) },
-        Function::ReadFile | Function::Text => Layout { symbols: (0, 8 + 4 * plan.rows), marks: Some((0, 8)) },
+        Function::Start | Function::Mend | Function::WriteFile => {
+            Layout { symbols: (0, 0), marks: Some((1, 0)), word_bytes: 8 }
+        }
+        Function::RowStep | Function::LevelStep => {
+            Layout { symbols: (0, SYMBOLS), marks: Some((0, BENCH_MARKS)), word_bytes: 8 }
+        }
+        Function::ReadFile | Function::Text => {
+            Layout { symbols: (0, plan.symbols_offset()), marks: Some((0, 8)), word_bytes: plan.word_bytes() }
+        }
         Function::IsCodeword | Function::IsInterleaved | Function::Encode | Function::Extract => {
-            Layout { symbols: (0, 0), marks: None }
+            Layout { symbols: (0, 0), marks: None, word_bytes: 0 }
         }
     }
+}
+
+/// How many bits of a call's mark word are no column of the plan.
+fn outer_bits(function: Function, plan: &Plan) -> usize {
+    (8 * layout(function, plan).word_bytes).saturating_sub(plan.columns)
+}
+
+/// Whether the plan's number is the first byte of the first buffer.
+fn in_a_buffer(function: Function) -> bool {
+    matches!(function, Function::RowStep | Function::LevelStep | Function::ReadFile | Function::Text)
 }
 
 fn bytes_of(call: &mut Call, buffer: usize) -> &mut Vec<u8> {
@@ -203,21 +255,23 @@ fn bytes_of(call: &mut Call, buffer: usize) -> &mut Vec<u8> {
     }
 }
 
-fn mark_word(call: &Call, plan: &Plan, row: usize) -> u32 {
-    match layout(call.function, plan).marks.map(|(buffer, at)| (&call.buffers[buffer], at)) {
+fn mark_word(call: &Call, plan: &Plan, row: usize) -> u64 {
+    let Layout { marks, word_bytes, .. } = layout(call.function, plan);
+    match marks.map(|(buffer, at)| (&call.buffers[buffer], at)) {
         None => 0,
         Some((Buffer::Words(words), at)) => words[at + row],
-        Some((Buffer::Bytes(bytes), at)) => {
-            bytes[at + 4 * row..][..4].iter().rev().fold(0, |word, &byte| word << 8 | byte as u32)
-        }
+        Some((Buffer::Bytes(bytes), at)) => number_of(&bytes[at + word_bytes * row..][..word_bytes]),
     }
 }
 
-fn set_mark_word(call: &mut Call, plan: &Plan, row: usize, word: u32) {
-    match layout(call.function, plan).marks.map(|(buffer, at)| (&mut call.buffers[buffer], at)) {
+fn set_mark_word(call: &mut Call, plan: &Plan, row: usize, word: u64) {
+    let Layout { marks, word_bytes, .. } = layout(call.function, plan);
+    match marks.map(|(buffer, at)| (&mut call.buffers[buffer], at)) {
         None => panic!("{} takes no marks", call.function.name()),
         Some((Buffer::Words(words), at)) => words[at + row] = word,
-        Some((Buffer::Bytes(bytes), at)) => bytes[at + 4 * row..][..4].copy_from_slice(&word.to_le_bytes()),
+        Some((Buffer::Bytes(bytes), at)) => {
+            bytes[at + word_bytes * row..][..word_bytes].copy_from_slice(&word.to_le_bytes()[..word_bytes])
+        }
     }
 }
 
@@ -241,55 +295,62 @@ fn not_below_q(plan: &Plan, chance: &mut Chance) -> u8 {
 }
 
 fn spoil(call: &mut Call, plan: &Plan, flaw: Flaw, chance: &mut Chance) {
-    let in_a_buffer = matches!(call.function, Function::RowStep | Function::LevelStep | Function::ReadFile | Function::Text);
     match flaw {
-        Flaw::UnknownPlan if in_a_buffer => bytes_of(call, 0)[0] = chance.pick(&[0, 4, 5, 129, 255]),
+        Flaw::UnknownPlan if in_a_buffer(call.function) => bytes_of(call, 0)[0] = chance.pick(&[0, 4, 6, 129, 133, 255]),
         Flaw::UnknownPlan => call.number = chance.pick(&UNKNOWN_PLANS),
         Flaw::Length(buffer) => other_length(&mut call.buffers[buffer], chance),
-        Flaw::BenchLevel => bytes_of(call, 0)[1] = chance.pick(&[0, plan.last() as u8 + 1, 4, 255]),
-        Flaw::MarkOutside => {
-            let row = chance.below(plan.rows);
-            let word = mark_word(call, plan, row) | 1 << (plan.columns + chance.below(32 - plan.columns));
-            set_mark_word(call, plan, row, word);
-        }
+        Flaw::BenchLevel => bytes_of(call, 0)[LEVEL] = chance.pick(&[0, plan.last() as u8 + 1, 4, 255]),
+        Flaw::MarkOutside => mark_outside(call, plan, chance),
         Flaw::Symbol => {
             let (buffer, at) = layout(call.function, plan).symbols;
             let place = at + unmarked_place(call, plan, chance);
             bytes_of(call, buffer)[place] = not_below_q(plan, chance);
         }
         Flaw::Sum => {
-            let level = bytes_of(call, 0)[1] as usize;
-            let place = 290 + 16 * chance.below(plan.rows) + chance.below(plan.sums_to(level));
-            bytes_of(call, 0)[place] = not_below_q(plan, chance);
+            let level = bytes_of(call, 0)[LEVEL] as usize;
+            let sums = sums_of(chance.below(plan.rows), plan.sums_to(level));
+            bytes_of(call, 0)[sums.start + chance.below(sums.len())] = not_below_q(plan, chance);
         }
-        Flaw::Row => call.number = chance.pick(&[plan.rows, plan.rows + 1, 8, 255, 256, 1 << 32, usize::MAX]),
+        Flaw::Row => call.number = chance.pick(&[plan.rows, plan.rows + 1, 8, 11, 12, 255, 256, 1 << 32, usize::MAX]),
         Flaw::NoCodeword => {
             let place = chance.below(plan.symbols());
             bytes_of(call, 0)[place] ^= 1 + chance.below(plan.q() - 1) as u8;
         }
         Flaw::ShortFile => bytes_of(call, 0).truncate(chance.below(8)),
         Flaw::FileLength => {
-            let length = chance.pick(&[8, 9, plan.file_length() - 1, plan.file_length() + 1, 300, 1000]);
+            let length = chance.pick(&[8, 9, plan.file_length() - 1, plan.file_length() + 1, 300, 600, 1000]);
             bytes_of(call, 0).resize(length, 0);
         }
         Flaw::Header => {
             let at = 1 + chance.below(7);
             bytes_of(call, 0)[at] ^= 1 << chance.below(8);
         }
-        Flaw::ByteUnderMark => {
-            let place = unmarked_place(call, plan, chance);
-            let (row, column) = (place / plan.columns, place % plan.columns);
-            let word = mark_word(call, plan, row) | 1 << column;
-            set_mark_word(call, plan, row, word);
-            bytes_of(call, 0)[8 + 4 * plan.rows + place] = 1 + chance.below(255) as u8;
-        }
+        Flaw::ByteUnderMark => byte_under_mark(call, plan, chance),
     }
+}
+
+/// Sets a bit that is no column of the plan: the first behind the columns, the last of the word, or any; alone in its word, or beside others.
+fn mark_outside(call: &mut Call, plan: &Plan, chance: &mut Chance) {
+    let (row, outer) = (chance.below(plan.rows), outer_bits(call.function, plan));
+    let any = chance.below(outer);
+    let bit = plan.columns + chance.pick(&[0, outer - 1, any]);
+    let others = if chance.one_in(2) { mark_word(call, plan, row) } else { 0 };
+    set_mark_word(call, plan, row, others | 1 << bit);
+}
+
+/// Marks a place of a file and puts a byte other than 0 there.
+fn byte_under_mark(call: &mut Call, plan: &Plan, chance: &mut Chance) {
+    let place = unmarked_place(call, plan, chance);
+    let (row, column) = (place / plan.columns, place % plan.columns);
+    let word = mark_word(call, plan, row) | 1 << column;
+    set_mark_word(call, plan, row, word);
+    bytes_of(call, 0)[plan.symbols_offset() + place] = 1 + chance.below(255) as u8;
 }
 
 /// Gives a buffer another length: none at all, one more, one less, or far off.
 fn other_length(buffer: &mut Buffer, chance: &mut Chance) {
     let choose = |length: usize, chance: &mut Chance| {
-        let lengths = [0, 1, length - 1, length + 1, length + 64, 21, 120, 256, 3, 8];
+        let lengths = [0, 1, length - 1, length + 1, length + 64, 21, 120, 256, 512, 3, 8, 12];
         loop {
             let other = chance.pick(&lengths);
             if other != length {

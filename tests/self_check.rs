@@ -11,12 +11,14 @@ use outside::chance::Chance;
 use outside::contradiction;
 use outside::damage::{self, Content, Marks, CONTENTS, MARKS};
 use outside::oracle::answers::*;
+use outside::oracle::bench::{sums_of, word_of, LEVEL, SYMBOLS};
 use outside::oracle::binary::Span;
 use outside::oracle::mending::mended;
-use outside::oracle::plan::{marked, power, times16, times32};
+use outside::oracle::plan::{marked, power, share, times16, times32, times64};
 use outside::oracle::stripe::{agreeing, holds, rank, Agreeing};
 use outside::oracle::{self, Plan};
 use outside::sheet;
+use outside::stored::STORED;
 
 /// Counts the checks, and stops at the first that fails.
 #[derive(Default)]
@@ -57,6 +59,7 @@ fn main() {
     tally.group("what each answer says of the codewords", meaning_of_answers);
     tally.group("published row counts", row_counts);
     tally.group("files", files);
+    tally.group("files stored before mark words had 64 bits", stored_files);
     println!("oracle: {} checks, all as they should be", tally.total);
 }
 
@@ -81,10 +84,33 @@ fn fields(tally: &mut Tally) {
     let order = |times: fn(u8, u8) -> u8| (1..).find(|&n| power(times, 2, n) == 1);
     tally.check(order(times16) == Some(15), || "the powers of 2 in GF(16)".to_string());
     tally.check(order(times32) == Some(31), || "the powers of 2 in GF(32)".to_string());
+    tally.check(times64(32, 2) == 3, || "32 times 2 in GF(64)".to_string());
+    tally.check(power(times64, 4, 3) == 3, || "the cube of 4 in GF(64)".to_string());
+    tally.check(order(times64) == Some(63), || "the powers of 2 in GF(64)".to_string());
+    for (number, width) in [(2, 5), (5, 6)] {
+        let plan = Plan::numbered(number).expect("a plan");
+        let mut locations: Vec<usize> = (0..plan.columns).map(|column| location(plan, column)).collect();
+        tally.check(locations.pop() == Some(0), || format!("plan {number}: location 0 is not the last column's"));
+        locations.sort();
+        tally.check(locations == (1..1 << width).collect::<Vec<usize>>(), || {
+            format!("plan {number}: locations {locations:?}")
+        });
+    }
+}
+
+/// A column's location, in a plan whose level 1 has the parity and the bits of the locations.
+fn location(plan: &Plan, column: usize) -> usize {
+    share(plan.number, 1, column, 1)[1..].iter().rev().fold(0, |sum, &bit| 2 * sum + bit as usize)
 }
 
 fn parameters(tally: &mut Tally) {
-    let tables = [(1, 3, 7, 15, 2, 4, 2, 41), (2, 8, 32, 198, 4, 8, 3, 296), (3, 8, 15, 98, 3, 8, 3, 160)];
+    let tables = [
+        (1, 3, 7, 15, 2, 4, 2, 41),
+        (2, 8, 32, 198, 4, 8, 3, 296),
+        (3, 8, 15, 98, 3, 8, 3, 160),
+        (5, 8, 64, 444, 4, 8, 3, 584),
+    ];
+    tally.check(Plan::all().count() == tables.len() && Plan::numbered(4).is_none(), || "the number of plans".to_string());
     for (plan, entry) in Plan::all().zip(tables) {
         let (number, rows, columns, carried, row_distance, distance, levels, file) = entry;
         let sizes = [plan.number, plan.rows, plan.columns, plan.carried(), plan.last(), plan.file_length()];
@@ -96,6 +122,7 @@ fn parameters(tally: &mut Tally) {
         tally.check(failing.iter().all(|word| !holds(plan, word)), || format!("plan {number}: words that fail one check"));
     }
     least_row_distances(tally);
+    least_sums(tally);
 }
 
 /// Any d' - 1 columns of a row are independent at a level, and some d' are not.
@@ -111,19 +138,47 @@ fn least_row_distances(tally: &mut Tally) {
     }
 }
 
+/// The same for the binary plans, by listing: no sum of fewer than d' columns of a row is zero, and some sum of d' of them is.
+fn least_sums(tally: &mut Tally) {
+    let distances = [(1, 1, 2), (1, 2, 4), (2, 1, 4), (2, 2, 6), (2, 3, 8), (5, 1, 4), (5, 2, 6), (5, 3, 8)];
+    for (number, level, distance) in distances {
+        let plan = Plan::numbered(number).expect("a plan");
+        let shares = |column| (1..=level).flat_map(move |level| share(number, level, column, 1));
+        let columns: Vec<u32> =
+            (0..plan.columns).map(|column| shares(column).fold(0, |sum, bit| 2 * sum + bit as u32)).collect();
+        for count in 1..distance {
+            let vanishing = vanishing_sums(&columns, 0, count);
+            tally.check(vanishing == 0, || format!("plan {number}, level {level}: {vanishing} sums of {count} columns"));
+        }
+        let vanishing = vanishing_sums(&columns, 0, distance);
+        tally.check(vanishing > 0, || format!("plan {number}, level {level}: no sum of {distance} columns is zero"));
+    }
+}
+
+/// How many sets of so many columns add up to this number. The last column of a set is looked for and not listed.
+fn vanishing_sums(columns: &[u32], sum: u32, count: usize) -> u64 {
+    match count {
+        1 => columns.iter().filter(|&&column| column == sum).count() as u64,
+        _ => {
+            let rests = (0..columns.len()).map(|at| (columns[at], &columns[at + 1..]));
+            rests.map(|(column, rest)| vanishing_sums(rest, sum ^ column, count - 1)).sum()
+        }
+    }
+}
+
 /// Every mark word with so many columns.
-fn words_with(count: usize, columns: usize) -> impl Iterator<Item = u32> {
+fn words_with(count: usize, columns: usize) -> impl Iterator<Item = u64> {
     let next = |&word: &u64| {
         let lowest = word & word.wrapping_neg();
         let carried = word + lowest;
         Some(carried | (word ^ carried) / lowest >> 2)
     };
     let words = std::iter::successors(Some((1u64 << count) - 1), next);
-    words.take_while(move |&word| word < 1 << columns).map(|word| word as u32)
+    words.take_while(move |&word| word < 1 << columns)
 }
 
 /// Whether these columns of a row are independent under the checks of the levels from 1 to this one.
-fn independent(plan: &Plan, level: usize, word: u32) -> bool {
+fn independent(plan: &Plan, level: usize, word: u64) -> bool {
     let columns = (0..plan.columns).filter(|&column| marked(word, column));
     let bits = columns.flat_map(|column| (0..plan.width).map(move |bit| (column, bit)));
     Span::of(bits.map(|(column, bit)| plan.row_share(0, column, bit).within(plan.up_to(level)))).independent()
@@ -132,7 +187,7 @@ fn independent(plan: &Plan, level: usize, word: u32) -> bool {
 /// A bench of plan 1 with these rows.
 fn bench_of(rows: [u8; 3], marks: [u8; 3]) -> Vec<u8> {
     let mut bench = vec![0; BENCH_LENGTH];
-    oracle::start(1, &symbols(rows), &marks.map(u32::from), &mut bench);
+    oracle::start(1, &symbols(rows), &marks.map(u64::from), &mut bench);
     bench
 }
 
@@ -154,9 +209,9 @@ fn listed_row_steps(tally: &mut Tally) {
     for (level, (parity, locations)) in learned.into_iter().flat_map(|(level, all)| all.map(move |sums| (level, sums))) {
         for (row, marks) in (0..1u16 << 14).map(|n| ((n & 127) as u8, (n >> 7) as u8)) {
             let mut bench = bench_of([0, row, 0], [0, marks, 0]);
-            bench[1] = level as u8;
-            bench[290 + 16] = parity;
-            (0..3).for_each(|bit| bench[290 + 17 + bit] = locations >> bit & 1);
+            bench[LEVEL] = level as u8;
+            let sums = [parity, locations & 1, locations >> 1 & 1, locations >> 2];
+            bench[sums_of(1, 4)].copy_from_slice(&sums);
             let mut expected = bench.clone();
             let number = match listing::row_step(row, marks, level, (parity, locations)) {
                 Step::Tied => TIED,
@@ -166,8 +221,8 @@ fn listed_row_steps(tally: &mut Tally) {
                 }
                 Step::Whole => WHOLE,
                 Step::Filled(filling) => {
-                    expected[2..23].copy_from_slice(&symbols([0, filling, 0]));
-                    expected[262] = 0;
+                    expected[SYMBOLS..][..21].copy_from_slice(&symbols([0, filling, 0]));
+                    expected[word_of(1)].fill(0);
                     FILLED
                 }
             };
@@ -197,9 +252,9 @@ fn listed_level_steps(tally: &mut Tally) {
             Learned::Blocked => BLOCKED,
             Learned::Clash => CLASH,
             Learned::Raised(learned) => {
-                expected[1] = 2;
+                expected[LEVEL] = 2;
                 for (row, sum) in learned.into_iter().enumerate() {
-                    (0..3).for_each(|bit| expected[291 + 16 * row + bit] = sum >> bit & 1);
+                    expected[sums_of(row, 4)].copy_from_slice(&[0, sum & 1, sum >> 1 & 1, sum >> 2]);
                 }
                 RAISED
             }
@@ -278,19 +333,19 @@ fn listed_codewords(tally: &mut Tally) {
 }
 
 /// A bench at a level with a row, its marks and its learned sums; the other rows are zero.
-fn bench_with(plan: &Plan, level: usize, at: usize, row: &[u8], word: u32, sums: &[u8]) -> Vec<u8> {
+fn bench_with(plan: &Plan, level: usize, at: usize, row: &[u8], word: u64, sums: &[u8]) -> Vec<u8> {
     let (mut stripe, mut marks) = (vec![0; plan.symbols()], vec![0; plan.rows]);
     stripe[at * plan.columns..][..plan.columns].copy_from_slice(row);
     marks[at] = word;
     let mut bench = vec![0; BENCH_LENGTH];
     oracle::start(plan.number, &stripe, &marks, &mut bench);
-    bench[1] = level as u8;
-    bench[290 + 16 * at..][..sums.len()].copy_from_slice(sums);
+    bench[LEVEL] = level as u8;
+    bench[sums_of(at, sums.len())].copy_from_slice(sums);
     bench
 }
 
 /// Holds a row step to the listed fillings.
-fn listed_row(tally: &mut Tally, plan: &Plan, level: usize, row: &[u8], word: u32, sums: &[u8], at: usize) -> Fillings {
+fn listed_row(tally: &mut Tally, plan: &Plan, level: usize, row: &[u8], word: u64, sums: &[u8], at: usize) -> Fillings {
     let listed = fillings::of_row(plan, level, row, word, sums);
     let number = match listed {
         Fillings::None => CLASH,
@@ -326,13 +381,15 @@ fn listed_rows(tally: &mut Tally) {
 /// A row that is tied, and the same with an unmarked symbol changed so that nothing fills; with more marks than sums too.
 fn listed_contradictions(tally: &mut Tally) {
     let mut chance = Chance::seeded(20);
-    for (number, level, most) in [(1, 2, 7), (2, 1, 12), (2, 2, 13), (2, 3, 17)] {
+    let levels =
+        [(1, 2, 7, 20), (2, 1, 12, 20), (2, 2, 13, 20), (2, 3, 17, 20), (5, 1, 12, 20), (5, 2, 15, 20), (5, 3, 20, 2)];
+    for (number, level, most, of_many) in levels {
         let plan = Plan::numbered(number).expect("a plan");
-        let mut counts = [0; 33];
+        let mut counts = [0; 65];
         for _ in 0..600 {
             let Some((word, column)) = contradiction::tied(plan, level, &mut chance) else { continue };
             let count = word.count_ones() as usize;
-            if count > most || count > 12 && counts[count] == 20 {
+            if count > most || count > 12 && counts[count] == of_many {
                 continue;
             }
             counts[count] += 1;
@@ -347,7 +404,7 @@ fn listed_contradictions(tally: &mut Tally) {
             });
         }
         let enough = counts.iter().enumerate().any(|(count, &times)| times > 0 && count > plan.sums_to(level));
-        tally.check(enough == (number == 2), || format!("plan {number}, level {level}: {counts:?}"));
+        tally.check(enough == (number != 1), || format!("plan {number}, level {level}: {counts:?}"));
     }
 }
 
@@ -367,10 +424,10 @@ fn listed_levels(tally: &mut Tally) {
 /// Holds the step to a level to the listed sums of the lost rows, check by check.
 fn listed_level(tally: &mut Tally, plan: &Plan, next: usize, stripe: &[u8], set: usize) {
     let lost: Vec<usize> = (0..plan.rows).filter(|row| set >> row & 1 == 1).collect();
-    let marks: Vec<u32> = (0..plan.rows).map(|row| (set >> row & 1) as u32).collect();
+    let marks: Vec<u64> = (0..plan.rows).map(|row| (set >> row & 1) as u64).collect();
     let mut bench = vec![0; BENCH_LENGTH];
     oracle::start(plan.number, stripe, &marks, &mut bench);
-    bench[1] = next as u8 - 1;
+    bench[LEVEL] = next as u8 - 1;
     let before = bench.clone();
     let answer = oracle::level_step(&mut bench);
     let rows: Vec<Vec<u8>> = stripe.chunks(plan.columns).map(|row| damage::row_sums(plan, row)).collect();
@@ -412,7 +469,7 @@ fn round_trips(tally: &mut Tally) {
 }
 
 /// The rounds made step by step on a bench: the answer's number, the report, the symbols and the marks.
-fn by_steps(plan: &Plan, stripe: &[u8], marks: &[u32]) -> (usize, [u8; 8], Vec<u8>, Vec<u32>) {
+fn by_steps(plan: &Plan, stripe: &[u8], marks: &[u64]) -> (usize, [u8; 8], Vec<u8>, Vec<u64>) {
     let mut bench = vec![0; BENCH_LENGTH];
     oracle::start(plan.number, stripe, marks, &mut bench);
     let mut restored = [0; 3];
@@ -518,5 +575,25 @@ fn files(tally: &mut Tally) {
             let same = answers == (DONE, DONE, DONE) && (symbols, words) == (shown, marks) && file == again;
             tally.check(same, || format!("plan {}: file {file:?}", plan.number));
         }
+    }
+}
+
+/// The decoder reads, writes and prints them as the library did.
+fn stored_files(tally: &mut Tally) {
+    for stored in &STORED {
+        let file = stored.bytes();
+        let shown = oracle::text::printed(&file);
+        tally.check(shown == stored.text, || format!("{}: {shown:?}", stored.name));
+        if stored.marks.is_empty() {
+            continue;
+        }
+        let plan = Plan::numbered(file[0] as usize).expect("a plan");
+        let (mut symbols, mut words, mut again) = (vec![7; plan.symbols()], vec![7; plan.rows], vec![7; file.len()]);
+        let answers = (
+            oracle::read_file(&file, &mut symbols, &mut words),
+            oracle::write_file(plan.number, &symbols, &words, &mut again),
+        );
+        let same = answers == (DONE, DONE) && words == stored.marks && file.ends_with(&symbols) && again == file;
+        tally.check(same, || format!("{}: marks {words:x?}", stored.name));
     }
 }

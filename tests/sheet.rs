@@ -30,7 +30,7 @@ impl Case {
         stripe
     }
 
-    pub fn mark_words(&self) -> Vec<u32> {
+    pub fn mark_words(&self) -> Vec<u64> {
         let plan = Plan::numbered(self.plan).expect("a plan");
         let mut marks = vec![0; plan.rows];
         for (row, columns) in &self.marks {

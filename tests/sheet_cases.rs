@@ -23,7 +23,7 @@ pub fn calls(ledger: &mut Ledger) {
     example_file(ledger);
 }
 
-fn hold_case(ledger: &mut Ledger, case: &Case, marks: &[u32]) {
+fn hold_case(ledger: &mut Ledger, case: &Case, marks: &[u64]) {
     let call = Call::mend(case.plan, &case.stripe(), marks, &[0xee; REPORT_LENGTH]);
     let Outcome { number, buffers } = ledger.hold(&call);
     ledger.demand(case.is_met_by(number, buffers[2].bytes()), &format!("bench sheet: {}", case.name), &call);
@@ -37,7 +37,7 @@ fn names_no_columns(case: &Case) -> bool {
 }
 
 /// The same numbers of marks in the same rows, in columns by chance.
-fn other_columns(case: &Case, chance: &mut Chance) -> Vec<u32> {
+fn other_columns(case: &Case, chance: &mut Chance) -> Vec<u64> {
     let plan = Plan::numbered(case.plan).expect("a plan");
     case.mark_words().iter().map(|word| damage::columns(word.count_ones() as usize, plan, chance)).collect()
 }

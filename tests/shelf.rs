@@ -8,7 +8,7 @@ mod c {
             plan: usize,
             stripe: *const u8,
             stripe_length: usize,
-            marks: *const u32,
+            marks: *const u64,
             marks_length: usize,
             bench: *mut u8,
             bench_length: usize,
@@ -19,7 +19,7 @@ mod c {
             plan: usize,
             stripe: *mut u8,
             stripe_length: usize,
-            marks: *mut u32,
+            marks: *mut u64,
             marks_length: usize,
             report: *mut u8,
             report_length: usize,
@@ -45,14 +45,14 @@ mod c {
             file_length: usize,
             stripe: *mut u8,
             stripe_length: usize,
-            marks: *mut u32,
+            marks: *mut u64,
             marks_length: usize,
         ) -> usize;
         pub fn shelf_write_file(
             plan: usize,
             stripe: *const u8,
             stripe_length: usize,
-            marks: *const u32,
+            marks: *const u64,
             marks_length: usize,
             file: *mut u8,
             file_length: usize,
@@ -71,7 +71,7 @@ mod c {
 // Each call below is safe: the pointer and the length of one slice are handed over together, and no two of the slices
 // overlap, since Rust lends none of them twice.
 
-pub fn start(plan: usize, stripe: &[u8], marks: &[u32], bench: &mut [u8]) -> usize {
+pub fn start(plan: usize, stripe: &[u8], marks: &[u64], bench: &mut [u8]) -> usize {
     unsafe {
         c::shelf_start(plan, stripe.as_ptr(), stripe.len(), marks.as_ptr(), marks.len(), bench.as_mut_ptr(), bench.len())
     }
@@ -85,7 +85,7 @@ pub fn level_step(bench: &mut [u8]) -> usize {
     unsafe { c::shelf_level_step(bench.as_mut_ptr(), bench.len()) }
 }
 
-pub fn mend(plan: usize, stripe: &mut [u8], marks: &mut [u32], report: &mut [u8]) -> usize {
+pub fn mend(plan: usize, stripe: &mut [u8], marks: &mut [u64], report: &mut [u8]) -> usize {
     let (stripe_length, marks_length, report_length) = (stripe.len(), marks.len(), report.len());
     let (stripe, marks, report) = (stripe.as_mut_ptr(), marks.as_mut_ptr(), report.as_mut_ptr());
     unsafe { c::shelf_mend(plan, stripe, stripe_length, marks, marks_length, report, report_length) }
@@ -107,13 +107,13 @@ pub fn extract(plan: usize, stripe: &[u8], data: &mut [u8]) -> usize {
     unsafe { c::shelf_extract(plan, stripe.as_ptr(), stripe.len(), data.as_mut_ptr(), data.len()) }
 }
 
-pub fn read_file(file: &[u8], stripe: &mut [u8], marks: &mut [u32]) -> usize {
+pub fn read_file(file: &[u8], stripe: &mut [u8], marks: &mut [u64]) -> usize {
     let (stripe_length, marks_length) = (stripe.len(), marks.len());
     let (stripe, marks) = (stripe.as_mut_ptr(), marks.as_mut_ptr());
     unsafe { c::shelf_read_file(file.as_ptr(), file.len(), stripe, stripe_length, marks, marks_length) }
 }
 
-pub fn write_file(plan: usize, stripe: &[u8], marks: &[u32], file: &mut [u8]) -> usize {
+pub fn write_file(plan: usize, stripe: &[u8], marks: &[u64], file: &mut [u8]) -> usize {
     unsafe {
         c::shelf_write_file(plan, stripe.as_ptr(), stripe.len(), marks.as_ptr(), marks.len(), file.as_mut_ptr(), file.len())
     }

@@ -5,6 +5,7 @@ use crate::ledger::Ledger;
 use outside::chance::Chance;
 use outside::damage::{self, CONTENTS, MARKS};
 use outside::oracle::answers::*;
+use outside::oracle::bench::{self, number_of, word_of};
 use outside::oracle::plan::marked;
 use outside::oracle::Plan;
 
@@ -28,14 +29,14 @@ pub fn calls(ledger: &mut Ledger) {
 }
 
 /// Whether two stripes are the same except for bytes under marks, and these are as they were.
-fn same_but_for_marks(plan: &Plan, marks: &[u32], before: [&[u8]; 2], after: [&[u8]; 2]) -> bool {
+fn same_but_for_marks(plan: &Plan, marks: &[u64], before: [&[u8]; 2], after: [&[u8]; 2]) -> bool {
     (0..plan.symbols()).all(|place| match marked(marks[place / plan.columns], place % plan.columns) {
         true => (0..2).all(|side| after[side][place] == before[side][place]),
         false => after[0][place] == after[1][place],
     })
 }
 
-fn mending(ledger: &mut Ledger, plan: &Plan, marks: &[u32], lent: [&[u8]; 2]) {
+fn mending(ledger: &mut Ledger, plan: &Plan, marks: &[u64], lent: [&[u8]; 2]) {
     let calls = lent.map(|stripe| Call::mend(plan.number, stripe, marks, &[0; REPORT_LENGTH]));
     let [one, other]: [Outcome; 2] = [ledger.hold(&calls[0]), ledger.hold(&calls[1])];
     let answers_same = one.number == other.number && one.buffers[1..] == other.buffers[1..];
@@ -44,7 +45,7 @@ fn mending(ledger: &mut Ledger, plan: &Plan, marks: &[u32], lent: [&[u8]; 2]) {
     ledger.demand(answers_same && same_but_for_marks(plan, words, lent, stripes), "mending reads under marks", &calls[1]);
 }
 
-fn writing(ledger: &mut Ledger, plan: &Plan, marks: &[u32], lent: [&[u8]; 2]) {
+fn writing(ledger: &mut Ledger, plan: &Plan, marks: &[u64], lent: [&[u8]; 2]) {
     let calls = lent.map(|stripe| Call::write_file(plan.number, stripe, marks, &vec![0; plan.file_length()]));
     let [one, other] = [ledger.hold(&calls[0]), ledger.hold(&calls[1])];
     ledger.demand(
@@ -55,7 +56,7 @@ fn writing(ledger: &mut Ledger, plan: &Plan, marks: &[u32], lent: [&[u8]; 2]) {
 }
 
 /// Ten steps in one order on both benches.
-fn stepping(ledger: &mut Ledger, plan: &Plan, marks: &[u32], lent: [&[u8]; 2], chance: &mut Chance) {
+fn stepping(ledger: &mut Ledger, plan: &Plan, marks: &[u64], lent: [&[u8]; 2], chance: &mut Chance) {
     let mut benches = lent.map(|stripe| {
         let call = Call::start(plan.number, stripe, marks, &[0; BENCH_LENGTH]);
         ledger.hold(&call).buffers[2].bytes().to_vec()
@@ -68,14 +69,10 @@ fn stepping(ledger: &mut Ledger, plan: &Plan, marks: &[u32], lent: [&[u8]; 2], c
         });
         let [one, other] = [ledger.hold(&calls[0]), ledger.hold(&calls[1])];
         benches = [one.buffers[0].bytes().to_vec(), other.buffers[0].bytes().to_vec()];
-        let symbols = [&benches[0][2..], &benches[1][2..]];
-        let (words, rest) = (mark_words(plan, &benches[0]), benches[0][258..] == benches[1][258..]);
+        let [symbols, behind] = [bench::SYMBOLS, bench::MARKS].map(|at| [&benches[0][at..], &benches[1][at..]]);
+        let words: Vec<u64> = (0..plan.rows).map(|row| number_of(&benches[0][word_of(row)])).collect();
+        let rest = behind[0] == behind[1];
         let same = one.number == other.number && rest && same_but_for_marks(plan, &words, lent, symbols);
         ledger.demand(same, "a step reads under marks", &calls[1]);
     }
-}
-
-fn mark_words(plan: &Plan, bench: &[u8]) -> Vec<u32> {
-    let words = bench[258..290].chunks(4).take(plan.rows);
-    words.map(|word| u32::from_le_bytes([word[0], word[1], word[2], word[3]])).collect()
 }

@@ -10,8 +10,8 @@ use std::alloc::{alloc, dealloc, Layout};
 use std::ffi::c_void;
 
 /// Bytes of stack that one mending and one row step may take, whatever the plan.
-const MENDING: usize = 4096;
-const ROW_STEP: usize = 3072;
+const MENDING: usize = 5120;
+const ROW_STEP: usize = 4608;
 /// Calls of each kind of marks and of stripe.
 const CALLS_OF_A_KIND: usize = 3;
 
@@ -41,7 +41,7 @@ pub fn calls(ledger: &mut Ledger) {
     }
 }
 
-fn by_mending(plan: &Plan, stripe: &[u8], marks: &[u32]) -> usize {
+fn by_mending(plan: &Plan, stripe: &[u8], marks: &[u64]) -> usize {
     let (mut stripe, mut marks, mut report) = (stripe.to_vec(), marks.to_vec(), vec![0; REPORT_LENGTH]);
     used(&mut || {
         shelf::mend(plan.number, &mut stripe, &mut marks, &mut report);
@@ -49,7 +49,7 @@ fn by_mending(plan: &Plan, stripe: &[u8], marks: &[u32]) -> usize {
 }
 
 /// The most that a row step takes in rounds on a bench: all rows, at every level that is reached.
-fn by_row_steps(plan: &Plan, stripe: &[u8], marks: &[u32]) -> usize {
+fn by_row_steps(plan: &Plan, stripe: &[u8], marks: &[u64]) -> usize {
     let mut bench = vec![0; BENCH_LENGTH];
     shelf::start(plan.number, stripe, marks, &mut bench);
     let mut most = 0;

@@ -5,6 +5,7 @@ use crate::ledger::Ledger;
 use outside::chance::Chance;
 use outside::damage::{self, CONTENTS, MARKS};
 use outside::oracle::answers::*;
+use outside::oracle::bench::{sums_of, word_of, MARKS as MARKS_AT, SUMS, SYMBOLS};
 use outside::oracle::Plan;
 
 const FIT_BENCHES: usize = 1500;
@@ -37,15 +38,15 @@ fn fit_bench(plan: &Plan, level: usize, chance: &mut Chance) -> Vec<u8> {
     let mut bench = chance.bytes(BENCH_LENGTH);
     bench[0] = plan.number as u8;
     bench[1] = level as u8;
-    bench[2..][..plan.symbols()].copy_from_slice(&damage::any_under_marks(plan, &stripe, &marks, chance));
+    bench[SYMBOLS..][..plan.symbols()].copy_from_slice(&damage::any_under_marks(plan, &stripe, &marks, chance));
     for (row, word) in marks.iter().enumerate() {
-        bench[258 + 4 * row..][..4].copy_from_slice(&word.to_le_bytes());
+        bench[word_of(row)].copy_from_slice(&word.to_le_bytes());
         let mut sums = damage::row_sums(plan, &stripe[row * plan.columns..][..plan.columns]);
         if chance.one_in(3) {
             let at = chance.below(plan.sums_to(level));
             sums[at] = chance.below(plan.q()) as u8;
         }
-        bench[290 + 16 * row..][..plan.sums_to(level)].copy_from_slice(&sums[..plan.sums_to(level)]);
+        bench[sums_of(row, plan.sums_to(level))].copy_from_slice(&sums[..plan.sums_to(level)]);
     }
     bench
 }
@@ -54,26 +55,26 @@ fn fit_bench(plan: &Plan, level: usize, chance: &mut Chance) -> Vec<u8> {
 pub fn any_bytes(ledger: &mut Ledger) {
     let mut chance = Chance::seeded(62);
     for _ in 0..MUTATED_BENCHES {
-        let plan = Plan::numbered(1 + chance.below(3)).expect("a plan");
+        let plan = damage::any_plan(&mut chance);
         let level = 1 + chance.below(plan.last());
         let mut bench = fit_bench(plan, level, &mut chance);
         for _ in 0..1 + chance.below(4) {
-            let at = chance.pick(&[0, 1, 2, 258, 290]) + chance.below(16);
+            let at = chance.pick(&[0, 1, SYMBOLS, MARKS_AT, SUMS]) + chance.below(20);
             bench[at] = if chance.one_in(2) { chance.byte() } else { chance.below(5) as u8 };
         }
         both_steps(ledger, &bench, &mut chance);
     }
     for _ in 0..RANDOM_BENCHES {
         let mut bench = chance.bytes(BENCH_LENGTH);
-        bench[0] = chance.below(5) as u8;
+        bench[0] = chance.below(7) as u8;
         bench[1] = chance.below(5) as u8;
         let limit = chance.pick(&[1, 2, 3, 16, 17]);
-        bench[2..258].iter_mut().for_each(|symbol| *symbol = chance.below(limit) as u8);
-        bench[290..].iter_mut().for_each(|sum| *sum = chance.below(limit) as u8);
-        let columns = chance.pick(&[7, 15, 32]);
-        bench[258..290].chunks_mut(4).for_each(|word| {
-            let kept = (chance.word() & chance.word()) & ((1 << columns) - 1);
-            word.copy_from_slice(&(kept as u32).to_le_bytes());
+        bench[SYMBOLS..MARKS_AT].iter_mut().for_each(|symbol| *symbol = chance.below(limit) as u8);
+        bench[SUMS..].iter_mut().for_each(|sum| *sum = chance.below(limit) as u8);
+        let columns = chance.pick(&[7, 15, 32, 64]);
+        bench[MARKS_AT..SUMS].chunks_mut(8).for_each(|word| {
+            let kept = (chance.word() & chance.word()) & (u64::MAX >> (64 - columns));
+            word.copy_from_slice(&kept.to_le_bytes());
         });
         both_steps(ledger, &bench, &mut chance);
     }

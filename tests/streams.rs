@@ -202,7 +202,7 @@ pub fn interrupted_runs(ledger: &mut Ledger, path: &str) {
 /// Answers how many runs it made.
 fn ridden_out(path: &str, fault: &str) -> usize {
     let folder = Folder::new(fault);
-    let files = [EXAMPLE_FILE.to_vec(), long_file(), vec![0; 297], vec![]];
+    let files = [EXAMPLE_FILE.to_vec(), long_file(), vec![0; 585], vec![]];
     files.iter().for_each(|file| reads_that_fail(path, &folder, fault, file, &printed(file), ""));
     writes_that_fail(path, &folder, fault, EXAMPLE_TEXT, "");
     interrupted_between_pieces(path, &folder, fault);
@@ -322,7 +322,7 @@ fn all_of(mut stream: impl Read) -> String {
 /// The example with more bytes behind it than any file has.
 fn long_file() -> Vec<u8> {
     let mut file = EXAMPLE_FILE.to_vec();
-    file.resize(400, 0);
+    file.resize(700, 0);
     file
 }
 

@@ -6,6 +6,7 @@ use crate::ledger::Ledger;
 use outside::chance::Chance;
 use outside::damage::codeword;
 use outside::oracle::answers::*;
+use outside::oracle::bench::{sums_of, word_of, SYMBOLS};
 use outside::oracle::Plan;
 
 pub fn calls(ledger: &mut Ledger) {
@@ -35,10 +36,10 @@ fn every_row_step(ledger: &mut Ledger) {
     for (level, sums) in [(1, 2), (2, 16)] {
         bench[1] = level;
         for learned in 0..sums {
-            bench[306..310].copy_from_slice(&bits(learned, 4));
+            bench[sums_of(1, 4)].copy_from_slice(&bits(learned, 4));
             for number in 0..1 << 14 {
-                bench[9..16].copy_from_slice(&bits(number, 7));
-                bench[262] = (number >> 7) as u8;
+                bench[SYMBOLS + 7..][..7].copy_from_slice(&bits(number, 7));
+                bench[word_of(1)][0] = (number >> 7) as u8;
                 ledger.hold(&Call::row_step(&bench, 1));
             }
         }
@@ -52,8 +53,8 @@ fn every_level_step(ledger: &mut Ledger) {
         let mut bench = vec![0; BENCH_LENGTH];
         bench[..2].copy_from_slice(&[1, 1]);
         for row in 0..3 {
-            bench[2 + 7 * row..][..7].copy_from_slice(&rows_with_sum[number >> (3 * row) & 7]);
-            bench[258 + 4 * row] = (number >> (9 + row) & 1) as u8 * (1 + row as u8);
+            bench[SYMBOLS + 7 * row..][..7].copy_from_slice(&rows_with_sum[number >> (3 * row) & 7]);
+            bench[word_of(row)][0] = (number >> (9 + row) & 1) as u8 * (1 + row as u8);
         }
         ledger.hold(&Call::level_step(&bench));
     }
@@ -68,7 +69,7 @@ fn every_seventh_stripe(ledger: &mut Ledger) {
 fn every_seventh_mark_set(ledger: &mut Ledger) {
     let plan = Plan::numbered(1).expect("a plan");
     let mut chance = Chance::seeded(81);
-    for number in (0..1u32 << 21).step_by(7) {
+    for number in (0..1u64 << 21).step_by(7) {
         let marks = [number & 127, number >> 7 & 127, number >> 14];
         let stripe = if number % 2 == 0 { codeword(plan, &mut chance) } else { chance.bytes_below(2, 21) };
         ledger.hold(&Call::mend(1, &stripe, &marks, &[0; REPORT_LENGTH]));

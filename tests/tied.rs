@@ -8,6 +8,7 @@ use outside::chance::Chance;
 use outside::contradiction;
 use outside::damage;
 use outside::oracle::answers::*;
+use outside::oracle::bench::{sums_of, word_of, SYMBOLS};
 use outside::oracle::plan::share;
 use outside::oracle::Plan;
 use std::cmp::Ordering;
@@ -25,23 +26,23 @@ fn levels(first: usize) -> impl Iterator<Item = (&'static Plan, usize)> {
 
 /// A bench at a level with any learned sums; bytes under marks, sums above its level and the room beyond the plan's size
 /// hold anything.
-fn any_bench(plan: &Plan, level: usize, stripe: &[u8], marks: &[u32], chance: &mut Chance) -> Vec<u8> {
+fn any_bench(plan: &Plan, level: usize, stripe: &[u8], marks: &[u64], chance: &mut Chance) -> Vec<u8> {
     let mut bench = chance.bytes(BENCH_LENGTH);
     bench[..2].copy_from_slice(&[plan.number as u8, level as u8]);
-    bench[2..][..plan.symbols()].copy_from_slice(&damage::any_under_marks(plan, stripe, marks, chance));
+    bench[SYMBOLS..][..plan.symbols()].copy_from_slice(&damage::any_under_marks(plan, stripe, marks, chance));
     for (row, word) in marks.iter().enumerate() {
-        bench[258 + 4 * row..][..4].copy_from_slice(&word.to_le_bytes());
-        bench[290 + 16 * row..][..plan.sums_to(level)].fill_with(|| chance.below(plan.q()) as u8);
+        bench[word_of(row)].copy_from_slice(&word.to_le_bytes());
+        bench[sums_of(row, plan.sums_to(level))].fill_with(|| chance.below(plan.q()) as u8);
     }
     bench
 }
 
 /// The same with the sums that the stripe has.
-fn true_bench(plan: &Plan, level: usize, stripe: &[u8], marks: &[u32], chance: &mut Chance) -> Vec<u8> {
+fn true_bench(plan: &Plan, level: usize, stripe: &[u8], marks: &[u64], chance: &mut Chance) -> Vec<u8> {
     let mut bench = any_bench(plan, level, stripe, marks, chance);
     for (row, symbols) in stripe.chunks(plan.columns).enumerate() {
         let sums = &damage::row_sums(plan, symbols)[..plan.sums_to(level)];
-        bench[290 + 16 * row..][..sums.len()].copy_from_slice(sums);
+        bench[sums_of(row, sums.len())].copy_from_slice(sums);
     }
     bench
 }
@@ -52,12 +53,12 @@ fn idle_step(ledger: &mut Ledger, call: &Call, number: usize, what: &str) {
     ledger.demand(outcome.number == number && outcome.buffers == call.buffers, what, call);
 }
 
-// ---- tied rows of plans 1 and 2
+// ---- tied rows of the binary plans
 
 /// Row steps at each level, and mending that comes to a Clash at each.
 pub fn contradictions(ledger: &mut Ledger) {
     let mut chance = Chance::seeded(141);
-    for (plan, level) in levels(1).filter(|(plan, _)| plan.number < 3) {
+    for (plan, level) in levels(1).filter(|(plan, _)| plan.width == 1) {
         let mut seen = BTreeSet::new();
         for _ in 0..ROWS_OF_A_LEVEL {
             let Some((word, column)) = contradiction::tied(plan, level, &mut chance) else { continue };
@@ -69,13 +70,14 @@ pub fn contradictions(ledger: &mut Ledger) {
             differ(&format!("plan {}, level {level}: tied rows with {seen:?}, {mended:?} marks than sums", plan.number));
         }
     }
-    let plan = Plan::numbered(2).expect("a plan");
-    (0..OVERFULL_STRIPES).for_each(|_| overfull(ledger, plan, &mut chance));
+    for plan in [2, 5].into_iter().filter_map(Plan::numbered) {
+        (0..OVERFULL_STRIPES).for_each(|_| overfull(ledger, plan, &mut chance));
+    }
 }
 
 /// How many marks the tied rows have that can contradict themselves, against their sums. In plan 1 a mark gives a row any
 /// parity, so there is none at level 1; and at level 2 any five columns give it any sums, and any three are independent. In
-/// plan 2 there are some with fewer marks than sums, with as many and with more.
+/// plans 2 and 5 there are some with fewer marks than sums, with as many and with more.
 fn marks_against_sums(plan: &Plan, level: usize) -> BTreeSet<Ordering> {
     match (plan.number, level) {
         (1, 1) => BTreeSet::new(),
@@ -86,20 +88,20 @@ fn marks_against_sums(plan: &Plan, level: usize) -> BTreeSet<Ordering> {
 
 /// A row with its true sums is tied. With one unmarked symbol changed it is a Clash, with its share in the learned sums too it is
 /// tied again, and with these alone changed it is a Clash.
-fn row_steps(ledger: &mut Ledger, plan: &Plan, level: usize, word: u32, column: usize, chance: &mut Chance) {
+fn row_steps(ledger: &mut Ledger, plan: &Plan, level: usize, word: u64, column: usize, chance: &mut Chance) {
     let stripe = chance.bytes_below(2, plan.symbols());
     let row = chance.below(plan.rows);
-    let mut marks: Vec<u32> = (0..plan.rows).map(|_| damage::columns(chance.below(4), plan, chance)).collect();
+    let mut marks: Vec<u64> = (0..plan.rows).map(|_| damage::columns(chance.below(4), plan, chance)).collect();
     marks[row] = word;
     let mut bench = true_bench(plan, level, &stripe, &marks, chance);
     idle_step(ledger, &Call::row_step(&bench, row), TIED, "a row that has fillings is not tied");
-    bench[2 + row * plan.columns + column] ^= 1;
+    bench[SYMBOLS + row * plan.columns + column] ^= 1;
     idle_step(ledger, &Call::row_step(&bench, row), CLASH, "a tied row without fillings is no Clash");
-    let sums = &mut bench[290 + 16 * row..][..plan.sums_to(level)];
+    let sums = &mut bench[sums_of(row, plan.sums_to(level))];
     let shares = (1..=level).flat_map(|level| share(plan.number, level, column, 1));
     sums.iter_mut().zip(shares).for_each(|(sum, more)| *sum ^= more);
     idle_step(ledger, &Call::row_step(&bench, row), TIED, "a row that has other sums is not tied");
-    bench[2 + row * plan.columns + column] ^= 1;
+    bench[SYMBOLS + row * plan.columns + column] ^= 1;
     idle_step(ledger, &Call::row_step(&bench, row), CLASH, "a tied row that lacks its sums is no Clash");
 }
 
@@ -113,7 +115,7 @@ fn mending(ledger: &mut Ledger, plan: &Plan, level: usize, chance: &mut Chance) 
         let mut stripe = damage::codeword(plan, chance);
         let row = chance.below(plan.rows);
         // one mark in a row is filled at level 1
-        let mut marks: Vec<u32> = (0..plan.rows).map(|_| damage::columns(chance.below(2), plan, chance)).collect();
+        let mut marks: Vec<u64> = (0..plan.rows).map(|_| damage::columns(chance.below(2), plan, chance)).collect();
         marks[row] = word;
         let call = mend_call(plan, &stripe, &marks, chance);
         let number = ledger.hold(&call).number;
@@ -128,7 +130,7 @@ fn mending(ledger: &mut Ledger, plan: &Plan, level: usize, chance: &mut Chance) 
     seen
 }
 
-fn mend_call(plan: &Plan, stripe: &[u8], marks: &[u32], chance: &mut Chance) -> Call {
+fn mend_call(plan: &Plan, stripe: &[u8], marks: &[u64], chance: &mut Chance) -> Call {
     let lent = damage::any_under_marks(plan, stripe, marks, chance);
     Call::mend(plan.number, &lent, marks, &chance.bytes(REPORT_LENGTH))
 }
@@ -141,11 +143,11 @@ fn hold_clash(ledger: &mut Ledger, call: &Call, row: usize, level: usize) {
     ledger.demand(met, "a tied row without fillings is not named", call);
 }
 
-/// Every row of plan 2 has more marks than sums: Stuck at level 1, and nothing changes. Once some of the rows contradict
+/// Every row of plan 2 or 5 has more marks than sums: Stuck at level 1, and nothing changes. Once some of the rows contradict
 /// themselves, the first of them is named.
 fn overfull(ledger: &mut Ledger, plan: &Plan, chance: &mut Chance) {
-    let rows: Vec<(u32, usize)> = (0..plan.rows).map(|_| overfull_row(plan, chance)).collect();
-    let marks: Vec<u32> = rows.iter().map(|&(word, _)| word).collect();
+    let rows: Vec<(u64, usize)> = (0..plan.rows).map(|_| overfull_row(plan, chance)).collect();
+    let marks: Vec<u64> = rows.iter().map(|&(word, _)| word).collect();
     let mut stripe = damage::codeword(plan, chance);
     let call = mend_call(plan, &stripe, &marks, chance);
     let outcome = ledger.hold(&call);
@@ -160,7 +162,7 @@ fn overfull(ledger: &mut Ledger, plan: &Plan, chance: &mut Chance) {
 }
 
 /// More marks than sums at level 1, and an unmarked column whose change leaves no filling there.
-fn overfull_row(plan: &Plan, chance: &mut Chance) -> (u32, usize) {
+fn overfull_row(plan: &Plan, chance: &mut Chance) -> (u64, usize) {
     loop {
         let Some((word, column)) = contradiction::tied(plan, 1, chance) else { continue };
         if word.count_ones() as usize > plan.sums_to(1) {
@@ -180,7 +182,7 @@ pub fn power_sums(ledger: &mut Ledger) {
         for word in 0..1 << plan.columns {
             let row = chance.below(plan.rows);
             let stripe = chance.bytes_below(plan.q(), plan.symbols());
-            let mut marks: Vec<u32> = (0..plan.rows).map(|_| chance.word() as u32 & 0x7fff).collect();
+            let mut marks: Vec<u64> = (0..plan.rows).map(|_| chance.word() & 0x7fff).collect();
             marks[row] = word;
             let call = Call::row_step(&any_bench(plan, level, &stripe, &marks, &mut chance), row);
             let outcome = ledger.make(&call);
@@ -200,7 +202,7 @@ pub fn power_sums(ledger: &mut Ledger) {
 /// Stripes of any symbols in which every row has more marks than sums at level 1: Stuck there, and nothing changes.
 fn overfull_stripes(ledger: &mut Ledger, plan: &Plan, chance: &mut Chance) {
     for _ in 0..OVERFULL_STRIPES {
-        let marks: Vec<u32> = (0..plan.rows).map(|_| damage::columns(3 + chance.below(13), plan, chance)).collect();
+        let marks: Vec<u64> = (0..plan.rows).map(|_| damage::columns(3 + chance.below(13), plan, chance)).collect();
         let stripe = chance.bytes_below(plan.q(), plan.symbols());
         let call = mend_call(plan, &stripe, &marks, chance);
         let outcome = ledger.hold(&call);
@@ -221,14 +223,14 @@ pub fn failing_levels(ledger: &mut Ledger) {
             for _ in 0..ROUNDS_OF_LEVELS {
                 let any_word = |chance: &mut Chance| damage::columns(1 + chance.below(plan.columns), plan, chance);
                 let word = |row: usize| if set >> row & 1 == 1 { any_word(&mut chance) } else { 0 };
-                let marks: Vec<u32> = (0..plan.rows).map(word).collect();
+                let marks: Vec<u64> = (0..plan.rows).map(word).collect();
                 lost_rows(ledger, plan, next, &marks, &mut chance);
             }
         }
     }
 }
 
-fn lost_rows(ledger: &mut Ledger, plan: &Plan, next: usize, marks: &[u32], chance: &mut Chance) {
+fn lost_rows(ledger: &mut Ledger, plan: &Plan, next: usize, marks: &[u64], chance: &mut Chance) {
     let lost = marks.iter().filter(|&&word| word != 0).count();
     let (of_codeword, of_other) = match lost.cmp(&plan.levels[next - 1].weights.len()) {
         Ordering::Greater => (BLOCKED, BLOCKED),
@@ -249,7 +251,7 @@ fn level_step(
     plan: &Plan,
     next: usize,
     stripe: &[u8],
-    marks: &[u32],
+    marks: &[u64],
     number: usize,
     chance: &mut Chance,
 ) {
@@ -260,7 +262,7 @@ fn level_step(
 }
 
 /// The stripe with a symbol of a row without marks changed, so that the row's sums of a level are others.
-fn with_another_sum(plan: &Plan, level: usize, stripe: &[u8], marks: &[u32], chance: &mut Chance) -> Vec<u8> {
+fn with_another_sum(plan: &Plan, level: usize, stripe: &[u8], marks: &[u64], chance: &mut Chance) -> Vec<u8> {
     let rows: Vec<usize> = (0..plan.rows).filter(|&row| marks[row] == 0).collect();
     let is_seen = |column: &usize| share(plan.number, level, *column, 1).iter().any(|&part| part != 0);
     let columns: Vec<usize> = (0..plan.columns).filter(is_seen).collect();

@@ -25,7 +25,7 @@ fn main() -> std::io::Result<()> {
     let folder = std::env::args().nth(1).expect("a folder");
     let mut chance = Chance::seeded(131);
     let kinds = KINDS.iter().flat_map(|&kind| Plan::all().map(move |plan| (plan, kind)));
-    let mut cases: Vec<(&Plan, Vec<u8>, Vec<u32>)> = kinds
+    let mut cases: Vec<(&Plan, Vec<u8>, Vec<u64>)> = kinds
         .map(|(plan, (content, kind))| {
             (plan, damage::stripe(plan, content, &mut chance), damage::marks(plan, kind, &mut chance))
         })
@@ -41,7 +41,7 @@ fn main() -> std::io::Result<()> {
 }
 
 /// A codeword of a binary plan in which a row is tied at the last level and, a symbol being changed, contradicts itself.
-fn contradiction<'a>(plan: &'a Plan, chance: &mut Chance) -> Option<(&'a Plan, Vec<u8>, Vec<u32>)> {
+fn contradiction<'a>(plan: &'a Plan, chance: &mut Chance) -> Option<(&'a Plan, Vec<u8>, Vec<u64>)> {
     let (word, column) = (plan.width == 1).then(|| contradiction::tied(plan, plan.last(), chance))??;
     let mut stripe = damage::codeword(plan, chance);
     stripe[column] ^= 1;

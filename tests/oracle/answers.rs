@@ -25,9 +25,9 @@ pub const FILE_LENGTH: usize = 20;
 pub const HEADER: usize = 21;
 pub const BYTE_UNDER_MARK: usize = 22;
 
-pub const BENCH_LENGTH: usize = 418;
+pub const BENCH_LENGTH: usize = 838;
 pub const REPORT_LENGTH: usize = 8;
-pub const TEXT_LENGTH: usize = 320;
+pub const TEXT_LENGTH: usize = 640;
 pub const COUNT_LENGTH: usize = 2;
 
 /// The places of a Clash, as the report numbers them.

@@ -11,10 +11,10 @@ pub struct Mended {
     pub answer: usize,
     pub report: [u8; REPORT_LENGTH],
     pub stripe: Vec<u8>,
-    pub marks: Vec<u32>,
+    pub marks: Vec<u64>,
 }
 
-pub fn mend(plan: usize, stripe: &mut [u8], marks: &mut [u32], report: &mut [u8]) -> usize {
+pub fn mend(plan: usize, stripe: &mut [u8], marks: &mut [u64], report: &mut [u8]) -> usize {
     let fits = report.len() == REPORT_LENGTH;
     let plan = match lent(plan, stripe, marks, |_| fits) {
         Ok(plan) => plan,
@@ -28,7 +28,7 @@ pub fn mend(plan: usize, stripe: &mut [u8], marks: &mut [u32], report: &mut [u8]
 }
 
 /// Mends a stripe that nothing refuses.
-pub fn mended(plan: &Plan, stripe: &[u8], marks: &[u32]) -> Mended {
+pub fn mended(plan: &Plan, stripe: &[u8], marks: &[u64]) -> Mended {
     let clash = |place: u8, row: usize, level: usize| Mended {
         answer: CLASH,
         report: [0, 0, 0, 0, 0, place, row as u8, level as u8],
@@ -63,7 +63,7 @@ struct Work<'a> {
     plan: &'a Plan,
     level: usize,
     symbols: Vec<u8>,
-    marks: Vec<u32>,
+    marks: Vec<u64>,
     sums: Bits,
 }
 

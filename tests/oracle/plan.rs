@@ -1,4 +1,4 @@
-//! The three plans, in the words of the requirements, and the vectors of bits that stand for their checks.
+//! The plans, in the words of the requirements, and the vectors of bits that stand for their checks.
 
 use super::binary::Bits;
 use std::sync::OnceLock;
@@ -50,6 +50,11 @@ pub fn times32(x: u8, y: u8) -> u8 {
     product(x, y, 0b100101, 5)
 }
 
+/// GF(64) by x^6 + x + 1.
+pub fn times64(x: u8, y: u8) -> u8 {
+    product(x, y, 0b1000011, 6)
+}
+
 pub fn power(times: fn(u8, u8) -> u8, x: u8, exponent: usize) -> u8 {
     (0..exponent).fold(1, |sum, _| times(sum, x))
 }
@@ -77,6 +82,14 @@ pub fn share(plan: usize, level: usize, column: usize, symbol: u8) -> Vec<u8> {
                 _ => bits(symbol * power(times32, location, 5), 5),
             }
         }
+        5 => {
+            let location = if column == 63 { 0 } else { power(times64, 2, column) };
+            match level {
+                1 => [vec![symbol], bits(symbol * location, 6)].concat(),
+                2 => bits(symbol * power(times64, location, 3), 6),
+                _ => bits(symbol * power(times64, location, 5), 6),
+            }
+        }
         _ => {
             let location = power(times16, 2, column);
             let sum = |p| times16(symbol, power(times16, location, p));
@@ -93,12 +106,13 @@ impl Plan {
     /// The plan of a number, if there is one.
     pub fn numbered(number: usize) -> Option<&'static Plan> {
         static PLANS: OnceLock<Vec<Plan>> = OnceLock::new();
-        let plans = PLANS.get_or_init(|| vec![Plan::first(), Plan::second(), Plan::third()]);
+        let plans = PLANS.get_or_init(|| vec![Plan::first(), Plan::second(), Plan::third(), Plan::fifth()]);
         plans.iter().find(|plan| plan.number == number)
     }
 
+    /// Every plan. None has number 4.
     pub fn all() -> impl Iterator<Item = &'static Plan> {
-        (1..=3).filter_map(Plan::numbered)
+        [1, 2, 3, 5].into_iter().filter_map(Plan::numbered)
     }
 
     fn first() -> Plan {
@@ -124,6 +138,13 @@ impl Plan {
         let weights = vec![vec![vec![1; 8], powers], vec![vec![1; 8]]];
         let counts = vec![(3, 2), (4, 1), (8, 0)];
         Plan::built(3, 4, (8, 15), weights, |row| (first_check(row)..15).collect(), counts, 3)
+    }
+
+    fn fifth() -> Plan {
+        let checks = |row| (0..if row < 7 { 6 } else { 18 }).chain([63]).collect();
+        let ones = vec![vec![1; 8]];
+        let counts = vec![(4, 1), (6, 1), (8, 0)];
+        Plan::built(5, 1, (8, 64), vec![ones.clone(), ones], checks, counts, 4)
     }
 
     /// The plan with these weights for the levels from 2 on, and these check columns in each row.
@@ -216,8 +237,22 @@ impl Plan {
         self.symbols() - self.check_places.len()
     }
 
+    /// The bytes of a mark word in a file.
+    pub fn word_bytes(&self) -> usize {
+        if self.columns > 32 {
+            8
+        } else {
+            4
+        }
+    }
+
+    /// Where the symbols begin in a file.
+    pub fn symbols_offset(&self) -> usize {
+        8 + self.word_bytes() * self.rows
+    }
+
     pub fn file_length(&self) -> usize {
-        8 + 4 * self.rows + self.symbols()
+        self.symbols_offset() + self.symbols()
     }
 
     /// The number of a row's sums at the levels from 1 to this one.
@@ -285,6 +320,6 @@ impl Plan {
 }
 
 /// Whether a row's mark word has a column.
-pub fn marked(word: u32, column: usize) -> bool {
+pub fn marked(word: u64, column: usize) -> bool {
     word >> column & 1 == 1
 }

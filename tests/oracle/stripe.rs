@@ -39,7 +39,7 @@ fn holding(plan: &Plan, stripe: &[u8], open: impl Fn(usize, usize) -> bool) -> A
 }
 
 /// The codewords that agree with the unmarked symbols.
-pub fn agreeing(plan: &Plan, stripe: &[u8], marks: &[u32]) -> Agreeing {
+pub fn agreeing(plan: &Plan, stripe: &[u8], marks: &[u64]) -> Agreeing {
     holding(plan, stripe, |row, column| marked(marks[row], column))
 }
 

@@ -11,7 +11,11 @@ pub fn printed(file: &[u8]) -> String {
         Err(number) => format!("refused {number}\n"),
         Ok((plan, marks, symbols)) => {
             let end = mended(plan, &symbols, &marks);
-            if end.answer == CLASH { clash_line(plan, &end) } else { grid(plan, &end) }
+            if end.answer == CLASH {
+                clash_line(plan, &end)
+            } else {
+                grid(plan, &end)
+            }
         }
     }
 }

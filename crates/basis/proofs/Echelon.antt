@@ -13,7 +13,7 @@ use lib.Pow.{pow-mono, pow-lt}
 use Rattle.field.specs.Field.{_⊕_}
 use Rattle.field.proofs.Sum.{of-bits, bit, ⊕-assoc, ⊕-comm, ⊕-self, ⊕-zero, zero-⊕, ⊕-undo, ⊕-cancel, ⊕-lt}
 use Rattle.equations.specs.Words.{bitAt}
-use Rattle.basis.specs.Span.{combined}
+use Rattle.basis.specs.Span.{columnBits, combined}
 use Rattle.basis.specs.Steps.{Ordered, Reduced}
 use Rattle.equations.proofs.Bits.{bit-sum, bit-of-none, bit-above, power-own}
 use Rattle.basis.proofs.Combined.{combined-sum, combined-masks, combined-past, combined-one}
@@ -94,7 +94,7 @@ module _ (f : ℕ → ℕ) (t r : ℕ) (B C at : ℕ → ℕ) (E : Echelon f t r
     bare s i l h = ⊕-cancel _ _ (sym (bit-sum s left (at i)) ∙ h) ∙ R .stuck i l
 
     -- something is, and stands at a pivot of its own
-    module _ (q : ℕ) (B′ C′ at′ : ℕ → ℕ) (holds : bitAt left q ≡ 1) (low : q < 32) (bq : B′ q ≡ left) (cq : C′ q ≡ made) (aq : at′ r ≡ q)
+    module _ (q : ℕ) (B′ C′ at′ : ℕ → ℕ) (holds : bitAt left q ≡ 1) (low : q < columnBits) (bq : B′ q ≡ left) (cq : C′ q ≡ made) (aq : at′ r ≡ q)
         (bo : (p : ℕ) → p ≢ q → B′ p ≡ B p) (co : (p : ℕ) → p ≢ q → C′ p ≡ C p) (ao : (i : ℕ) → i < r → at′ i ≡ at i) where
       other : (i : ℕ) → i < r → at i ≢ q
       other i l e = omega (arith, R .stuck i l, ap (bitAt left) e, holds)

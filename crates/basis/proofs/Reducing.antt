@@ -14,7 +14,7 @@ use Rattle.field.proofs.Laws as laws
 use Rattle.field.proofs.Table.{bits-product}
 use Rattle.field.proofs.Fields.{our-field}
 use Rattle.equations.specs.Words.{bitAt}
-use Rattle.basis.specs.Span.{combined}
+use Rattle.basis.specs.Span.{columnBits, maskBits, combined}
 use Rattle.basis.specs.Steps.{Ordered, Moved, Reduced}
 use Rattle.equations.proofs.Bits.{bit-sum, bit-times, times-le, taken-is}
 use Rattle.basis.proofs.Combined.{combined-masks, combined-zero}
@@ -59,20 +59,20 @@ stuck-turn B at r left i O l h = below-more _ _
 -- the loop, at pivot i
 pub record Reducing (B C at : ℕ → ℕ) (r word mask left made i : ℕ) : Type 0 where
   pub upto : i ≤ r
-  pub small : left < 2 ^ 32
+  pub small : left < 2 ^ columnBits
   pub moved : Moved B C word mask left made
   pub gone : (j : ℕ) → j < i → bitAt left (at j) ≡ 0
 
-pub reducing-start : (B C at : ℕ → ℕ) (r word mask : ℕ) → word < 2 ^ 32 → Reducing B C at r word mask word mask 0
+pub reducing-start : (B C at : ℕ → ℕ) (r word mask : ℕ) → word < 2 ^ columnBits → Reducing B C at r word mask word mask 0
 reducing-start B C at r word mask h = record { upto = omega arith; small = h; moved = moved-start B C word mask; gone = λ j l. absurd (omega arith) }
 
-pub reducing-turn : (B C at : ℕ → ℕ) (r word mask left made i : ℕ) → Ordered B at r → ((p : ℕ) → B p < 2 ^ 32) → ((p : ℕ) → C p < 2 ^ 64) → i < r
+pub reducing-turn : (B C at : ℕ → ℕ) (r word mask left made i : ℕ) → Ordered B at r → ((p : ℕ) → B p < 2 ^ columnBits) → ((p : ℕ) → C p < 2 ^ maskBits) → i < r
     → Reducing B C at r word mask left made i → let b = bitAt left (at i) in
-    Reducing B C at r word mask (left ⊕ bitAnd (B (at i)) (b * (2 ^ 32 - 1))) (made ⊕ bitAnd (C (at i)) (b * (2 ^ 64 - 1))) (i + 1)
+    Reducing B C at r word mask (left ⊕ bitAnd (B (at i)) (b * (2 ^ columnBits - 1))) (made ⊕ bitAnd (C (at i)) (b * (2 ^ maskBits - 1))) (i + 1)
 reducing-turn B C at r word mask left made i O hb hc l D =
-    rw (taken-is 32 (B (at i)) (bitAt left (at i)) (hb (at i)) (bit _), taken-is 64 (C (at i)) (bitAt left (at i)) (hc (at i)) (bit _)) record {
+    rw (taken-is columnBits (B (at i)) (bitAt left (at i)) (hb (at i)) (bit _), taken-is maskBits (C (at i)) (bitAt left (at i)) (hc (at i)) (bit _)) record {
       upto = omega arith;
-      small = ⊕-lt 32 _ _ (D .small) (lt-of-le-of-lt (times-le (B (at i)) _ (bit _)) (hb (at i)));
+      small = ⊕-lt columnBits _ _ (D .small) (lt-of-le-of-lt (times-le (B (at i)) _ (bit _)) (hb (at i)));
       moved = moved-bit B C word mask left made (at i) _ (bit _) (D .moved);
       gone = stuck-turn B at r left i O l (D .gone);
     }

@@ -11,6 +11,13 @@ use Rattle.field.specs.Ours.{fieldOf}
 use Rattle.equations.specs.System.{vec, Elements}
 use Rattle.equations.specs.Words.{bitAt}
 
+-- how many checks a column's word holds, and how many columns a mask names
+abbrev pub columnBits : ℕ
+columnBits = 32
+
+abbrev pub maskBits : ℕ
+maskBits = 64
+
 -- the sum of those of the first n words that x names: word j where x j is odd
 unfoldable pub combined : (ℕ → ℕ) → (ℕ → ℕ) → ℕ → ℕ
 combined f x zero = 0
@@ -27,8 +34,8 @@ pub record Spans (f : ℕ → ℕ) (k m need : ℕ) (consistent dependent : Bool
 -- what `span` takes: m checks over n columns, of bits, and k of the columns
 pub record Spannable (checks : List ℕ) (m n : ℕ) (places : List ℕ) (k : ℕ) : Type 0 where
   pub rows : m * n ≤ length checks
-  pub few : m ≤ 32
-  pub narrow : k ≤ 64
+  pub few : m ≤ columnBits
+  pub narrow : k ≤ maskBits
   pub listed : k ≤ length places
   pub below : (t : ℕ) → t < k → vec places t < n
   pub bits : Elements (fieldOf 2) (vec checks)

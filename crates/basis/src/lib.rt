@@ -3,7 +3,12 @@ ghost use mathlib.Core.Path.{_≡_};
 ghost use Rattle.equations.specs.System.{vec};
 ghost use Rattle.equations.specs.Words.{columnOf};
 ghost use Rattle.basis.specs.Span.{Spannable, Spans};
-ghost use Rattle.basis.specs.Steps.{Column, Reducible, Reduced};
+ghost use Rattle.basis.specs.Steps.{Column, Reducible, Reduced, Concluded};
+
+// How many bits a column's word has, and how many columns a mask names.
+const BITS: usize = 32;
+
+const COLUMNS: usize = 64;
 
 // Every bit of a word, and of a mask.
 const WORD: u32 = 4294967295;
@@ -33,9 +38,9 @@ struct Rest {
 // Makes a word 0 at the r pivots of the echelon, in the order of their making: adds to it each word whose pivot it has, and that
 // word's mask to its mask.
 fn reduce(
-    words: &[u32; 32],
-    masks: &[u64; 32],
-    pivots: &[u8; 64],
+    words: &[u32; BITS],
+    masks: &[u64; BITS],
+    pivots: &[u8; COLUMNS],
     r: usize,
     word: u32,
     mask: u64,
@@ -68,37 +73,54 @@ pub struct Answer {
     pub dependency: u64,
 }
 
+// What the echelon answers: whether it gives the word that is wanted, by which columns, and the dependency that was found, 0 for none.
+fn conclude(
+    words: &[u32; BITS],
+    masks: &[u64; BITS],
+    pivots: &[u8; COLUMNS],
+    r: usize,
+    wanted: u32,
+    dependency: u64,
+) -> Answer
+    requires { ⌜ Reducible (vec (now words)) (vec (now masks)) (vec (now pivots)) r ⌝ }
+    ensures { λ s. ⌜ Concluded (vec (now (words .entry))) (vec (now (masks .entry))) (vec (now (pivots .entry))) r wanted dependency
+        (s .consistent) (s .dependent) (s .solution) (s .dependency) ⌝ }
+{
+    let end = reduce(words, masks, pivots, r, wanted, 0);
+    Answer {
+        consistent: end.word == 0,
+        dependent: dependency != 0,
+        solution: end.mask,
+        dependency: dependency,
+    }
+}
+
 // Answers for the columns of m checks at the first k places, each a word of m bits, whether some of them give the m low bits of `need`,
 // and whether they are dependent. Where some do, `solution` names such columns; where they are dependent, `dependency` names at least
 // one, and those give 0. Both hold of dependent and of independent columns.
-pub fn span(checks: &[u8], m: usize, n: usize, places: &[usize], k: usize, need: u32) -> Answer
+pub fn span(checks: &[u8], m: usize, n: usize, places: &[u8], k: usize, need: u32) -> Answer
     requires { ⌜ Spannable (now checks) m n (now places) k ⌝ }
     ensures { λ s. ⌜ Spans (λ t. columnOf (now (checks .entry)) m n (vec (now (places .entry)) t)) k m need
         (s .consistent) (s .dependent) (s .solution) (s .dependency) ⌝ }
 {
     let wanted = need & ((1u64 << m) - 1) as u32;
-    let mut words = [0u32; 32];
-    let mut masks = [0u64; 32];
-    let mut pivots = [0u8; 64];
+    let mut words = [0u32; BITS];
+    let mut masks = [0u64; BITS];
+    let mut pivots = [0u8; COLUMNS];
     let mut r = 0;
     let mut dependency = 0u64;
     let mut t = 0;
     while t < k {
-        let column = gather_column(checks, m, n, places[t]);
+        let column = gather_column(checks, m, n, places[t] as usize);
         let rest = reduce(&words, &masks, &pivots, r, column, 1u64 << t);
         let left = rest.word;
         let made = rest.mask;
         if left == 0 {
             dependency = made;
             // where need is met already, further columns change nothing
-            let end = reduce(&words, &masks, &pivots, r, wanted, 0);
-            if end.word == 0 {
-                return Answer {
-                    consistent: true,
-                    dependent: true,
-                    solution: end.mask,
-                    dependency: made,
-                };
+            let end = conclude(&words, &masks, &pivots, r, wanted, made);
+            if end.consistent {
+                return end;
             }
         } else {
             let p = u32::trailing_zeros(left) as usize;
@@ -109,11 +131,5 @@ pub fn span(checks: &[u8], m: usize, n: usize, places: &[usize], k: usize, need:
         }
         t += 1;
     }
-    let end = reduce(&words, &masks, &pivots, r, wanted, 0);
-    Answer {
-        consistent: end.word == 0,
-        dependent: dependency != 0,
-        solution: end.mask,
-        dependency: dependency,
-    }
+    conclude(&words, &masks, &pivots, r, wanted, dependency)
 }

@@ -15,9 +15,9 @@ use Rattle.fills.specs.Lists.{all}
 use Rattle.fills.specs.Marks.{bitsOf}
 use Rattle.fills.proofs.Choices.{Alike}
 use Rattle.fills.proofs.Beside.{beside-alike}
-use Rattle.plans.specs.Plan.{Plan, known, planOf, rowAt, marksAt, marksOf, fileLength}
+use Rattle.plans.specs.Plan.{Plan, known, planOf, rowAt, marksAt, marksOf, wordBytes, fileLength}
 use Rattle.plans.specs.Refusal.{stripeFits, wordsFit, marksFit, unmarkedBelow, symbolsFit, lentRefusal, firstFailed, lentTests}
-use Rattle.words.specs.Words.{bytes4}
+use Rattle.words.specs.Words.{bytesOf}
 use Rattle.files.specs.File.{headerOf, blanked, fileOf, writeRefusal, writeFile}
 use Rattle.plans.proofs.Refusals.{unmarked-alike}
 use Rattle.demands.specs.Silence.{SameUnmarked, SilentWriting}
@@ -126,6 +126,6 @@ silent-writing p marks s t file h =
     firstFailed ((10, known p) ∷ (11, eqb n (P .rows * P .columns) && wordsFit P marks && eqb (length file) (fileLength P)) ∷ (12, marksFit P marks) ∷ (13, z) ∷ []))
     (h .long) (symbols-same p marks s t h) in (
       e,
-      ap₂ (λ n bytes. if eqb n 0 then headerOf p ++ flatMap bytes4 marks ++ bytes else file) e
+      ap₂ (λ n bytes. if eqb n 0 then headerOf p ++ flatMap (bytesOf (wordBytes P)) marks ++ bytes else file) e
           (beside-alike _ (λ x y. refl) (marksOf P marks) s t (at-alike (marksOf P marks) s t (h .agree))),
     )

@@ -8,6 +8,7 @@ pub mod Backed
 pub mod Plan1
 pub mod Plan2
 pub mod Plan3
+pub mod Plan5
 pub mod Few
 -- a bench and a codeword that agrees with it
 pub mod Alike

@@ -1,5 +1,5 @@
 -- What backs the demands on plan 2. The inverses and the lightest words were found by another program. Assumes nothing.
-use Rattle.plans.specs.Plan.{locations2, powers2, plan2}
+use Rattle.plans.specs.Plan.{elements, powerBits, frontAndLast, binaryPlan, plan2}
 use Rattle.plans.proofs.Plan2.{plan-2}
 use Rattle.demands.proofs.Backed.{arith, refl, List, [], map, flatMap, _∷_, _&_, _++_, ℕ, replicate, if_then_else_, upFrom, weight, _⊕_, size, double, times, mul, dot, gf2, gf32, power, all, only, vanish, first, rest, bitsOf, sumsOf, picked, allOnes, bitChecks, wordOf, planOf, noLevel, levelOf, checksTo, rowAt, marksAt, marksOf, across, checkPlacesOf, carried, allBelow, rowsHold, totalsHold, isCodeword, rowOf, symbolsCarried, rowDistance, distance, counts, combine, product, identity, RowSquare, Undoes, row-by-inverse, Backed}
 
@@ -15,7 +15,7 @@ lastInverse =
 
 undoes : Undoes plan2 1 0 lowInverse × Undoes plan2 3 7 lastInverse
 unfolding if_then_else_ upFrom _⊕_ size double times mul gf2 gf32 power flatMap only first rest bitsOf
-    allOnes bitChecks wordOf locations2 powers2 plan2 checksTo marksAt rowOf picked combine product identity lowInverse lastInverse
+    allOnes bitChecks wordOf elements powerBits frontAndLast binaryPlan plan2 checksTo marksAt rowOf picked combine product identity lowInverse lastInverse
 undoes = ((refl, tt), (refl, tt))
 
 low : RowSquare plan2 1 0
@@ -26,7 +26,7 @@ last = row-by-inverse plan-2 3 7 lastInverse (undoes .1)
 
 pub backed-2 : Backed 2
 unfolding if_then_else_ upFrom _⊕_ size double times mul dot gf2 gf32 power flatMap weight all only vanish sumsOf bitsOf
-    allOnes bitChecks wordOf locations2 powers2 plan2 planOf noLevel levelOf rowAt marksAt marksOf checkPlacesOf carried allBelow
+    allOnes bitChecks wordOf elements powerBits frontAndLast binaryPlan plan2 planOf noLevel levelOf rowAt marksAt marksOf checkPlacesOf carried allBelow
     across rowsHold totalsHold isCodeword rowOf symbolsCarried rowDistance distance counts
 backed-2 = record {
   order = replicate 7 1 ++ (3 ∷ []);

@@ -1,9 +1,9 @@
 -- Silence of reading: files that differ only under marks are read alike, but for refusal 22. Assumes nothing.
-use mathlib.Core.Path.{_≡_, refl, sym, ap, _∙_, subst}
+use mathlib.Core.Path.{_≡_, refl, sym, ap, ap₂, _∙_, subst}
 use mathlib.Core.Logic.{_⊎_, inl, inr}
 use mathlib.Core.Bool.{Bool, true, false, _&&_}
 use mathlib.Core.List.{List, [], _∷_, map}
-use Prim.Native.Nat.{ℕ, _+_, _*_, _<_}
+use Prim.Native.Nat.{ℕ, zero, suc, _+_, _*_, _≤_, _<_}
 use native.Mathlib.Nat.{eq-zero-or-pos}
 use native.Mathlib.Omega.{arith}
 use lib.Dec.{T, eqb, leb}
@@ -13,10 +13,11 @@ use Rattle.field.specs.Lists.{if_then_else_, upFrom}
 use Rattle.field.proofs.Lists.{map-up-same}
 use Rattle.fills.specs.Lists.{same}
 use Rattle.fills.proofs.Tests.{same→eq}
-use Rattle.plans.specs.Plan.{known, planOf, marksOf, marksOffset, symbolsOffset, fileLength}
+use Rattle.plans.specs.Plan.{known, planOf, marksOf, marksOffset, wordBytes, symbolsOffset, fileLength}
 use Rattle.plans.specs.Refusal.{firstFailed, stripeFits, wordsFit, marksFit, symbolsFit}
-use Rattle.files.specs.File.{headerOf, blanked, planIn, marksIn, symbolsIn, fileRefusal, readRefusal, readStripe, readMarks}
-use Rattle.words.specs.Words.{wordAt}
+use Rattle.files.specs.File.{headerSize, headerOf, blanked, planIn, marksIn, symbolsIn, fileRefusal, readRefusal, readStripe, readMarks}
+use Rattle.words.specs.Words.{byteRange, numberAt, wordsAt}
+use Rattle.words.proofs.Bytes.{word-inside}
 use Rattle.steps.proofs.Fit.{pass}
 use Rattle.demands.specs.Silence.{SameUnmarked, SameFile, same-reading, first-22, second-22, SilentReading}
 use Rattle.demands.proofs.Alike.{at-alike}
@@ -65,21 +66,23 @@ module _ (f g : List ℕ) (h : SameFile f g) where
   unfolding marksOffset symbolsOffset planIn
   plan-same = byte-same 0 (omega arith)
 
-  header-same : take 8 f ≡ take 8 g
+  header-same : take headerSize f ≡ take headerSize g
   unfolding marksOffset symbolsOffset
-  header-same = sym (take-take 8 n f (omega arith)) ∙ ap (take 8) (h .before) ∙ take-take 8 n g (omega arith)
+  header-same = sym (take-take headerSize n f (omega arith)) ∙ ap (take headerSize) (h .before) ∙ take-take headerSize n g (omega arith)
 
-  word-same : (i : ℕ) → i + 3 < n → wordAt f i ≡ wordAt g i
-  unfolding wordAt
-  word-same i l =
-      rw (byte-same i (omega arith), byte-same (i + 1) (omega arith), byte-same (i + 2) (omega arith), byte-same (i + 3) l)
+  word-same : (k i : ℕ) → i + k ≤ n → numberAt k f i ≡ numberAt k g i
+  unfolding numberAt
+  word-same zero i l = refl
+  word-same (suc k) i l = ap₂ (λ b w. b + byteRange * w) (byte-same i (omega arith)) (word-same k (suc i) (omega arith))
 
   pub marks-in-same : marksIn f ≡ marksIn g
   unfolding marksOffset symbolsOffset marksIn
   marks-in-same =
-      map-up-same (λ r. wordAt f (8 + 4 * r)) (λ r. wordAt g (8 + 4 * r)) 0 (planOf (planIn f) .rows) (λ r l.
-      word-same (8 + 4 * (0 + r)) (omega arith))
-      ∙ ap (λ p. map (λ r. wordAt g (8 + 4 * r)) (upFrom 0 (planOf p .rows))) plan-same
+      let P = planOf (planIn f) in
+      let s = wordBytes P in
+      map-up-same (λ r. numberAt s f (marksOffset + s * r)) (λ r. numberAt s g (marksOffset + s * r)) 0 (P .rows) (λ r l.
+      word-same s (marksOffset + s * (0 + r)) (omega (arith, word-inside s (0 + r) (P .rows) (omega arith))))
+      ∙ ap (λ p. wordsAt (wordBytes (planOf p)) g marksOffset (planOf p .rows)) plan-same
 
   pub symbols-alike : SameUnmarked (planIn f) (marksIn f) (symbolsIn f) (symbolsIn g)
   unfolding symbolsIn
@@ -107,7 +110,7 @@ module _ (f g : List ℕ) (h : SameFile f g) where
   refusal-same {a} e =
       subst (But22 (fileRefusal f a))
       (λ i.
-      firstFailed ((20, leb 8 (h .long i)) ∷ (10, known (plan-same i)) ∷ (21, same (header-same i) (headerOf (plan-same i))) ∷ (20, eqb (h .long i) (fileLength (planOf (plan-same i)))) ∷ (11, e i) ∷ (12, marksFit (planOf (plan-same i)) (marks-in-same i)) ∷ (13, fits-same i) ∷ (22, same (symbolsIn g) (blanked (marksOf (planOf (planIn g)) (marksIn g)) (symbolsIn g))) ∷ []))
+      firstFailed ((20, leb headerSize (h .long i)) ∷ (10, known (plan-same i)) ∷ (21, same (header-same i) (headerOf (plan-same i))) ∷ (20, eqb (h .long i) (fileLength (planOf (plan-same i)))) ∷ (11, e i) ∷ (12, marksFit (planOf (plan-same i)) (marks-in-same i)) ∷ (13, fits-same i) ∷ (22, same (symbolsIn g) (blanked (marksOf (planOf (planIn g)) (marksIn g)) (symbolsIn g))) ∷ []))
       (but-last _ _ _ _ _ _ _ _ _)
 
   read-same : (s m : List ℕ) → But22 (readRefusal f s m) (readRefusal g s m)

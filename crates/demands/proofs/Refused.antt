@@ -4,7 +4,7 @@ use mathlib.Core.Logic.{_≢_}
 use Prim.Native.Nat.{ℕ, zero, suc}
 use lib.Dec.{not-T, eqb, eqb→eq}
 use Rattle.field.specs.Lists.{if_then_else_}
-use Rattle.plans.specs.Plan.{known}
+use Rattle.plans.specs.Plan.{noPlan, planOf, known}
 use Rattle.plans.specs.Refusal.{firstFailed, benchRefusal, lentRefusal, benchTests}
 use Rattle.steps.specs.Steps.{empty, startedBy, started, stepped, unlessRefused, rowStep, levelStep}
 use Rattle.repair.specs.Mending.{mendReport, mendStripe, mendMarks}
@@ -66,5 +66,5 @@ start-refused p stripe marks h = go (lentRefusal p stripe marks) h
     go (suc n) h = refl
 
 pub empty-refused : EmptyRefused
-unfolding if_then_else_ known firstFailed benchTests benchRefusal empty unlessRefused rowStep levelStep
+unfolding if_then_else_ noPlan planOf known firstFailed benchTests benchRefusal empty unlessRefused rowStep levelStep
 empty-refused = record { rows = λ r. refl; levels = refl }

@@ -2,7 +2,7 @@
 use mathlib.Core.Path.{_≡_, refl, sym, ap, subst}
 use mathlib.Core.Bool.{true}
 use mathlib.Core.List.{List, [], _∷_, _++_, map, flatMap}
-use Prim.Native.Nat.{ℕ, zero, suc, _*_, _<_}
+use Prim.Native.Nat.{ℕ, zero, suc, _*_, _<_, _-_}
 use native.Mathlib.Omega.{arith}
 use lib.Count.{ones, onesIn}
 use lib.Dec.{T, ltb}
@@ -13,7 +13,8 @@ use Rattle.fills.specs.Lists.{any, all, only, same, zeros, vanish, first, rest,
 use Rattle.fills.specs.Marks.{bitsOf}
 use Rattle.fills.specs.Fill.{sumsOf, options, before, oneOfEach, choices, loose, dependent, fillings, fillBy, fill, isNone, vectorIn}
 use Rattle.fills.proofs.Choices.{alike-at}
-use Rattle.plans.specs.Plan.{allOnes, bitChecks, wordOf, locations1, plan1, known, noPlan, planOf, noLevel, levelOf, checksTo, rowAt, marksAt, marksOf, across, checkPlacesOf, carried, marksOffset, symbolsOffset, fileLength}
+use Rattle.plans.specs.Plan.{allOnes, bitChecks, wordOf, locations1, binaryPlan, plan1, plan2, plan3, plan5, known, noPlan, planOf, noLevel, levelOf, checksTo, rowAt, marksAt, marksOf, across, checkPlacesOf, carried, marksOffset, wideMarks, wordBytes, symbolsOffset, fileLength}
+use Rattle.plans.specs.Rooms.{rowRoom, symbolRoom, sumRoom, learnedRoom}
 use Rattle.plans.specs.Refusal.{firstFailed, unasked, stripeFits, wordsFit, marksFit, allBelow, unmarkedBelow, symbolsFit, sumsAt, sumsFit, levelFits, lentRefusal, benchRefusal, lentTests, benchTests}
 use Rattle.steps.specs.Steps.{fresh, empty, stepped, unlessRefused, rowFill, putRow, rowStepBy, rowStep, lossy, checkFill, levelFill, keepSums, raise, levelStepBy, levelStep}
 use Rattle.steps.specs.Rounds.{Standing, on, more, afterRow, afterLevel, takeTurn, goOn, turns}
@@ -22,7 +23,7 @@ use Rattle.repair.specs.Mending.{mendReport, mendMarks}
 use Rattle.codewords.specs.Codeword.{rowsHold, totalsHold, isCodeword}
 use Rattle.encoding.specs.Data.{taken, encodeRefusal, extractRefusal}
 use Rattle.encoding.proofs.Data.{taken-alike}
-use Rattle.words.specs.Words.{bytes2, wordAt}
+use Rattle.words.specs.Words.{bytesOf, numberAt}
 use Rattle.files.specs.File.{headerOf, blanked, writeRefusal, planIn, marksIn, symbolsIn, fileRefusal, readRefusal}
 use Rattle.plans.specs.declared.Bench.{Bench}
 use Rattle.plans.specs.declared.Answer.{Answer}
@@ -48,9 +49,9 @@ use Rattle.demands.proofs.Silence.{fresh-same}
 use Rattle.demands.proofs.Distance.{blankOf, blank-codeword}
 
 -- the plans' numbers
-pub plans-known : T (known 1) × T (known 2) × T (known 3)
-unfolding known
-plans-known = (tt, tt, tt)
+pub plans-known : T (known 1) × T (known 2) × T (known 3) × T (known 5)
+unfolding binaryPlan plan1 plan2 plan3 plan5 planOf known
+plans-known = (tt, tt, tt, tt)
 
 -- stripes agree where their unmarked symbols are the same
 pub agree : (p : ℕ) (marks X Y : List ℕ) → let ms = marksOf (planOf p) marks in taken ms X ≡ taken ms Y → Agree p marks X Y
@@ -81,11 +82,15 @@ rounds-quiet = rounds-suffice 1 exampleStripe exampleMarks example
 abbrev otherOrder : List Move
 otherOrder = onRow 2 ∷ onRow 0 ∷ onLevel ∷ onRow 1 ∷ []
 
+-- a list, and x behind it up to n numbers
+abbrev filled : ℕ → ℕ → List ℕ → List ℕ
+filled n x xs = xs ++ replicate (n - length xs) x
+
 -- the bench that both end with: all rows restored, level 2, and the level-2 sums of rows 0 and 1 are 3
 unfoldable pub exampleEnd : Bench
 exampleEnd =
-    let sums : List ℕ = (0 ∷ 1 ∷ 1 ∷ 0 ∷ []) ++ replicate 12 0 in
-    record { plan = 1; level = 2; symbols = exampleAfter ++ replicate 235 0; marks = replicate 8 0; sums = sums ++ sums ++ replicate 96 0 }
+    let sums : List ℕ = filled sumRoom 0 (0 ∷ 1 ∷ 1 ∷ 0 ∷ []) in
+    record { plan = 1; level = 2; symbols = filled symbolRoom 0 exampleAfter; marks = replicate rowRoom 0; sums = filled learnedRoom 0 (sums ++ sums) }
 
 -- ---- the stopping's: the standing of the example after its first round, rows 0 and 2 restored
 
@@ -94,8 +99,8 @@ exampleRound = standingOf
     record {
       plan = 1;
       level = 2;
-      symbols = set exampleStripe 1 1 ++ replicate 235 0;
-      marks = 0 ∷ 21 ∷ replicate 6 0;
+      symbols = filled symbolRoom 0 (set exampleStripe 1 1);
+      marks = filled rowRoom 0 (0 ∷ 21 ∷ []);
       sums = exampleEnd .sums;
     }
     0 (2 ∷ 0 ∷ 0 ∷ [])
@@ -188,7 +193,7 @@ same-benches = fresh-same 1 exampleMarks exampleStripe otherStripe same-unmarked
 
 -- files that differ in a byte under a mark: one is read, the other is refused with 22; and two whose first unmarked symbol is 2
 pub same-files : SameFile exampleFile (withByte 21 1) × SameFile (withByte 20 2) (withBytes 20 2 21 1)
-unfolding upFrom flatMap first rest bitsOf plan1 planOf marksAt marksOf marksOffset symbolsOffset planIn wordAt marksIn symbolsIn
+unfolding upFrom flatMap first rest bitsOf plan1 planOf marksAt marksOf marksOffset wideMarks wordBytes symbolsOffset planIn numberAt marksIn symbolsIn
     exampleFile withByte withBytes taken beside if_then_else_
 same-files = (
   record { long = refl; before = refl; agree = agree 1 (marksIn exampleFile) (symbolsIn exampleFile) (symbolsIn (withByte 21 1)) refl },
@@ -197,13 +202,13 @@ same-files = (
 
 pub read-and-22 : (readRefusal exampleFile blank noMarks ≡ 0) × (readRefusal (withByte 21 1) blank noMarks ≡ 22)
 unfolding blank noMarks
-read-and-22 = (file-order .8, file-order .7)
+read-and-22 = (file-order .9, file-order .8)
 
 -- the two are both refused, with 13
 pub both-13 : (fileRefusal (withByte 20 2) unasked ≡ 13) × (fileRefusal (withBytes 20 2 21 1) unasked ≡ 13)
 unfolding if_then_else_ upFrom size gf2 flatMap all same bitsOf plan1 known noPlan planOf rowAt marksAt marksOf
     firstFailed unasked marksFit unmarkedBelow symbolsFit
-    bytes2 marksOffset symbolsOffset fileLength headerOf blanked planIn wordAt marksIn symbolsIn fileRefusal exampleFile withByte withBytes first rest beside
+    bytesOf marksOffset wideMarks wordBytes symbolsOffset fileLength headerOf blanked planIn numberAt marksIn symbolsIn fileRefusal exampleFile withByte withBytes first rest beside
 both-13 = (refl, refl)
 
 -- a place that is still marked once a stripe is Stuck: column 0 of row 1
@@ -216,20 +221,20 @@ still-marked =
 
 unfoldable pub otherRoom : Bench
 otherRoom =
-    let sums : List ℕ = 0 ∷ replicate 15 200 in
+    let sums : List ℕ = filled sumRoom 200 (0 ∷ []) in
     record {
       plan = 1;
       level = 1;
-      symbols = exampleStripe ++ replicate 235 200;
-      marks = exampleMarks ++ replicate 5 200;
-      sums = sums ++ sums ++ sums ++ replicate 80 200;
+      symbols = filled symbolRoom 200 exampleStripe;
+      marks = filled rowRoom 200 exampleMarks;
+      sums = filled learnedRoom 200 (sums ++ sums ++ sums);
     }
 
 pub same-read : SameRead (fresh 1 exampleStripe exampleMarks) otherRoom
 unfolding flatMap allOnes plan1 planOf checksTo sumsAt fresh exampleStripe exampleMarks otherRoom
 same-read = record { plan = refl; level = refl; symbols = refl; marks = refl; sums = sums-same; places = refl }
   where
-    sums-same : (r : ℕ) → r < 3 → sumsAt plan1 1 (replicate 128 0) r ≡ sumsAt plan1 1 (otherRoom .sums) r
+    sums-same : (r : ℕ) → r < 3 → sumsAt plan1 1 (replicate learnedRoom 0) r ≡ sumsAt plan1 1 (otherRoom .sums) r
     sums-same zero l = refl
     sums-same (suc zero) l = refl
     sums-same (suc (suc zero)) l = refl
@@ -244,10 +249,10 @@ pub refusals :
     -- a row step; a level step
     × (benchRefusal otherRoom (ltb 3 (planOf (otherRoom .plan) .rows)) ≡ 14) × (benchRefusal empty unasked ≡ 10)
 unfolding if_then_else_ upFrom _⊕_ size double times mul dot gf2 flatMap all only vanish first rest beside bitsOf sumsOf
-    allOnes bitChecks wordOf locations1 plan1 known planOf noLevel levelOf checksTo rowAt marksAt marksOf
+    allOnes bitChecks wordOf locations1 plan1 known noPlan planOf noLevel levelOf checksTo rowAt marksAt marksOf
     firstFailed unasked stripeFits wordsFit marksFit allBelow unmarkedBelow symbolsFit sumsAt sumsFit levelFits lentTests lentRefusal benchTests benchRefusal
     empty across rowsHold totalsHold isCodeword checkPlacesOf carried encodeRefusal extractRefusal
-    marksOffset symbolsOffset fileLength writeRefusal planIn fileRefusal readRefusal blank exampleStripe exampleMarks otherRoom
+    marksOffset wideMarks wordBytes symbolsOffset fileLength writeRefusal planIn fileRefusal readRefusal blank exampleStripe exampleMarks otherRoom
 refusals = (refl, refl, refl, refl, refl, refl, refl)
 
 -- ---- the parameters': the zero row and stripe, which are light

@@ -11,7 +11,7 @@ use Rattle.field.specs.Power.{power}
 use Rattle.fills.specs.Lists.{any, all, only, same, zeros, vanish, first, rest, beside}
 use Rattle.fills.specs.Marks.{bitsOf}
 use Rattle.fills.specs.Fill.{sumsOf, options, before, choices, loose, dependent, fillings, fillBy, fill, oneOfEach}
-use Rattle.plans.specs.Plan.{allOnes, wordOf, locations3, powers3, plan3, known, noPlan, planOf, noLevel, levelOf, checksTo, rowAt, marksAt, marksOf, checkPlacesOf, carried, marksOffset, symbolsOffset, fileLength}
+use Rattle.plans.specs.Plan.{allOnes, wordOf, locations3, powers3, plan3, known, noPlan, planOf, noLevel, levelOf, checksTo, rowAt, marksAt, marksOf, checkPlacesOf, carried, marksOffset, wideMarks, wordBytes, symbolsOffset, fileLength}
 use Rattle.plans.specs.Refusal.{firstFailed, unasked, stripeFits, wordsFit, marksFit, allBelow, unmarkedBelow, symbolsFit, sumsAt, sumsFit, levelFits, lentRefusal, benchRefusal, lentTests, benchTests}
 use Rattle.steps.specs.Steps.{fresh, stepped, unlessRefused, rowFill, putRow, rowStepBy, rowStep}
 use Rattle.steps.specs.Rounds.{on, more, afterRow, takeTurn, goOn, turns}
@@ -19,7 +19,7 @@ use Rattle.steps.specs.Parts.{standingOf}
 use Rattle.repair.specs.Mending.{mended, turnReport, mendReport}
 use Rattle.rounds.specs.Reports.{bare}
 use Rattle.encoding.specs.Data.{encodeRefusal}
-use Rattle.words.specs.Words.{bytes2, wordAt}
+use Rattle.words.specs.Words.{bytesOf, numberAt}
 use Rattle.files.specs.File.{headerOf, blanked, planIn, marksIn, symbolsIn, fileRefusal, readRefusal}
 use Rattle.plans.specs.declared.Answer.the-variants.{Clash}
 use Rattle.plans.specs.declared.Place.the-variants.{Row}
@@ -86,7 +86,7 @@ file3 x y = (3 ∷ 8 ∷ 15 ∷ 0 ∷ 8 ∷ 0 ∷ 40 ∷ 0 ∷ []) ++ (1 ∷ rep
 
 -- they differ in the first symbol alone
 pub same-file : (x y z : ℕ) → SameFile (file3 x z) (file3 y z)
-unfolding upFrom flatMap bitsOf plan3 planOf marksAt marksOf marksOffset symbolsOffset planIn wordAt marksIn symbolsIn file3
+unfolding if_then_else_ upFrom flatMap bitsOf plan3 planOf marksAt marksOf marksOffset wideMarks wordBytes symbolsOffset planIn numberAt marksIn symbolsIn file3
 same-file x y z = record { long = refl; before = refl; agree = agrees }
   where
     agrees : Agree 3 (marksIn (file3 x z)) (symbolsIn (file3 x z)) (symbolsIn (file3 y z))
@@ -99,5 +99,5 @@ pub reads :
     × (fileRefusal (file3 0 16) unasked ≡ 13) × (fileRefusal (file3 5 16) unasked ≡ 13)
 unfolding if_then_else_ upFrom size gf16 flatMap all same bitsOf plan3 known noPlan planOf rowAt marksAt marksOf
     firstFailed unasked stripeFits wordsFit marksFit unmarkedBelow symbolsFit
-    bytes2 marksOffset symbolsOffset fileLength headerOf blanked planIn wordAt marksIn symbolsIn fileRefusal readRefusal blank3 file3 first rest beside
+    bytesOf marksOffset wideMarks wordBytes symbolsOffset fileLength headerOf blanked planIn numberAt marksIn symbolsIn fileRefusal readRefusal blank3 file3 first rest beside
 reads = (refl, refl, refl, refl)

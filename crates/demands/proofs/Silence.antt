@@ -17,6 +17,7 @@ use Rattle.fills.specs.Fill.{dependent, Fill, vectorIn}
 use Rattle.fills.proofs.Choices.{Alike}
 use Rattle.fills.proofs.Filling.{fill-alike}
 use Rattle.plans.specs.Plan.{Plan, Level, known, planOf, levelOf, checksTo, rowAt, marksAt, marksOf, across}
+use Rattle.plans.specs.Rooms.{symbolRoom}
 use Rattle.plans.specs.Refusal.{marksFit, sumsAt, sumsFit, levelFits, lentRefusal, benchRefusal, firstFailed, benchTests}
 use Rattle.steps.specs.Steps.{fresh, empty, startedBy, started, rowFill, putRow, rowStep, lossy, checkFill, levelFill, raise, levelStep}
 use Rattle.steps.specs.Rounds.{Standing, Turn, on, end, clash, more, nextRow, afterRow, afterLevel, takeTurn, goOn, turns}
@@ -68,8 +69,8 @@ fresh-same p marks s t h fit =
       sums = refl;
       stripe = record {
         long =
-            length-append s (replicate (256 - length s) 0) ∙ ap (λ n. n + length {A = ℕ} (replicate (256 - n) 0)) (h .long)
-            ∙ sym (length-append t (replicate (256 - length t) 0));
+            length-append s (replicate (symbolRoom - length s) 0) ∙ ap (λ n. n + length {A = ℕ} (replicate (symbolRoom - n) 0)) (h .long)
+            ∙ sym (length-append t (replicate (symbolRoom - length t) 0));
         agree =
             rows-agree p (fresh p s marks .marks) (fresh p s marks .symbols) (fresh p t marks .symbols) (λ r l.
             subst (λ w. Alike (bitsOf (P .columns) w) (rowAt P (fresh p s marks .symbols) r) (rowAt P (fresh p t marks .symbols) r))
@@ -78,8 +79,8 @@ fresh-same p marks s t h fit =
             (rows-alike p marks s t h r l)));
       };
       beyond = λ i l.
-          append-behind s t (replicate (256 - length s) 0) i (h .long) (omega (arith, f .long))
-          ∙ ap (λ n. getD (t ++ replicate (256 - n) 0) i 0) (h .long);
+          append-behind s t (replicate (symbolRoom - length s) 0) i (h .long) (omega (arith, f .long))
+          ∙ ap (λ n. getD (t ++ replicate (symbolRoom - n) 0) i 0) (h .long);
     }
 
 pub silent-start : SilentStart

@@ -22,7 +22,6 @@ form-start M m at = record {
   unit = λ t l. absurd (omega arith);
   gone = λ t l. absurd (omega arith);
   rows = omega arith;
-  cols = omega arith;
 }
 
 pub free-start : (at : ℕ → ℕ) (k : ℕ) → Free at 0 0 k k
@@ -36,7 +35,6 @@ form-skip M m at r c R h = record {
   unit = R .unit;
   gone = R .gone;
   rows = R .rows;
-  cols = omega (arith, R .cols);
 }
 
 pub free-skip : (M : Matrix) (m : ℕ) (at : ℕ → ℕ) (r c k : ℕ) → Form M m at r c → Free at r (c + 1) k c
@@ -52,7 +50,6 @@ module _ (at to : ℕ → ℕ) (r c : ℕ) (old : (t : ℕ) → t < r → to t �
     unit = below-more _ _ (λ t l. rw (old t l) (P .keep t (omega arith) (at t) (R .col t l) ∙ R .unit t l)) (rw new (P .unit));
     gone = below-more _ _ (λ t l i li ne. rw (old t l) (P .keep i li (at t) (R .col t l) ∙ R .gone t l i li ne)) (rw new (P .gone));
     rows = omega arith;
-    cols = omega (arith, R .cols);
   }
 
   pub free-step : (k free : ℕ) → Free at r c k free → Free to (r + 1) (c + 1) k free

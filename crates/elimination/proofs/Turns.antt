@@ -142,7 +142,7 @@ module _ (F : Field) where
     same = R .same;
   }
 
-  pub reducing-turn : (a₀ a b at₀ at : List ℕ) (m k w r free c : ℕ) → Reducing F a₀ a at₀ at m k w r free c → c < k → r < m → k ≤ length at₀
+  pub reducing-turn : (a₀ a b at₀ at : List ℕ) (m k w r free c : ℕ) → Reducing F a₀ a at₀ at m k w r free c → c < k → r < m → m ≤ length at₀
       → Pivoted F (ent a w) (ent b w) m w r c → length b ≡ length a → Elements F (vec b)
       → Reducing F a₀ b at₀ (set at r c) m k w (r + 1) free (c + 1)
   reducing-turn a₀ a b at₀ at m k w r free c R l lr fit P s h = record {
@@ -159,7 +159,7 @@ module _ (F : Field) where
       old t b = getD-set-other at r t c 0 (omega arith)
 
       new : vec (set at r c) r ≡ c
-      new = getD-set-same at r c 0 (omega (arith, R .pivots, R .form .cols))
+      new = getD-set-same at r c 0 (omega (arith, R .pivots))
 
 -- ---- `read_off`, at row t
 

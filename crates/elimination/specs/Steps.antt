@@ -1,5 +1,5 @@
 -- What the steps of elimination ask of the buffer and say of it. Assumes nothing.
-use Prim.Native.Nat.{ℕ, _+_, _*_, _≤_, _<_}
+use Prim.Native.Nat.{ℕ, _+_, _*_, _^_, _≤_, _<_}
 use mathlib.Core.Path.{_≡_}
 use mathlib.Core.Logic.{_≢_, _⊎_, _↔_}
 use mathlib.Core.List.{List}
@@ -43,7 +43,6 @@ pub record Form (M : Matrix) (m : ℕ) (at : ℕ → ℕ) (r c : ℕ) : Type 0 w
   pub unit : (t : ℕ) → t < r → M t (at t) ≡ 1
   pub gone : (t : ℕ) → t < r → (i : ℕ) → i < m → i ≢ t → M i (at t) ≡ 0
   pub rows : r ≤ m
-  pub cols : r ≤ c
 
 -- of the first c columns: `free` is one with no pivot; or it is k, and each has its pivot
 abbrev pub Free : (ℕ → ℕ) → ℕ → ℕ → ℕ → ℕ → Type 0
@@ -55,6 +54,12 @@ pub record ReadOff (F : Field) (M : Matrix) (m k : ℕ) (at : ℕ → ℕ) (u t 
   pub todo : (i : ℕ) → i < m → t ≤ i → inner F (M i) z k ≡ 0
   pub off : (j : ℕ) → ((s : ℕ) → s < t → at s ≢ j) → z j ≡ 0
   pub small : Elements F z
+
+-- what `find_row` takes: m rows, and a row and a column to begin at
+pub record Findable (a : List ℕ) (m w r c : ℕ) : Type 0 where
+  pub rows : m * w ≤ length a
+  pub row : r ≤ m
+  pub column : c < w
 
 -- what `add_row` takes: rows i and p lie in the buffer, and row p is 0 before column c
 pub record Addable (q : ℕ) (table a : List ℕ) (w i p c : ℕ) : Type 0 where
@@ -85,11 +90,12 @@ pub record Pivotable (q : ℕ) (table a : List ℕ) (m w r c i : ℕ) : Type 0 w
   pub nonzero : ent a w i c ≢ 0
   pub low : (x : ℕ) → r ≤ x → x < m → (j : ℕ) → j < c → ent a w x j ≡ 0
 
--- what `reduce` takes: m rows of k + 1 elements, and room for k pivots
+-- what `reduce` takes: m rows of k + 1 elements, a number that a word holds, and room for a pivot of each row
 pub record Reducible (q : ℕ) (table a : List ℕ) (m k : ℕ) (at : List ℕ) : Type 0 where
   pub products : table ≡ tableOf q
   pub rows : m * (k + 1) ≤ length a
-  pub pivots : k ≤ length at
+  pub width : k + 1 < 2 ^ 64
+  pub pivots : m ≤ length at
   pub elements : Elements (fieldOf q) (vec a)
 
 -- what `reduce` leaves: unit vectors at r of the first k columns, a column without, and the same vectors that give 0

@@ -3,13 +3,11 @@
 // A system is a flat buffer of m rows of w = k + 1 symbols: the coefficients of k unknowns, then the right-hand side. A field is
 // given by its number `q`, and its table is lent. There is one row operation; rows are neither swapped nor scaled.
 ghost use mathlib.Core.Path.{_≡_};
-ghost use Prim.Native.Nat.{_*_, _<_, _≤_};
-ghost use lib.ListN.{length};
 ghost use Rattle.field.specs.Field.{_⊕_, mul, inverse};
 ghost use Rattle.field.specs.Ours.{fieldOf, tableOf};
 ghost use Rattle.equations.specs.System.{vec, ent, Elements};
 ghost use Rattle.elimination.specs.Steps.{Found, Added, Cleared, Pivoted, Reduction};
-ghost use Rattle.elimination.specs.Steps.{Addable, Clearable, Pivotable, Reducible};
+ghost use Rattle.elimination.specs.Steps.{Findable, Addable, Clearable, Pivotable, Reducible};
 
 // Adds f times row p to row i, from column c on: before it row p is 0. i may be p.
 fn add_row(q: usize, table: &[u8], a: &mut [u8], w: usize, i: usize, p: usize, c: usize, f: u8)
@@ -33,7 +31,7 @@ fn add_row(q: usize, table: &[u8], a: &mut [u8], w: usize, i: usize, p: usize, c
 
 // The first row from r on whose entry in column c is not 0, or m.
 pub fn find_row(a: &[u8], m: usize, w: usize, r: usize, c: usize) -> usize
-    requires { ⌜ (m * w ≤ length (now a)) × (r ≤ m) × (c < w) ⌝ }
+    requires { ⌜ Findable (now a) m w r c ⌝ }
     ensures { λ i. ⌜ Found (ent (now (a .entry)) w) m r c i ⌝ }
 {
     let mut i = r;

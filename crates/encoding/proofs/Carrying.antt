@@ -2,15 +2,17 @@
 use mathlib.Core.Path.{_≡_, refl, sym, ap, ap₂, _∙_}
 use mathlib.Core.Bool.{Bool, true, false, _&&_, and-comm}
 use mathlib.Core.List.{List}
-use Prim.Native.Nat.{ℕ, zero, suc, _*_, _≤_}
+use Prim.Native.Nat.{ℕ, zero, suc, _*_, _-_, _≤_}
+use native.Mathlib.Omega.{arith}
 use borrow.Author.Tests.{eqb-true, eq-eqb, ne-eqb}
-use lib.Dec.{eqb, leb, eqb→eq, leb→le}
-use lib.ListN.{length, take}
-use Rattle.field.specs.Lists.{if_then_else_, upFrom}
-use Rattle.field.proofs.Words.{_&_}
+use lib.Dec.{eqb, eqb→eq}
+use lib.ListN.{length, take, replicate, length-append}
+use lib.Seq.{take-at}
+use Rattle.field.specs.Lists.{if_then_else_}
 use Rattle.fills.specs.Lists.{all}
-use Rattle.plans.specs.Plan.{Plan, wordOf, plan1, plan2, plan3, noPlan, known, planOf, marksOf, checkPlacesOf, carried}
+use Rattle.plans.specs.Plan.{Plan, binaryPlan, plan1, plan2, plan3, plan5, noPlan, known, planOf, marksOf, checkPlacesOf, carried}
 use Rattle.plans.specs.Refusal.{stripeFits, allBelow}
+use Rattle.plans.specs.Rooms.{rowRoom}
 use Rattle.plans.specs.Tables.{padded, placeTable, unmarked}
 use Rattle.tables.specs.Tables.{FactsOf}
 use Rattle.tables.specs.declared.Facts.{Facts}
@@ -20,7 +22,7 @@ use Rattle.plans.proofs.Refusals.{none-fails, passes, fails}
 use Rattle.encoding.specs.Asked.{Fits}
 use Rattle.encoding.specs.Data.{taken, outcomeOf, extracted, extractRefusal, extractData}
 use Rattle.plans.specs.declared.Outcome.the-variants.{Done, Refused}
-use Rattle.plans.proofs.Plans.{of-plans, all-plans}
+use Rattle.plans.proofs.Plans.{all-plans}
 use Rattle.plans.proofs.Scan.{true-and}
 
 -- ---- the check places
@@ -29,18 +31,18 @@ module _ (p : ℕ) where
   abbrev P : Plan
   P = planOf p
 
-  -- the first words of the code's table are the plan's check places
-  places-are : take (P .rows) (placeTable P) ≡ P .checkPlaces
-  unfolding upFrom wordOf plan1 plan2 plan3 noPlan padded placeTable
-  places-are = of-plans (λ P. take (P .rows) (placeTable P) ≡ P .checkPlaces) refl (refl & refl & refl & tt) p
-
   pub words-count : length (P .checkPlaces) ≡ P .rows
-  unfolding upFrom all wordOf plan1 plan2 plan3 noPlan
+  unfolding all binaryPlan plan1 plan2 plan3 plan5 noPlan
   words-count = eqb→eq _ _ (all-plans (λ P. eqb (length (P .checkPlaces)) (P .rows)) tt p)
 
+  -- the first words of the code's table are the plan's check places
+  places-are : take (P .rows) (placeTable P) ≡ P .checkPlaces
+  unfolding padded placeTable
+  places-are = take-at (P .checkPlaces) _ (P .rows) words-count
+
   places-room : P .rows ≤ length (placeTable P)
-  unfolding upFrom all wordOf plan1 plan2 plan3 noPlan padded placeTable
-  places-room = leb→le _ _ (all-plans (λ P. leb (P .rows) (length (placeTable P))) tt p)
+  unfolding padded placeTable
+  places-room = rw (length-append (P .checkPlaces) (replicate (rowRoom - length (P .checkPlaces)) 0)) (omega (arith, words-count))
 
   -- as they are lent
   module _ {rows : ℕ} {words : List ℕ} (high : rows ≡ P .rows) (table : words ≡ placeTable P) where

@@ -47,7 +47,7 @@ pub fn encode_refusal(plan: usize, data: &[u8], stripe: &[u8]) -> usize
 // ---- data
 
 // Writes data to a row's unmarked columns, in order, and 0 to the marked ones; answers how many it wrote. What stood in the row is not read.
-fn place_row(word: u32, data: &[u8], row: &mut [u8]) -> usize
+fn place_row(word: u64, data: &[u8], row: &mut [u8]) -> usize
     requires { ⌜ RowFits word (now row) (now «data») ⌝ }
     ensures { λ r. ⌜ r ≡ unmarked (bitsOf (length (now (row .entry))) word) ⌝ }
     ensures { λ r. ⌜ now (row .exit) ≡ placed (bitsOf (length (now (row .entry))) word) (now («data» .entry)) ⌝ }
@@ -65,7 +65,7 @@ fn place_row(word: u32, data: &[u8], row: &mut [u8]) -> usize
 }
 
 // Writes data to a stripe's unmarked places, row by row, and 0 to the marked ones. What stood in the stripe is not read.
-pub fn place(plan: usize, words: &[u32], data: &[u8], stripe: &mut [u8])
+pub fn place(plan: usize, words: &[u64], data: &[u8], stripe: &mut [u8])
     requires { ⌜ Fits (planOf plan) (now words) (now «data») (now stripe) ⌝ }
     ensures { λ r. ⌜ now (stripe .exit) ≡ placed (marksOf (planOf plan) (now (words .entry))) (now («data» .entry)) ⌝ }
 {
@@ -81,7 +81,7 @@ pub fn place(plan: usize, words: &[u32], data: &[u8], stripe: &mut [u8])
 }
 
 // Writes the symbols of a row's unmarked columns to the front of the data, in order; answers how many it wrote. The data behind them stays as it is.
-fn take_row(word: u32, row: &[u8], data: &mut [u8]) -> usize
+fn take_row(word: u64, row: &[u8], data: &mut [u8]) -> usize
     requires { ⌜ RowFits word (now row) (now «data») ⌝ }
     ensures { λ r. ⌜ r ≡ unmarked (bitsOf (length (now (row .entry))) word) ⌝ }
     ensures { λ r. ⌜ now («data» .exit) ≡ sets (now («data» .entry)) 0 (taken (bitsOf (length (now (row .entry))) word) (now (row .entry))) ⌝ }
@@ -97,7 +97,7 @@ fn take_row(word: u32, row: &[u8], data: &mut [u8]) -> usize
 }
 
 // Writes the symbols of a stripe's unmarked places to the data, row by row. The stripe stays as it is.
-pub fn take(plan: usize, words: &[u32], stripe: &[u8], data: &mut [u8])
+pub fn take(plan: usize, words: &[u64], stripe: &[u8], data: &mut [u8])
     requires { ⌜ Fits (planOf plan) (now words) (now «data») (now stripe) ⌝ }
     ensures { λ r. ⌜ now («data» .exit) ≡ taken (marksOf (planOf plan) (now (words .entry))) (now (stripe .entry)) ⌝ }
 {

@@ -2,7 +2,7 @@
 use Prim.Native.Nat.{ℕ, _+_, _*_, _≤_, _<_}
 use mathlib.Core.Path.{subst}
 use mathlib.Core.Logic.{_≢_, _⊎_, inl, inr}
-use native.Mathlib.Nat.{mul-le-mul, mul-le-mul-right, suc-mul}
+use native.Mathlib.Nat.{mul-le-mul-right, suc-mul}
 use native.Mathlib.Decide.{decLt}
 use native.Mathlib.Omega.{arith}
 
@@ -13,7 +13,3 @@ row-fits m w i h = subst (λ n. n ≤ m * w) (suc-mul i w) (mul-le-mul-right w h
 -- two rows do not overlap
 pub rows-apart : (w i p : ℕ) → i ≢ p → (i * w + w ≤ p * w) ⊎ (p * w + w ≤ i * w)
 rows-apart w i p ne = elim (decLt i p) [ yes l ↦ inl (row-fits p w i l) | no nl ↦ inr (row-fits i w p (omega arith)) ]
-
--- the system of `fill` has room
-pub system-fits : (m k : ℕ) → m ≤ 16 → k ≤ 32 → m * (k + 1) ≤ 528
-system-fits m k hm hk = let h : k + 1 ≤ 33 = omega arith in mul-le-mul hm h

@@ -4,7 +4,7 @@ use mathlib.Core.Bool.{Bool, true, false}
 use Prim.Native.Nat.{ℕ}
 use borrow.Author.Tests.{eq-eqb, ne-eqb}
 use lib.Dec.{eqb, lit<}
-use Rattle.field.specs.Field.{_⊕_, size, double, times, mul, squares, inverse, gf2, gf8, gf16, gf32}
+use Rattle.field.specs.Field.{_⊕_, size, double, times, mul, squares, inverse, gf2, gf8, gf16, gf32, gf64}
 use Rattle.field.specs.Lists.{if_then_else_}
 use Rattle.field.specs.Ours.{fieldOf}
 use Rattle.field.proofs.Laws.{IsField, is-field}
@@ -24,6 +24,10 @@ gf16-field = is-field gf16 refl (lit< tt) tt
 pub gf32-field : IsField gf32
 unfolding _⊕_ size double times mul squares inverse gf32
 gf32-field = is-field gf32 refl (lit< tt) tt
+
+pub gf64-field : IsField gf64
+unfolding _⊕_ size double times mul squares inverse gf64
+gf64-field = is-field gf64 refl (lit< tt) tt
 
 -- whatever the number
 pub our-field : (q : ℕ) → IsField (fieldOf q)

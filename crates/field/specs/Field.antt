@@ -59,3 +59,7 @@ gf16 = record { width = 4; polynomial = 0b10011 }
 -- x ^ 5 + x ^ 2 + 1
 unfoldable pub gf32 : Field
 gf32 = record { width = 5; polynomial = 0b100101 }
+
+-- x ^ 6 + x + 1
+unfoldable pub gf64 : Field
+gf64 = record { width = 6; polynomial = 0b1000011 }

@@ -3,22 +3,22 @@ use mathlib.Core.Path.{_≡_, refl, sym, ap, ap₂, _∙_, subst}
 use mathlib.Core.Bool.{Bool, true, false, _&&_, and-true, and-false}
 use mathlib.Core.List.{List, [], _∷_, _++_, flatMap, append-assoc}
 use Prim.Native.Nat.{ℕ, _+_, _*_, _-_, _≤_, _<_}
-use native.Mathlib.Nat.{le-of-eq, le-trans}
+use native.Mathlib.Nat.{le-of-eq}
 use native.Mathlib.Omega.{arith}
 use borrow.Author.Tests.{le-leb, eq-eqb, ne-eqb}
 use lib.Dec.{T, eqb, leb, ltb, ltb→lt, eqb→eq, le→leb}
 use lib.ListN.{length, getD, take, drop, length-append, length-take, length-drop, take-append-drop}
-use lib.Pow.{pow-mono}
 use lib.Seq.{drop-at, take-all, take-add, ext-getD}
 use Rattle.field.specs.Lists.{if_then_else_}
 use Rattle.field.proofs.Test.{both-left, both-right, both}
 use Rattle.field.proofs.Words.{EachBelow, _&_}
 use Rattle.fills.specs.Lists.{all, same}
 use Rattle.fills.proofs.Tests.{is-true, same→eq, same-refl}
-use Rattle.plans.specs.Plan.{Plan, planOf, known, marksOf, marksOffset, symbolsOffset, fileLength}
+use Rattle.plans.specs.Plan.{Plan, planOf, known, marksOf, marksOffset, wordBytes, symbolsOffset, fileLength}
 use Rattle.plans.specs.Rooms.{rowRoom}
 use Rattle.plans.specs.Refusal.{firstFailed, unasked, stripeFits, wordsFit, marksFit, symbolsFit, lentRefusal, lentTests}
-use Rattle.words.specs.Words.{byteRange, bytes2, bytes4, wordAt, wordsAt}
+use Rattle.words.specs.Words.{byteRange, bytesOf, numberAt, wordsAt}
+use Rattle.words.specs.Written.{WordsIn}
 use Rattle.files.specs.File.{headerSize, headerOf, blanked, fileOf, writeRefusal, writeFile, planIn, marksIn, symbolsIn, fileRefusal, readRefusal}
 use Rattle.plans.proofs.Parts.{rest-of}
 use Rattle.files.specs.Parts.{Symbols, Whole, Loading, contentRefusal}
@@ -26,18 +26,18 @@ use Rattle.words.proofs.Bytes.{length-words-at, getD-words-at, word-behind, wor
 use Rattle.plans.proofs.Plans.{shape}
 use Rattle.plans.proofs.Refusals.{all-passed, none-refused, stripe-length, marks-length}
 use Rattle.steps.proofs.Fit.{eq→eqb, marks-fit, fit-marks, symbols-fit, fit-symbols, LentFit, lent-fit, fit-lent}
-use Rattle.files.proofs.Stripes.{length-blanked, blanked-twice, fit-blanked, length-marks-of}
+use Rattle.files.proofs.Stripes.{length-blanked, blanked-twice, fit-blanked, length-marks-of, length-header, word-bytes-most, word-fits}
 
 -- ---- what is read
 
 module _ (file : List ℕ) where
   pub length-marks-in : length (marksIn file) ≡ planOf (planIn file) .rows
   unfolding marksIn
-  length-marks-in = length-words-at file marksOffset (planOf (planIn file) .rows)
+  length-marks-in = let P = planOf (planIn file) in length-words-at (wordBytes P) file marksOffset (P .rows)
 
-  pub getD-marks-in : (r : ℕ) → r < planOf (planIn file) .rows → getD (marksIn file) r 0 ≡ wordAt file (headerSize + 4 * r)
+  pub getD-marks-in : (r : ℕ) → let P = planOf (planIn file) in r < P .rows → getD (marksIn file) r 0 ≡ numberAt (wordBytes P) file (headerSize + wordBytes P * r)
   unfolding marksOffset marksIn
-  getD-marks-in = getD-words-at file headerSize (planOf (planIn file) .rows)
+  getD-marks-in = let P = planOf (planIn file) in getD-words-at (wordBytes P) file headerSize (P .rows)
 
   pub length-symbols-in : length file ≡ fileLength (planOf (planIn file)) → length (symbolsIn file) ≡ planOf (planIn file) .rows * planOf (planIn file) .columns
   unfolding symbolsIn fileLength
@@ -49,25 +49,29 @@ module _ (file : List ℕ) where
   symbols-behind e =
       let P = planOf (planIn file) in take-all (P .rows * P .columns) (drop (symbolsOffset P) file) (simp length-drop (omega arith))
 
--- a file with its plan's header and length, as code that knows the plan's rows reads it
-module _ {p n : ℕ} {file : List ℕ} (w : Whole p file) (rows : n ≡ planOf p .rows) where
-  pub whole-start : headerSize + 4 * n ≤ length file
+-- a file with its plan's header and length, as code that knows the plan's rows and the size of its mark words reads it
+module _ {p n s : ℕ} {file : List ℕ} (w : Whole p file) (rows : n ≡ planOf p .rows) (size : s ≡ wordBytes (planOf p)) where
+  pub whole-start : headerSize + s * n ≤ length file
   unfolding marksOffset symbolsOffset fileLength
-  whole-start = omega (arith, rows, w .long)
+  whole-start = omega (arith, ap₂ _*_ size rows, w .long)
+
+  pub whole-words : WordsIn file headerSize s n
+  whole-words = record { narrow = omega (arith, size, word-bytes-most p); inside = whole-start }
 
   pub whole-rows : n ≤ rowRoom
   whole-rows = omega (arith, rows, shape p (w .plan-known) .rows-le)
 
   -- the mark words, and the symbols, cut off behind them
-  pub whole-marks : wordsAt file headerSize n ≡ marksIn file
+  pub whole-marks : wordsAt s file headerSize n ≡ marksIn file
   unfolding marksOffset marksIn
-  whole-marks = ap (wordsAt file headerSize) (rows ∙ ap (λ k. planOf k .rows) (w .plan))
+  whole-marks =
+      ap₂ (λ s n. wordsAt s file headerSize n) (size ∙ ap (λ k. wordBytes (planOf k)) (w .plan)) (rows ∙ ap (λ k. planOf k .rows) (w .plan))
 
-  pub whole-cut : take (length file - (headerSize + 4 * n)) (drop (headerSize + 4 * n) file) ≡ symbolsIn file
+  pub whole-cut : take (length file - (headerSize + s * n)) (drop (headerSize + s * n) file) ≡ symbolsIn file
   unfolding marksOffset symbolsOffset
   whole-cut =
-      rest-of (headerSize + 4 * n) file
-      ∙ ap (λ k. drop (headerSize + 4 * k) file) (rows ∙ ap (λ k. planOf k .rows) (w .plan))
+      rest-of (headerSize + s * n) file
+      ∙ ap₂ (λ s n. drop (headerSize + s * n) file) (size ∙ ap (λ k. wordBytes (planOf k)) (w .plan)) (rows ∙ ap (λ k. planOf k .rows) (w .plan))
       ∙ sym (symbols-behind file (w .long ∙ ap (λ k. fileLength (planOf k)) (w .plan)))
 
   -- they are as long as the plan's
@@ -84,7 +88,7 @@ module _ {p n : ℕ} {file : List ℕ} (w : Whole p file) (rows : n ≡ planOf p
 pub whole-tests : {p : ℕ} {file : List ℕ} → Whole p file → contentRefusal (planOf p) (marksIn file) (symbolsIn file) ≡ fileRefusal file unasked
 unfolding if_then_else_ firstFailed unasked fileRefusal
 whole-tests {p} {file} w =
-    let long : leb headerSize (length file) ≡ true = le-leb headerSize (length file) (omega (arith, whole-start w refl)) in
+    let long : leb headerSize (length file) ≡ true = le-leb headerSize (length file) (omega (arith, whole-start w refl refl)) in
     let is-plan : known (planIn file) ≡ true = ap known (sym (w .plan)) ∙ is-true _ (w .plan-known) in
     let agrees : same (take headerSize file) (headerOf (planIn file)) ≡ true =
     ap (λ k. same (take headerSize file) (headerOf k)) (sym (w .plan)) ∙ is-true _ (w .header) in
@@ -175,46 +179,53 @@ module _ (p : ℕ) (stripe marks : List ℕ) (f : LentFit p stripe marks) where
   abbrev file : List ℕ
   file = fileOf p stripe marks
 
-  length-front : length (headerOf p ++ flatMap bytes4 marks) ≡ symbolsOffset Q
-  unfolding bytes2 marksOffset symbolsOffset headerOf
-  length-front = length-append (headerOf p) (flatMap bytes4 marks) ∙ ap (λ n. 8 + n) (length-bytes marks ∙ ap (λ n. 4 * n) (f .words))
+  -- the bytes of the mark words
+  abbrev words : List ℕ
+  words = flatMap (bytesOf (wordBytes Q)) marks
+
+  length-front : length (headerOf p ++ words) ≡ symbolsOffset Q
+  unfolding marksOffset symbolsOffset
+  length-front =
+      length-append (headerOf p) words
+      ∙ ap₂ _+_ (length-header p) (length-bytes (wordBytes Q) marks ∙ ap (λ n. wordBytes Q * n) (f .words))
 
   length-back : length (blanked (marksOf Q marks) stripe) ≡ Q .rows * Q .columns
   length-back = length-blanked (marksOf Q marks) stripe ∙ length-marks-of Q marks
 
   pub plan-written : planIn file ≡ p
-  unfolding bytes2 headerOf fileOf planIn
+  unfolding bytesOf headerOf fileOf planIn
   plan-written = refl
 
-  word-written : (r : ℕ) → r < Q .rows → wordAt file (headerSize + 4 * r) ≡ getD marks r 0
-  unfolding bytes2 headerOf fileOf
+  word-written : (r : ℕ) → r < Q .rows → numberAt (wordBytes Q) file (headerSize + wordBytes Q * r) ≡ getD marks r 0
+  unfolding bytesOf headerOf fileOf
   word-written r h =
-      ap (λ l. wordAt l (headerSize + 4 * r)) (append-assoc (headerOf p) (flatMap bytes4 marks) (blanked (marksOf Q marks) stripe))
-      ∙ word-behind (headerOf p) (flatMap bytes4 marks ++ blanked (marksOf Q marks) stripe) (4 * r)
-      ∙ words-bytes marks (blanked (marksOf Q marks) stripe) r (omega (arith, f .words))
-      (le-trans (f .mark-lt r h) (pow-mono (shape p (f .plan-known) .columns-le)))
+      ap (λ l. numberAt (wordBytes Q) l (headerSize + wordBytes Q * r)) (append-assoc (headerOf p) words (blanked (marksOf Q marks) stripe))
+      ∙ word-behind (wordBytes Q) (headerOf p) (words ++ blanked (marksOf Q marks) stripe) (wordBytes Q * r)
+      ∙ words-bytes (wordBytes Q) marks (blanked (marksOf Q marks) stripe) r (omega (arith, f .words)) (word-fits p (f .mark-lt r h))
 
   pub marks-written : marksIn file ≡ marks
   marks-written =
       let rows : planOf (planIn file) .rows ≡ Q .rows = ap (λ k. planOf k .rows) plan-written in
       ext-getD 0 (marksIn file) marks (length-marks-in file ∙ rows ∙ sym (f .words))
-      (λ r h. getD-marks-in file r (omega (arith, length-marks-in file)) ∙ word-written r (omega (arith, length-marks-in file, rows)))
+      (λ r h. getD-marks-in file r (omega (arith, length-marks-in file))
+      ∙ ap (λ k. numberAt (wordBytes (planOf k)) file (headerSize + wordBytes (planOf k) * r)) plan-written
+      ∙ word-written r (omega (arith, length-marks-in file, rows)))
 
   pub symbols-written : symbolsIn file ≡ blanked (marksOf Q marks) stripe
   unfolding fileOf symbolsIn
   symbols-written =
       ap (λ k. take (planOf k .rows * planOf k .columns) (drop (symbolsOffset (planOf k)) file)) plan-written
       ∙ ap (take (Q .rows * Q .columns))
-      (drop-at (headerOf p ++ flatMap bytes4 marks) (blanked (marksOf Q marks) stripe) (symbolsOffset Q) length-front)
+      (drop-at (headerOf p ++ words) (blanked (marksOf Q marks) stripe) (symbolsOffset Q) length-front)
       ∙ take-all (Q .rows * Q .columns) (blanked (marksOf Q marks) stripe) (le-of-eq length-back)
 
   pub length-written : length file ≡ fileLength Q
   unfolding fileLength fileOf
   length-written =
-      length-append (headerOf p ++ flatMap bytes4 marks) (blanked (marksOf Q marks) stripe) ∙ ap₂ _+_ length-front length-back
+      length-append (headerOf p ++ words) (blanked (marksOf Q marks) stripe) ∙ ap₂ _+_ length-front length-back
 
   header-written : take headerSize file ≡ headerOf p
-  unfolding bytes2 headerOf fileOf
+  unfolding bytesOf headerOf fileOf
   header-written = refl
 
   -- a written file is not refused
@@ -246,9 +257,10 @@ pub file-of-read : (file : List ℕ) → EachBelow byteRange file → FileFit fi
 unfolding marksOffset symbolsOffset fileLength fileOf marksIn
 file-of-read file bytes f =
     let R = planOf (planIn file) in
-    ap₂ _++_ (ap₂ _++_ (sym (f .header)) (words-at file bytes 8 0 (R .rows) (omega (arith, f .whole))) ∙ sym (take-add 8 (4 * R .rows) file))
+    let n = wordBytes R in
+    ap₂ _++_ (ap₂ _++_ (sym (f .header)) (words-at file bytes n headerSize (R .rows) (omega (arith, f .whole))) ∙ sym (take-add headerSize (n * R .rows) file))
     (sym (f .blank) ∙ symbols-behind file (f .whole))
-    ∙ take-append-drop (8 + 4 * R .rows) file
+    ∙ take-append-drop (headerSize + n * R .rows) file
 
 -- ---- both ways round
 

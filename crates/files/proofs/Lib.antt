@@ -2,4 +2,5 @@
 pub mod Stripes
 pub mod Files
 pub mod Laws
+pub mod Before
 pub mod Samples

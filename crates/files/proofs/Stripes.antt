@@ -1,31 +1,79 @@
 -- A stripe row by row, and its symbols with 0 under marks. Assumes nothing.
-use mathlib.Core.Path.{_≡_, refl, sym, ap, _∙_, subst}
-use mathlib.Core.Bool.{Bool, true, false}
-use mathlib.Core.List.{List, [], _∷_, _++_, flatMap}
-use Prim.Native.Nat.{ℕ, zero, suc, _+_, _*_, _/_, _%_, _^_, _<_, suc-le-suc}
-use native.Mathlib.Nat.{zero-mul, suc-mul, add-comm, add-zero, zero-add, not-suc-le-zero, le-of-suc-le-suc}
+use mathlib.Core.Path.{_≡_, refl, sym, ap, ap₂, _∙_, subst}
+use mathlib.Core.Bool.{Bool, true, false, not}
+use mathlib.Core.List.{List, [], _∷_, flatMap}
+use Prim.Native.Nat.{ℕ, zero, suc, _+_, _*_, _/_, _%_, _^_, _<_, _≤_}
+use native.Mathlib.Nat.{zero-mul, suc-mul, add-comm, add-zero, zero-add, not-suc-le-zero, le-of-suc-le-suc, le-of-eq, le-trans, mul-le-mul}
 use native.Mathlib.Omega.{arith}
-use lib.Dec.{T, eqb, leb, ltb, leb→le}
-use lib.ListN.{length, getD, take, drop}
+use lib.Dec.{T, eqb, ltb, nltb→le}
+use lib.ListN.{length, getD, drop}
+use lib.Pow.{pow-mono}
 use lib.Seq.{take-at, drop-at, drop-drop}
 use Rattle.field.specs.Lists.{if_then_else_, upFrom}
 use Rattle.field.specs.Field.{size}
-use Rattle.field.proofs.Test.{both-right}
+use Rattle.field.proofs.Words.{_&_}
 use Rattle.fills.specs.Lists.{first, rest, beside}
 use Rattle.fills.specs.Marks.{bitsOf}
 use Rattle.fills.proofs.Choices.{Alike}
 use Rattle.fills.proofs.Beside.{length-beside, beside-rows, beside-alike, length-beside-bits, beside-bits-at}
-use Rattle.plans.specs.Plan.{Plan, known, rowAt, marksAt, marksOf}
+use Rattle.plans.specs.Plan.{Plan, planOf, known, rowAt, marksAt, marksOf, wideMarks, wordBytes}
+use Rattle.plans.specs.Rooms.{rowRoom}
 use Rattle.plans.specs.Refusal.{unmarkedBelow, symbolsFit}
-use Rattle.files.specs.File.{blanked}
+use Rattle.words.specs.Words.{byteRange, bytesOf}
+use Rattle.words.proofs.Bytes.{byte-power}
+use Rattle.files.specs.File.{headerSize, headerOf, blanked}
+use Rattle.plans.proofs.Plans.{of-known, rows-most, columns-most}
 use Rattle.plans.proofs.Flat.{flat-length}
 use Rattle.plans.proofs.Rows.{marks-length}
 use Rattle.plans.proofs.Refusals.{unmarked-alike}
 use Rattle.steps.proofs.Fit.{symbols-fit, fit-symbols}
 
-pub known-below : (p : ℕ) → T (known p) → p < 4
-unfolding known
-known-below p t = suc-le-suc (leb→le p 3 (both-right (ltb 0 p) (leb p 3) t))
+-- ---- the head and the size of a mark word
+
+-- a number of a plan is a byte
+pub known-below : (p : ℕ) → T (known p) → p < byteRange
+known-below = of-known (λ p. p < byteRange) (omega arith & omega arith & omega arith & omega arith & tt)
+
+pub length-header : (p : ℕ) → length (headerOf p) ≡ headerSize
+unfolding bytesOf headerOf
+length-header p = refl
+
+module _ (p : ℕ) where
+  abbrev P : Plan
+  P = planOf p
+
+  -- a mark word has at most eight bytes, and a bit for each column
+  pub word-bytes-most : wordBytes P ≤ 8
+  unfolding if_then_else_ wordBytes
+  word-bytes-most = go (wideMarks P)
+    where
+      go : (b : Bool) → (if b then 8 else 4) ≤ 8
+      go true = omega arith
+      go false = omega arith
+
+  -- the mark words have few bytes in all, as code that knows their size and the plan's rows counts them
+  pub words-few : {s n : ℕ} → s ≡ wordBytes P → n ≡ P .rows → s * n ≤ 8 * rowRoom
+  words-few size rows = le-trans (le-of-eq (ap₂ _*_ size rows)) (mul-le-mul word-bytes-most (rows-most p))
+
+  word-wide : P .columns ≤ 8 * wordBytes P
+  unfolding if_then_else_ wideMarks wordBytes
+  word-wide = go (ltb 32 (P .columns)) refl
+    where
+      go : (b : Bool) → ltb 32 (P .columns) ≡ b → P .columns ≤ 8 * (if b then 8 else 4)
+      go true e = omega (arith, columns-most p)
+      go false e = omega (arith, nltb→le 32 (P .columns) (subst (λ b. T (not b)) (sym e) tt))
+
+  pub word-fits : {x : ℕ} → x < 2 ^ P .columns → x < byteRange ^ wordBytes P
+  word-fits h = le-trans h (le-trans (pow-mono word-wide) (le-of-eq (sym (byte-power (wordBytes P)))))
+
+  -- byte 3 tells the wide words
+  pub wide-byte : wordBytes P / 8 ≡ (if wideMarks P then 1 else 0)
+  unfolding if_then_else_ wordBytes
+  wide-byte = go (wideMarks P)
+    where
+      go : (b : Bool) → (if b then 8 else 4) / 8 ≡ (if b then 1 else 0)
+      go true = refl
+      go false = refl
 
 -- ---- 0 under marks
 

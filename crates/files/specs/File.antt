@@ -6,9 +6,9 @@ use lib.Dec.{eqb, leb}
 use lib.ListN.{length, take, drop, getD}
 use Rattle.field.specs.Lists.{if_then_else_}
 use Rattle.fills.specs.Lists.{same, beside}
-use Rattle.plans.specs.Plan.{planOf, known, marksOf, marksOffset, symbolsOffset, fileLength}
+use Rattle.plans.specs.Plan.{planOf, known, marksOf, marksOffset, wideMarks, wordBytes, symbolsOffset, fileLength}
 use Rattle.plans.specs.Refusal.{firstFailed, stripeFits, wordsFit, marksFit, symbolsFit}
-use Rattle.words.specs.Words.{bytes2, bytes4, wordsAt}
+use Rattle.words.specs.Words.{bytesOf, wordsAt}
 
 -- ---- the format
 
@@ -16,16 +16,18 @@ use Rattle.words.specs.Words.{bytes2, bytes4, wordsAt}
 abbrev pub headerSize : ℕ
 headerSize = 8
 
--- plan, rows, columns, 0, and the places where the marks and the symbols begin
+-- plan, rows, columns, 1 where mark words have eight bytes, and the places where the marks and the symbols begin
 unfoldable pub headerOf : ℕ → List ℕ
-headerOf p = let P = planOf p in p ∷ P .rows ∷ P .columns ∷ 0 ∷ bytes2 marksOffset ++ bytes2 (symbolsOffset P)
+headerOf p =
+    let P = planOf p in
+    p ∷ P .rows ∷ P .columns ∷ (if wideMarks P then 1 else 0) ∷ bytesOf 2 marksOffset ++ bytesOf 2 (symbolsOffset P)
 
 -- the symbols, with 0 at each marked place
 unfoldable pub blanked : List Bool → List ℕ → List ℕ
 blanked ms xs = beside (λ m x. if m then 0 else x) ms xs
 
 unfoldable pub fileOf : ℕ → List ℕ → List ℕ → List ℕ
-fileOf p stripe marks = headerOf p ++ flatMap bytes4 marks ++ blanked (marksOf (planOf p) marks) stripe
+fileOf p stripe marks = let P = planOf p in headerOf p ++ flatMap (bytesOf (wordBytes P)) marks ++ blanked (marksOf P marks) stripe
 
 -- ---- writing
 
@@ -46,7 +48,7 @@ unfoldable pub planIn : List ℕ → ℕ
 planIn file = getD file 0 0
 
 unfoldable pub marksIn : List ℕ → List ℕ
-marksIn file = wordsAt file marksOffset (planOf (planIn file) .rows)
+marksIn file = let P = planOf (planIn file) in wordsAt (wordBytes P) file marksOffset (P .rows)
 
 unfoldable pub symbolsIn : List ℕ → List ℕ
 symbolsIn file = let P = planOf (planIn file) in take (P .rows * P .columns) (drop (symbolsOffset P) file)

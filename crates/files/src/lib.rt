@@ -16,18 +16,21 @@ ghost use Rattle.files.specs.Parts.{RowPut, SymbolsPut};
 // How many bytes a header has: the mark words begin behind it.
 pub const HEADER: usize = 8;
 
+// How many bytes a wide mark word has.
+const WIDE: usize = 8;
+
 // The header of a plan's file: offsets low byte first.
 pub fn header_of(plan: usize) -> [u8; HEADER]
     requires { ⌜ T (known plan) ⌝ }
     ensures { λ r. ⌜ r ≡ headerOf plan ⌝ }
 {
     let facts = tables::facts_of(plan);
-    let symbols = words::size_bytes(HEADER + 4 * facts.rows);
+    let symbols = words::size_bytes(HEADER + facts.word_bytes * facts.rows);
     [
         plan as u8,
         facts.rows as u8,
         facts.columns as u8,
-        0,
+        (facts.word_bytes / WIDE) as u8, // 1 where mark words are wide
         HEADER as u8,
         0,
         symbols[0],
@@ -38,7 +41,7 @@ pub fn header_of(plan: usize) -> [u8; HEADER]
 // ---- symbols
 
 // A symbol as a file holds it: 0 where its column is marked.
-fn kept(word: u32, column: usize, symbol: u8) -> u8
+fn kept(word: u64, column: usize, symbol: u8) -> u8
     requires { ⌜ column < wordBits ⌝ }
     ensures { λ r. ⌜ r ≡ (if eqb (word / 2 ^ column % 2) 1 then 0 else symbol) ⌝ }
 {
@@ -49,7 +52,7 @@ fn kept(word: u32, column: usize, symbol: u8) -> u8
 }
 
 // Writes a row from `at` on, 0 under its marks, and gives the place behind it. The rest of the file is unchanged.
-fn put_row(word: u32, row: &[u8], file: &mut [u8], at: usize) -> usize
+fn put_row(word: u64, row: &[u8], file: &mut [u8], at: usize) -> usize
     requires { ⌜ RowPut (now row) (now file) at ⌝ }
     ensures { λ r. ⌜ Put (now (file .entry)) at (blanked (bitsOf (length (now (row .entry))) word) (now (row .entry))) r (now (file .exit)) ⌝ }
 {
@@ -60,7 +63,7 @@ fn put_row(word: u32, row: &[u8], file: &mut [u8], at: usize) -> usize
 }
 
 // Writes the symbols from `at` on, 0 under marks, and gives the place behind them. The rest of the file is unchanged.
-pub fn put_symbols(plan: usize, stripe: &[u8], marks: &[u32], file: &mut [u8], at: usize) -> usize
+pub fn put_symbols(plan: usize, stripe: &[u8], marks: &[u64], file: &mut [u8], at: usize) -> usize
     requires { ⌜ SymbolsPut plan (now stripe) (now marks) (now file) at ⌝ }
     ensures { λ r. ⌜ Put (now (file .entry)) at (blanked (marksOf (planOf plan) (now (marks .entry))) (now (stripe .entry))) r (now (file .exit)) ⌝ }
 {
@@ -77,7 +80,7 @@ pub fn put_symbols(plan: usize, stripe: &[u8], marks: &[u32], file: &mut [u8], a
 // ---- the file
 
 // What writing refuses; 0 where it does not.
-fn write_refusal(plan: usize, stripe: &[u8], marks: &[u32], file: &[u8]) -> usize
+fn write_refusal(plan: usize, stripe: &[u8], marks: &[u64], file: &[u8]) -> usize
     ensures { λ r. ⌜ r ≡ writeRefusal plan (now (stripe .entry)) (now (marks .entry)) (now (file .entry)) ⌝ }
 {
     if !tables::is_known(plan) {
@@ -90,18 +93,19 @@ fn write_refusal(plan: usize, stripe: &[u8], marks: &[u32], file: &[u8]) -> usiz
 }
 
 // Writes the whole file of a stripe and its marks that are not refused.
-fn put_file(plan: usize, stripe: &[u8], marks: &[u32], file: &mut [u8])
+fn put_file(plan: usize, stripe: &[u8], marks: &[u64], file: &mut [u8])
     requires { ⌜ writeRefusal plan (now stripe) (now marks) (now file) ≡ 0 ⌝ }
     ensures { λ _. ⌜ now (file .exit) ≡ fileOf plan (now (stripe .entry)) (now (marks .entry)) ⌝ }
 {
     let header = header_of(plan);
+    let size = tables::facts_of(plan).word_bytes;
     let at_marks = words::put(&header, file, 0);
-    let at_symbols = words::put_words(marks, file, at_marks);
+    let at_symbols = words::put_words(marks, size, file, at_marks);
     put_symbols(plan, stripe, marks, file, at_symbols);
 }
 
 // Writes a stripe and its marks as a file, 0 under marks. Where it is refused the file is unchanged.
-pub fn write_file(plan: usize, stripe: &[u8], marks: &[u32], file: &mut [u8]) -> Outcome
+pub fn write_file(plan: usize, stripe: &[u8], marks: &[u64], file: &mut [u8]) -> Outcome
     ensures { λ r. ⌜ r ≡ outcomeOf (writeRefusal plan (now (stripe .entry)) (now (marks .entry)) (now (file .entry))) ⌝ }
     ensures { λ _. ⌜ now (file .exit) ≡ writeFile plan (now (stripe .entry)) (now (marks .entry)) (now (file .entry)) ⌝ }
 {

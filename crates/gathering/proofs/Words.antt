@@ -45,15 +45,15 @@ module _ (marks rest n k c t : ℕ) (at : ℕ → ℕ) (P : Placing marks rest n
   rest-bit : (d : ℕ) → bitAt rest d ≡ bitAt marks (c + d)
   rest-bit d = ap (λ x. bitAt x d) (P .shifted) ∙ bit-shifted marks c d
 
-  rest-fits : marks < 2 ^ 32 → rest < 2 ^ 32
+  rest-fits : marks < 2 ^ 64 → rest < 2 ^ 64
   rest-fits h = rw (P .shifted) (lt-of-le-of-lt (shr-le marks c) h)
 
   -- the next place
-  pub placing-next : marks < 2 ^ 32 → t < k → Lowest rest (trailingZeros 32 rest)
-  placing-next h l = lowest 32 rest (rest-fits h) (λ e. omega (arith, P .count, ap ones e, no-ones))
+  pub placing-next : marks < 2 ^ 64 → t < k → Lowest rest (trailingZeros 64 rest)
+  placing-next h l = lowest 64 rest (rest-fits h) (λ e. omega (arith, P .count, ap ones e, no-ones))
 
-  pub placing-shift : (z : ℕ) → marks < 2 ^ 32 → Lowest rest z → z < 32
-  placing-shift z h L = bit-bound 32 rest z (rest-fits h) (L .holds)
+  pub placing-shift : (z : ℕ) → marks < 2 ^ 64 → Lowest rest z → z < 64
+  placing-shift z h L = bit-bound 64 rest z (rest-fits h) (L .holds)
 
   pub placing-fits : (z : ℕ) → marks < 2 ^ n → Lowest rest z → c + z < n
   placing-fits z h L = bit-bound n marks (c + z) h (sym (rest-bit z) ∙ L .holds)
@@ -83,7 +83,7 @@ module _ (marks rest n k c t : ℕ) (at : ℕ → ℕ) (P : Placing marks rest n
         ]
       ]
 
-  pub placing-end : marks < 2 ^ 32 → k ≤ t → Places marks k at
+  pub placing-end : marks < 2 ^ 64 → k ≤ t → Places marks k at
   placing-end h l = record {
     marked = λ s b. P .marked s (omega arith);
     apart = λ u b. P .apart u (omega (arith, P .upto));
@@ -91,7 +91,7 @@ module _ (marks rest n k c t : ℕ) (at : ℕ → ℕ) (P : Placing marks rest n
   }
     where
       none : rest ≡ 0
-      none = elim (ℕ-discrete rest 0) [ yes e ↦ e | no ne ↦ absurd (omega (arith, lowest 32 rest (rest-fits h) ne .count, P .count)) ]
+      none = elim (ℕ-discrete rest 0) [ yes e ↦ e | no ne ↦ absurd (omega (arith, lowest 64 rest (rest-fits h) ne .count, P .count)) ]
 
       every : (d : ℕ) → bitAt marks d ≡ 1 → (s : ℕ) × (s < k) × (at s ≡ d)
       every d e = elim (decLt d c) [

@@ -3,7 +3,7 @@ use Prim.Native.Nat.{ℕ}
 
 -- how many checks and columns the code takes
 abbrev pub mostChecks : ℕ
-mostChecks = 16
+mostChecks = 19
 
 abbrev pub mostColumns : ℕ
-mostColumns = 32
+mostColumns = 64

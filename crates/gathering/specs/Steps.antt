@@ -39,6 +39,7 @@ scattered v at x (suc k) = set (scattered v at x k) (at k) (x k)
 
 -- what `list_places` takes: marks of n columns alone, and room to list them
 pub record Listable (marks n : ℕ) (places : List ℕ) : Type 0 where
+  pub narrow : n ≤ mostColumns
   pub within : marks < 2 ^ n
   pub room : n ≤ length places
 
@@ -58,6 +59,16 @@ pub record Showable (marks : ℕ) (v places shown : List ℕ) : Type 0 where
 pub record Placed (places : List ℕ) (k n : ℕ) : Type 0 where
   pub listed : k ≤ length places
   pub below : (t : ℕ) → t < k → vec places t < n
+
+-- what `scatter` takes: k places below n, and a symbol for each
+pub record Scatterable (places : List ℕ) (k n : ℕ) (x : List ℕ) : Type 0 where
+  pub placed : Placed places k n
+  pub symbols : k ≤ length x
+
+-- what `scatter_word` takes: k places below n, and a bit for each
+pub record WordScatterable (places : List ℕ) (k n : ℕ) : Type 0 where
+  pub placed : Placed places k n
+  pub bits : k ≤ mostColumns
 
 -- what `row_sum` takes: the field's table, n coefficients of check i, and n symbols
 pub record Summable (q : ℕ) (table checks : List ℕ) (i : ℕ) (v : List ℕ) (n : ℕ) : Type 0 where

@@ -6,23 +6,27 @@ ghost use Rattle.field.specs.Field.{_⊕_};
 ghost use Rattle.field.specs.Ours.{fieldOf};
 ghost use Rattle.equations.specs.System.{vec, ent, inner, Elements};
 ghost use Rattle.equations.specs.Words.{bitAt};
-ghost use Rattle.gathering.specs.Most.{mostColumns};
-ghost use Rattle.gathering.specs.Steps.{hidden, Copied, Gathered, scattered, Listable, Listed, Showable, Placed};
-ghost use Rattle.gathering.specs.Steps.{Summable, RowGatherable, Gatherable, Needed};
+ghost use Rattle.gathering.specs.Steps.{hidden, Copied, Gathered, scattered, Listable, Listed, Showable};
+ghost use Rattle.gathering.specs.Steps.{Scatterable, WordScatterable, Summable, RowGatherable, Gatherable, Needed};
+
+// How many checks and columns `fill` takes at most.
+pub const CHECKS: usize = 19;
+
+pub const COLUMNS: usize = 64;
 
 // Lists the marked columns, ascending, and gives how many there are.
-fn list_places(marks: u32, n: usize, places: &mut [usize]) -> usize
+fn list_places(marks: u64, n: usize, places: &mut [u8]) -> usize
     requires { ⌜ Listable marks n (now places) ⌝ }
     ensures { λ k. ⌜ Listed marks n k (vec (now (places .exit))) ⌝ }
 {
-    let k = u32::count_ones(marks) as usize;
+    let k = u64::count_ones(marks) as usize;
     let mut rest = marks;
     let mut c = 0;
     let mut t = 0;
     while t < k {
-        let zeros = u32::trailing_zeros(rest);
+        let zeros = u64::trailing_zeros(rest);
         c += zeros as usize;
-        places[t] = c;
+        places[t] = c as u8;
         rest = rest >> zeros >> 1;
         c += 1;
         t += 1;
@@ -43,35 +47,33 @@ fn copy(v: &[u8], shown: &mut [u8])
 }
 
 // Writes x to the first k places.
-pub fn scatter(v: &mut [u8], places: &[usize], k: usize, x: &[u8])
-    requires { ⌜ Placed (now places) k (length (now v)) ⌝ }
-    requires { ⌜ k ≤ length (now x) ⌝ }
+pub fn scatter(v: &mut [u8], places: &[u8], k: usize, x: &[u8])
+    requires { ⌜ Scatterable (now places) k (length (now v)) (now x) ⌝ }
     ensures { λ _. ⌜ now (v .exit) ≡ scattered (now (v .entry)) (vec (now (places .entry))) (vec (now (x .entry))) k ⌝ }
 {
     let mut t = 0;
     while t < k {
-        let p = places[t];
+        let p = places[t] as usize;
         v[p] = x[t];
         t += 1;
     }
 }
 
 // Writes bit t of a word to place t, for the first k places.
-pub fn scatter_word(v: &mut [u8], places: &[usize], k: usize, word: u64)
-    requires { ⌜ Placed (now places) k (length (now v)) ⌝ }
-    requires { ⌜ k ≤ mostColumns ⌝ }
+pub fn scatter_word(v: &mut [u8], places: &[u8], k: usize, word: u64)
+    requires { ⌜ WordScatterable (now places) k (length (now v)) ⌝ }
     ensures { λ _. ⌜ now (v .exit) ≡ scattered (now (v .entry)) (vec (now (places .entry))) (bitAt word) k ⌝ }
 {
     let mut t = 0;
     while t < k {
-        let p = places[t];
+        let p = places[t] as usize;
         v[p] = ((word >> t) % 2) as u8;
         t += 1;
     }
 }
 
 // Lists the marked columns and gives how many there are; copies v to `shown`, with 0 under the marks.
-pub fn show(marks: u32, v: &[u8], places: &mut [usize], shown: &mut [u8]) -> usize
+pub fn show(marks: u64, v: &[u8], places: &mut [u8], shown: &mut [u8]) -> usize
     requires { ⌜ Showable marks (now v) (now places) (now shown) ⌝ }
     ensures { λ k. ⌜ Listed marks (length (now (v .entry))) k (vec (now (places .exit))) ⌝ }
     ensures { λ _. ⌜ ((c : ℕ) → c < length (now (v .entry)) → vec (now (shown .exit)) c ≡ hidden marks (now (v .entry)) c) ⌝ }
@@ -93,7 +95,7 @@ pub fn row_sum(q: usize, table: &[u8], checks: &[u8], i: usize, v: &[u8], n: usi
 }
 
 // Copies the coefficients of check i at the k places to row i of the system, and leaves the rest as it is.
-fn gather_row(q: usize, checks: &[u8], n: usize, i: usize, places: &[usize], k: usize, a: &mut [u8])
+fn gather_row(q: usize, checks: &[u8], n: usize, i: usize, places: &[u8], k: usize, a: &mut [u8])
     requires { ⌜ RowGatherable q (now checks) n i (now places) k (now a) ⌝ }
     ensures { λ _. ⌜ Copied (now (checks .entry)) n i (vec (now (places .entry))) (now (a .entry)) (now (a .exit)) k k ⌝ }
     ensures { λ _. ⌜ Elements (fieldOf q) (vec (now (a .exit))) ⌝ }
@@ -102,7 +104,7 @@ fn gather_row(q: usize, checks: &[u8], n: usize, i: usize, places: &[usize], k: 
     let s = i * (k + 1);
     let mut t = 0;
     while t < k {
-        let p = places[t];
+        let p = places[t] as usize;
         a[s + t] = checks[r + p];
         t += 1;
     }
@@ -116,7 +118,7 @@ pub fn gather(
     target: &[u8],
     shown: &[u8],
     n: usize,
-    places: &[usize],
+    places: &[u8],
     k: usize,
     a: &mut [u8],
 )

@@ -1,7 +1,6 @@
 // The codeword test of plan 3 in its interleaved form. It changes nothing.
 use codewords::codeword;
 use plans::Verdict;
-use plans::WEIGHTS;
 ghost use mathlib.Core.Path.{_≡_};
 ghost use Prim.Native.Nat.{_*_, _≤_};
 ghost use lib.ListN.{length};
@@ -19,6 +18,9 @@ const FIELD: usize = 16;
 const ROWS: usize = 8;
 
 const COLUMNS: usize = 15;
+
+// How many numbers the weights of level 2 have.
+const WEIGHTS: usize = 2 * ROWS;
 
 // How many power sums, from 0 on, are 0: of a row, of the plain sum of the rows, and of their weighted sum.
 const ROW_SUMS: usize = 2;

@@ -5,14 +5,14 @@ use Prim.Native.Nat.{ℕ, _+_, _*_}
 use lib.ListN.{length, take, drop, getD, length-append}
 use Rattle.plans.specs.Rooms.{rowRoom, symbolRoom, learnedRoom}
 use Rattle.plans.specs.declared.Bench.{Bench}
-use Rattle.words.specs.Words.{bytes4, wordsAt}
+use Rattle.words.specs.Words.{bytesOf, wordsAt}
 use Rattle.words.specs.Written.{Put}
 use Rattle.words.proofs.Writing.{put-then, put-whole}
 use Rattle.words.proofs.Bytes.{length-bytes}
-use Rattle.layout.specs.Layout.{symbolsFrom, marksFrom, sumsFrom, benchSize, benchBytes, benchIn}
+use Rattle.layout.specs.Layout.{markSize, symbolsFrom, marksFrom, sumsFrom, benchSize, benchBytes, benchIn}
 
 -- a bench in bytes, part by part
-pub bench-is : (l : List ℕ) {symbols marks sums : List ℕ} → symbols ≡ take symbolRoom (drop symbolsFrom l) → marks ≡ wordsAt l marksFrom rowRoom
+pub bench-is : (l : List ℕ) {symbols marks sums : List ℕ} → symbols ≡ take symbolRoom (drop symbolsFrom l) → marks ≡ wordsAt markSize l marksFrom rowRoom
     → sums ≡ take learnedRoom (drop sumsFrom l)
     → _≡_ {A = Bench} record { plan = getD l 0 0; level = getD l 1 0; symbols = symbols; marks = marks; sums = sums } (benchIn l)
 unfolding benchIn
@@ -24,10 +24,10 @@ module _ (b : Bench) (symbols : length (b .symbols) ≡ symbolRoom) (marks : len
   head = b .plan ∷ b .level ∷ []
 
   abbrev words : List ℕ
-  words = flatMap bytes4 (b .marks)
+  words = flatMap (bytesOf markSize) (b .marks)
 
-  pub length-words : length words ≡ 4 * rowRoom
-  length-words = length-bytes (b .marks) ∙ ap (λ n. 4 * n) marks
+  pub length-words : length words ≡ markSize * rowRoom
+  length-words = length-bytes markSize (b .marks) ∙ ap (λ n. markSize * n) marks
 
   pub bench-length : length (benchBytes b) ≡ benchSize
   unfolding benchBytes

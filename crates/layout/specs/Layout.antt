@@ -6,7 +6,7 @@ use Rattle.plans.specs.Plan.{Plan}
 use Rattle.plans.specs.Rooms.{rowRoom, symbolRoom, learnedRoom}
 use Rattle.plans.specs.Answers.{reportValues}
 use Rattle.plans.specs.Tables.{padded}
-use Rattle.words.specs.Words.{bytes4, wordsAt}
+use Rattle.words.specs.Words.{bytesOf, wordsAt}
 use Rattle.plans.specs.declared.Bench.{Bench}
 use Rattle.plans.specs.declared.Report.{Report}
 use Rattle.plans.specs.declared.Answer.{Answer}
@@ -36,7 +36,10 @@ reportBytes P r = answerBytes (r .answer) (reportValues P r)
 
 -- ---- a bench
 
--- where its symbols, its mark words and its sums begin, and how many bytes it has
+-- how many bytes each of its mark words has; where its symbols, its mark words and its sums begin, and how many bytes it has
+abbrev pub markSize : ℕ
+markSize = 8
+
 abbrev pub symbolsFrom : ℕ
 symbolsFrom = 2
 
@@ -44,20 +47,20 @@ abbrev pub marksFrom : ℕ
 marksFrom = symbolsFrom + symbolRoom
 
 abbrev pub sumsFrom : ℕ
-sumsFrom = marksFrom + 4 * rowRoom
+sumsFrom = marksFrom + markSize * rowRoom
 
 abbrev pub benchSize : ℕ
 benchSize = sumsFrom + learnedRoom
 
--- plan, level, symbols, mark words of four bytes each, low byte first, and sums
+-- plan, level, symbols, mark words, low byte first, and sums
 unfoldable pub benchBytes : Bench → List ℕ
-benchBytes b = b .plan ∷ b .level ∷ b .symbols ++ flatMap bytes4 (b .marks) ++ b .sums
+benchBytes b = b .plan ∷ b .level ∷ b .symbols ++ flatMap (bytesOf markSize) (b .marks) ++ b .sums
 
 unfoldable pub benchIn : List ℕ → Bench
 benchIn bytes = record {
   plan = getD bytes 0 0;
   level = getD bytes 1 0;
   symbols = take symbolRoom (drop symbolsFrom bytes);
-  marks = wordsAt bytes marksFrom rowRoom;
+  marks = wordsAt markSize bytes marksFrom rowRoom;
   sums = take learnedRoom (drop sumsFrom bytes);
 }

@@ -21,14 +21,16 @@ ghost use Rattle.words.specs.Words.{byteRange};
 // How many bytes a report has.
 pub const REPORT: usize = 8;
 
-// How many bytes a bench has, and where its symbols, its mark words and its sums begin.
+// How many bytes a bench has, where its symbols, its mark words and its sums begin, and how many bytes each mark word has.
 pub const BENCH: usize = AT_SUMS + LEARNED;
 
 const AT_SYMBOLS: usize = 2;
 
 const AT_MARKS: usize = AT_SYMBOLS + SYMBOLS;
 
-const AT_SUMS: usize = AT_MARKS + 4 * ROWS;
+const AT_SUMS: usize = AT_MARKS + MARK * ROWS;
+
+const MARK: usize = 8;
 
 // ---- a report
 
@@ -83,8 +85,8 @@ pub fn bench_in(bytes: &[u8]) -> Bench
 {
     let mut symbols = [0u8; SYMBOLS];
     words::put(&bytes[AT_SYMBOLS..AT_MARKS], &mut symbols, 0);
-    let mut marks = [0u32; ROWS];
-    words::read_words(bytes, AT_MARKS, &mut marks);
+    let mut marks = [0u64; ROWS];
+    words::read_words(bytes, AT_MARKS, MARK, &mut marks);
     let mut sums = [0u8; LEARNED];
     words::put(&bytes[AT_SUMS..BENCH], &mut sums, 0);
     Bench {
@@ -107,6 +109,6 @@ pub fn put_bench(bench: Bench, out: &mut [u8])
     let head = [bench.plan as u8, bench.level as u8];
     let at_symbols = words::put(&head, out, 0);
     let at_marks = words::put(&symbols, out, at_symbols);
-    let at_sums = words::put_words(&marks, out, at_marks);
+    let at_sums = words::put_words(&marks, MARK, out, at_marks);
     words::put(&sums, out, at_sums);
 }

@@ -1,10 +1,10 @@
 -- One check's sums as they are lent to `fill`: the weights of level t + 1 and a target of zeros. Assumes nothing.
 use mathlib.Core.Path.{_≡_, refl, sym, ap, ap₂, _∙_}
 use mathlib.Core.List.{List, [], _∷_, map}
-use Prim.Native.Nat.{ℕ, suc, _+_, _*_, _≤_}
+use Prim.Native.Nat.{ℕ, zero, suc, _+_, _*_, _≤_}
 use native.Mathlib.Omega.{arith}
 use lib.Dec.{ltb, lt→ltb}
-use lib.ListN.{length, take, drop}
+use lib.ListN.{length, take, drop, replicate}
 use lib.Seq.{length-take-le}
 use Rattle.field.specs.Lists.{upFrom}
 use Rattle.field.specs.Field.{size, dot}
@@ -20,6 +20,7 @@ use Rattle.plans.specs.Tables.{rowSums}
 use Rattle.levels.specs.Learned.{columnOf, columnFill, AcrossReady, ColumnReady}
 use Rattle.plans.proofs.Parts.{part, rows-front}
 use Rattle.plans.proofs.Plans.{rows-most}
+use Rattle.plans.specs.Rooms.{totalRoom}
 use Rattle.plans.proofs.Sizes.{totals-most}
 use Rattle.plans.proofs.Tables.{weights-lt}
 use Rattle.plans.proofs.Summing.{row-sums-length}
@@ -30,17 +31,16 @@ use Rattle.tables.proofs.Numbers.{Weighing, own-products, check-within, check-l
 -- ---- the weights of level t + 1, as they are lent, and a target of zeros
 
 abbrev pub lentZeros : List ℕ
-lentZeros = 0 ∷ 0 ∷ []
+lentZeros = replicate totalRoom 0
 
-zeros-few : (l : List (List ℕ)) → length l ≤ 2 → take (length l) lentZeros ≡ zeros l
+zeros-few : (l : List (List ℕ)) (n : ℕ) → length l ≤ n → take (length l) (replicate n 0) ≡ zeros l
 unfolding zeros
-zeros-few [] h = refl
-zeros-few (a ∷ []) h = refl
-zeros-few (a ∷ b ∷ []) h = refl
-zeros-few (a ∷ b ∷ c ∷ l) h = absurd (omega arith)
+zeros-few [] n h = refl
+zeros-few (a ∷ l) zero h = absurd (omega arith)
+zeros-few (a ∷ l) (suc n) h = ap (λ xs. 0 ∷ xs) (zeros-few l n (omega arith))
 
 module _ {p t q rows n totals : ℕ} {weights : List ℕ} (w : Weighing p t q rows n weights totals) where
-  pub few-totals : totals ≤ 2
+  pub few-totals : totals ≤ totalRoom
   few-totals = rw (w .count) (totals-most p (suc t))
 
   pub weights-within : totals * rows ≤ length weights
@@ -92,7 +92,7 @@ module _ {p t q rows n totals : ℕ} {weights : List ℕ} (w : Weighing p t q ro
           let W = levelOf P (suc t) .weights in
           ap₂ (λ cs k. fill (fieldOf q) cs (take totals lentZeros) (bitsOf k lossy) made) lent-are long
           ∙ ap₂ (λ z k. fill (fieldOf q) W z (bitsOf k lossy) made)
-          (ap (λ m. take m lentZeros) (w .count) ∙ zeros-few W (totals-most p (suc t))) (w .is .high)
+          (ap (λ m. take m lentZeros) (w .count) ∙ zeros-few W totalRoom (totals-most p (suc t))) (w .is .high)
           ∙ ap₂ (λ F v. fill F W (zeros W) (bitsOf (P .rows) lossy) v) (w .is .field) made-is
 
       -- what `fill` asks
@@ -106,7 +106,7 @@ module _ {p t q rows n totals : ℕ} {weights : List ℕ} (w : Weighing p t q ro
             within = rw (long, w .is .high) (asked .rows);
             coefficients = take-lt (size (fieldOf q)) (totals * rows) weights (size-pos (fieldOf q)) (λ j. rw (w .weighs, w .is .field) (weights-lt p (suc t) j));
             sums = take-lt (size (fieldOf q)) totals lentZeros (size-pos (fieldOf q))
-                (symbols-at (fieldOf q) lentZeros (all-zeros (λ x. ltb x (size (fieldOf q))) (lt→ltb 0 (size (fieldOf q)) (size-pos (fieldOf q))) 2));
+                (symbols-at (fieldOf q) lentZeros (all-zeros (λ x. ltb x (size (fieldOf q))) (lt→ltb 0 (size (fieldOf q)) (size-pos (fieldOf q))) totalRoom));
           }
 
       -- what it answers and leaves

@@ -7,6 +7,7 @@ use plans::ROWS;
 use plans::SUMS;
 use plans::Step;
 use plans::Stepped;
+use plans::TOTALS;
 ghost use mathlib.Core.Path.{_≡_};
 ghost use mathlib.Core.List.{_∷_, [], map};
 ghost use lib.ListN.{length};
@@ -44,7 +45,7 @@ fn learn_column(
     table: &[u8],
     checks: &[u8],
     symbols: &[u8],
-    lossy: u32,
+    lossy: u64,
     j: usize,
     column: &mut [u8],
 ) -> linear::FillAnswer
@@ -64,7 +65,7 @@ fn learn_column(
     let weights = tables::weights(plan, level + 1);
     let totals = tables::totals(plan, level + 1);
     let size = totals * rows;
-    let target = [0u8; 2];
+    let target = [0u8; TOTALS];
     let start = j * n;
     let end = start + n;
     sums::across(q, table, &checks[start..end], symbols, column);
@@ -79,7 +80,7 @@ pub fn learn(
     table: &[u8],
     checks: &[u8],
     symbols: &[u8],
-    marks: &[u32],
+    marks: &[u64],
     sums: &mut [u8],
 ) -> Learning
     requires { ⌜ LearnReady plan level (now table) (now checks) (now symbols) (now marks) (now sums) ⌝ }
@@ -92,7 +93,7 @@ pub fn learn(
     let last = tables::sums_to(plan, level + 1);
     let lossy = sums::lossy_word(rows, marks);
     // more columns than totals are dependent, and some sums make all totals zero
-    if totals < u32::count_ones(lossy) as usize {
+    if totals < u64::count_ones(lossy) as usize {
         return Learning::Blocked;
     }
     let mut column = [0u8; ROWS];

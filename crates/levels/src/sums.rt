@@ -25,12 +25,12 @@ pub fn across(q: usize, table: &[u8], check: &[u8], symbols: &[u8], sums: &mut [
 }
 
 // The word whose bit r is set where row r has marks.
-pub fn lossy_word(rows: usize, marks: &[u32]) -> u32
+pub fn lossy_word(rows: usize, marks: &[u64]) -> u64
     requires { ⌜ LossyReady rows (now marks) ⌝ }
     ensures { λ w. ⌜ bitsOf rows w ≡ map (λ r. not (eqb (getD (now (marks .entry)) r 0) 0)) (upFrom 0 rows) ⌝ }
     ensures { λ w. ⌜ w < 2 ^ rows ⌝ }
 {
-    let mut word = 0u32;
+    let mut word = 0u64;
     let mut r = rows;
     while 0 < r {
         r -= 1;

@@ -1,21 +1,19 @@
 // Filling the marked places of a vector so that its sums are the target.
+use gathering::CHECKS;
+use gathering::COLUMNS;
 ghost use mathlib.Core.Path.{_≡_};
-ghost use Prim.Native.Nat.{_+_, _*_};
+ghost use Prim.Native.Nat.{_+_};
 ghost use lib.ListN.{length};
-ghost use Rattle.field.specs.Ours.{fieldOf, tableOf};
+ghost use Rattle.field.specs.Ours.{fieldOf};
 ghost use Rattle.fills.specs.Lists.{same};
 ghost use Rattle.fills.specs.Fill.{sumsOf};
 ghost use Rattle.equations.specs.System.{vec, ent, Elements};
 ghost use Rattle.linear.specs.Answer.{Fillable, fillOf, answerOf, vectorOf};
 ghost use Rattle.fills.specs.Marks.{rowsOf};
 ghost use Rattle.gathering.specs.Steps.{hidden, Gathered, Listed};
-ghost use Rattle.linear.specs.Steps.{Room};
+ghost use Rattle.linear.specs.Steps.{Comparable, MarkedGatherable};
 
-// How many checks and columns `fill` takes at most, and the room that its system takes.
-const CHECKS: usize = 16;
-
-const COLUMNS: usize = 32;
-
+// The room that the system takes.
 const ROOM: usize = CHECKS * (COLUMNS + 1);
 
 // Nothing fills; something does, and the marked columns are dependent; or the one vector that does is in place.
@@ -27,8 +25,7 @@ pub enum FillAnswer {
 
 // Whether v has the target sums.
 fn has_sums(q: usize, table: &[u8], checks: &[u8], target: &[u8], v: &[u8]) -> bool
-    requires { ⌜ now table ≡ tableOf q ⌝ }
-    requires { ⌜ length (now checks) ≡ length (now target) * length (now v) ⌝ }
+    requires { ⌜ Comparable q (now table) (now checks) (now target) (now v) ⌝ }
     ensures { λ r. ⌜ r ≡ same
         (sumsOf (fieldOf q) (rowsOf (length (now (target .entry))) (length (now (v .entry))) (now (checks .entry))) (now (v .entry)))
         (now (target .entry)) ⌝ }
@@ -51,12 +48,11 @@ fn gather_marked(
     checks: &[u8],
     target: &[u8],
     v: &[u8],
-    marks: u32,
-    places: &mut [usize],
+    marks: u64,
+    places: &mut [u8],
     a: &mut [u8],
 ) -> usize
-    requires { ⌜ Fillable q (now table) (now checks) (now target) (now v) marks ⌝ }
-    requires { ⌜ Room q (now places) (now a) ⌝ }
+    requires { ⌜ MarkedGatherable q (now table) (now checks) (now target) (now v) marks (now places) (now a) ⌝ }
     ensures { λ k. ⌜ Listed marks (length (now (v .entry))) k (vec (now (places .exit))) ⌝ }
     ensures { λ k. ⌜ Gathered (fieldOf q) (now (checks .entry)) (now (target .entry)) (hidden marks (now (v .entry))) (length (now (v .entry))) k
         (vec (now (places .exit))) (ent (now (a .exit)) (k + 1)) (length (now (target .entry))) ⌝ }
@@ -76,13 +72,13 @@ fn fill_marked(
     checks: &[u8],
     target: &[u8],
     v: &mut [u8],
-    marks: u32,
+    marks: u64,
 ) -> FillAnswer
     requires { ⌜ Fillable q (now table) (now checks) (now target) (now v) marks ⌝ }
     ensures { λ r. ⌜ r ≡ answerOf (fillOf q (now (checks .entry)) (now (target .entry)) (now (v .entry)) marks) ⌝ }
     ensures { λ _. ⌜ now (v .exit) ≡ vectorOf (fillOf q (now (checks .entry)) (now (target .entry)) (now (v .entry)) marks) (now (v .entry)) ⌝ }
 {
-    let mut places: [usize; COLUMNS] = [0; COLUMNS];
+    let mut places: [u8; COLUMNS] = [0; COLUMNS];
     let mut a: [u8; ROOM] = [0; ROOM];
     let k = gather_marked(
         q,
@@ -94,7 +90,7 @@ fn fill_marked(
         &mut places[..],
         &mut a[..],
     );
-    let mut pivots: [usize; COLUMNS] = [0; COLUMNS];
+    let mut pivots: [usize; CHECKS] = [0; CHECKS];
     let mut solution: [u8; COLUMNS] = [0; COLUMNS];
     let mut dependency: [u8; COLUMNS] = [0; COLUMNS];
     let s = systems::solve(
@@ -118,14 +114,14 @@ fn fill_marked(
 }
 
 // Fills the marked places over GF(2), where the system of the marked columns has a column to a word.
-fn fill_binary(table: &[u8], checks: &[u8], target: &[u8], v: &mut [u8], marks: u32) -> FillAnswer
+fn fill_binary(table: &[u8], checks: &[u8], target: &[u8], v: &mut [u8], marks: u64) -> FillAnswer
     requires { ⌜ Fillable 2 (now table) (now checks) (now target) (now v) marks ⌝ }
     ensures { λ r. ⌜ r ≡ answerOf (fillOf 2 (now (checks .entry)) (now (target .entry)) (now (v .entry)) marks) ⌝ }
     ensures { λ _. ⌜ now (v .exit) ≡ vectorOf (fillOf 2 (now (checks .entry)) (now (target .entry)) (now (v .entry)) marks) (now (v .entry)) ⌝ }
 {
     let m = target.len();
     let n = v.len();
-    let mut places: [usize; COLUMNS] = [0; COLUMNS];
+    let mut places: [u8; COLUMNS] = [0; COLUMNS];
     let mut shown: [u8; COLUMNS] = [0; COLUMNS];
     let k = gathering::show(marks, &v[..], &mut places[..], &mut shown[..]);
     let need = gathering::gather_need(table, checks, target, &shown[..], n);
@@ -150,7 +146,7 @@ pub fn fill(
     checks: &[u8],
     target: &[u8],
     v: &mut [u8],
-    marks: u32,
+    marks: u64,
 ) -> FillAnswer
     requires { ⌜ Fillable q (now table) (now checks) (now target) (now v) marks ⌝ }
     ensures { λ r. ⌜ r ≡ answerOf (fillOf q (now (checks .entry)) (now (target .entry)) (now (v .entry)) marks) ⌝ }

@@ -1,7 +1,7 @@
 // Systems and vectors with known answers, over both fields. What the compiled code answers is held to the file `stdout`.
-ghost use Prim.Native.Nat.{_+_, _*_, _<_, _≤_};
-ghost use lib.Dec.{T};
-ghost use Rattle.linear_cases.specs.Symbols.{symbols};
+use gathering::COLUMNS;
+ghost use Rattle.gathering.specs.Most.{mostColumns};
+ghost use Rattle.linear_cases.specs.Symbols.{Answerable, Marked};
 
 // 0 to 9, then a to f.
 fn digit(x: u8) -> u8 {
@@ -24,7 +24,7 @@ fn flag(b: bool) -> u8 {
 // Answers a system of m equations in k unknowns, and writes a line: whether its columns are dependent, whether it has a solution,
 // a solution, a dependency. The last two are 0 where there is none.
 fn answer(q: usize, system: [u8; 12], m: usize, k: usize)
-    requires { ⌜ (m * (k + 1) ≤ 12) × (k ≤ 5) × T (symbols q system) ⌝ }
+    requires { ⌜ Answerable q system m k ⌝ }
 {
     let table = field::products();
     let size = field::entries(q);
@@ -70,8 +70,8 @@ fn outcome(o: linear::FillAnswer) -> u8 {
 }
 
 // Fills v by three checks, and writes a line: the outcome, and v after it.
-fn filling(q: usize, checks: [u8; 15], target: [u8; 3], v: [u8; 5], marks: u32)
-    requires { ⌜ (marks < 32) × T (symbols q checks) × T (symbols q target) ⌝ }
+fn filling(q: usize, checks: [u8; 15], target: [u8; 3], v: [u8; 5], marks: u64)
+    requires { ⌜ Marked q 5 checks target marks ⌝ }
 {
     let table = field::products();
     let size = field::entries(q);
@@ -87,6 +87,27 @@ fn filling(q: usize, checks: [u8; 15], target: [u8; 3], v: [u8; 5], marks: u32)
     let head = [outcome(o), b' '];
     io::write_all(1, &head);
     write_symbols(w, b'\n');
+}
+
+// Fills as many symbols as `fill` takes by one check, and writes a line: the outcome, and the last two symbols after it.
+fn filling_wide(q: usize, checks: [u8; COLUMNS], target: [u8; 1], v: [u8; COLUMNS], marks: u64)
+    requires { ⌜ Marked q mostColumns checks target marks ⌝ }
+{
+    let table = field::products();
+    let size = field::entries(q);
+    let mut w = v;
+    let o = linear::fill(
+        q,
+        &table[..size],
+        &checks[..],
+        &target[..],
+        &mut w[..],
+        marks,
+    );
+    let other = w[COLUMNS - 2];
+    let last = w[COLUMNS - 1];
+    let line = [outcome(o), b' ', digit(other), digit(last), b'\n'];
+    io::write_all(1, &line);
 }
 
 fn main() {
@@ -218,4 +239,12 @@ fn main() {
         [1, 2, 3, 4, 5],
         31,
     );
+    // the last of 64 columns marked
+    filling_wide(2, [1; COLUMNS], [1], [1; COLUMNS], 9223372036854775808);
+    filling_wide(16, [1; COLUMNS], [9], [3; COLUMNS], 9223372036854775808);
+    // all 64 marked: something fills; nothing does
+    filling_wide(2, [1; COLUMNS], [1], [1; COLUMNS], 18446744073709551615);
+    filling_wide(16, [1; COLUMNS], [9], [3; COLUMNS], 18446744073709551615);
+    filling_wide(2, [0; COLUMNS], [1], [1; COLUMNS], 18446744073709551615);
+    filling_wide(16, [0; COLUMNS], [9], [3; COLUMNS], 18446744073709551615);
 }

@@ -1,16 +1,16 @@
 // The program mend: one stripe file from standard input, what mending it gives on standard output.
-use files::HEADER;
 use libc::STDERR_FILENO;
 use libc::STDIN_FILENO;
 use libc::STDOUT_FILENO;
-use plans::ROWS;
-use plans::SYMBOLS;
 
 mod patience;
 mod streams;
 
-// One byte more than the longest file has, so that a longer one shows.
-const INPUT: usize = HEADER + 4 * ROWS + SYMBOLS + 1;
+// How many bytes the longest file has.
+const LONGEST: usize = 584;
+
+// How many are read at most: one more.
+const INPUT: usize = LONGEST + 1;
 
 fn main() {
     let mut file = [0u8; INPUT];

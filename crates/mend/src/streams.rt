@@ -1,9 +1,10 @@
 // Reading to the end of the input and writing all of a text, over calls that may be interrupted or may find a stream not ready.
-ghost use Prim.Native.Nat.{_≤_};
+ghost use Prim.Native.Nat.{suc, _≤_};
 ghost use mathlib.Core.Path.{_≡_};
 ghost use lib.Dec.{T};
 ghost use lib.ListN.{length};
 ghost use Rattle.io.specs.Counts.{Counts};
+ghost use Rattle.mend.specs.Input.{longest};
 use crate::patience;
 
 // What reading came to: how many bytes it put at the start of a buffer, none where it failed.
@@ -12,8 +13,10 @@ pub struct Input {
     pub failed: bool,
 }
 
-// Reads until buf is full or the input ends. It fails where a read keeps failing.
+// Reads until buf is full or the input ends. It fails where a read keeps failing. buf has one byte more than the longest file, so that a
+// longer input shows.
 pub fn read_whole(fd: i32, buf: &mut [u8]) -> Input
+    requires { ⌜ length (now buf) ≡ suc longest ⌝ }
     ensures { λ r. ⌜ Counts (r .size) (now (buf .exit)) ⌝ }
     ensures { λ r. ⌜ (T (r .failed) → r .size ≡ 0) ⌝ }
 {

@@ -26,8 +26,11 @@ use Rattle.fills.proofs.Tests.{In, in-up}
 use Rattle.plans.specs.Plan.{allOnes, bitChecks}
 
 -- parity, and the bits of the power sums 1, 3, … 2 j - 1
+abbrev pub oddBits : Field → List ℕ → ℕ → List (List ℕ)
+oddBits L xs j = flatMap (λ i. bitChecks (L .width) (map (λ x. power L x (suc (i + i))) xs)) (upFrom 0 j)
+
 abbrev pub binaryChecks : Field → List ℕ → ℕ → List (List ℕ)
-binaryChecks L xs j = allOnes (length xs) ∷ flatMap (λ i. bitChecks (L .width) (map (λ x. power L x (suc (i + i))) xs)) (upFrom 0 j)
+binaryChecks L xs j = allOnes (length xs) ∷ oddBits L xs j
 
 -- ---- members
 

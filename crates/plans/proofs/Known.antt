@@ -5,7 +5,7 @@ use lib.Dec.{ltb, leb}
 use lib.ListN.{length, getD}
 use Rattle.field.proofs.Laws.{IsField}
 use Rattle.field.proofs.Words.{Each}
-use Rattle.plans.specs.Rooms.{sumRoom, rowRoom, columnRoom, symbolRoom}
+use Rattle.plans.specs.Rooms.{sumRoom, rowRoom, columnRoom, symbolRoom, totalRoom}
 use Rattle.plans.specs.Plan.{Plan, Level}
 -- and what a plan's file says it with
 pub use Prim.Native.Nat.{ℕ, suc}
@@ -15,9 +15,9 @@ unfoldable pub use mathlib.Core.List.{flatMap}
 pub use native.Mathlib.Omega.{arith}
 pub use lib.Dec.{T, lit<}
 unfoldable pub use Rattle.field.specs.Lists.{upFrom}
-unfoldable pub use Rattle.field.specs.Field.{_⊕_, size, double, times, mul, gf2, gf8, gf16, gf32}
+unfoldable pub use Rattle.field.specs.Field.{_⊕_, size, double, times, mul, gf2, gf8, gf16, gf32, gf64}
 unfoldable pub use Rattle.field.specs.Power.{power}
-pub use Rattle.field.proofs.Fields.{gf2-field, gf8-field, gf16-field, gf32-field}
+pub use Rattle.field.proofs.Fields.{gf2-field, gf8-field, gf16-field, gf32-field, gf64-field}
 pub use Rattle.field.proofs.Words.{_&_}
 unfoldable pub use Rattle.fills.specs.Lists.{all}
 unfoldable pub use Rattle.plans.specs.Plan.{allOnes, bitChecks, levelOf, checksTo}
@@ -35,7 +35,7 @@ pub record Shape (P : Plan) : Type 0 where
   pub second-few : length (levelOf P 2 .weights) < P .rows
   pub sums-le : length (checksTo P (length (P .levels))) ≤ sumRoom
   pub some-checks : T (all (λ (L : Level). ltb 0 (length (L .checks))) (P .levels))
-  pub few-totals : T (all (λ (L : Level). leb (length (L .weights)) 2) (P .levels))
+  pub few-totals : T (all (λ (L : Level). leb (length (L .weights)) totalRoom) (P .levels))
 
 -- with the distance of a row's code, level by level: any fewer columns are independent
 pub record Known (P : Plan) (distances : List ℕ) : Type 0 where

@@ -4,9 +4,11 @@ pub mod Flat
 pub mod Binary
 pub mod Columns
 pub mod Known
+pub mod BinaryPlan
 pub mod Plan1
 pub mod Plan2
 pub mod Plan3
+pub mod Plan5
 pub mod Plans
 -- the code's facts and tables of a plan
 pub mod Padded

@@ -13,6 +13,7 @@ use Rattle.field.specs.Lists.{if_then_else_, upFrom}
 use Rattle.field.proofs.Lists.{map-up-same}
 use Rattle.equations.proofs.Wording.{Wording, wording-start, wording-turn, wording-end, packed-bit, packed-lt}
 use Rattle.fills.specs.Marks.{bitsOf}
+use Rattle.plans.specs.Rooms.{rowRoom}
 
 -- which of the n rows from r on have marks
 abbrev pub lossyFrom : List ℕ → ℕ → ℕ → List Bool
@@ -61,6 +62,7 @@ module _ (rows : ℕ) (marks : List ℕ) where
     packed-lt (bitOf marks) small 0 rows,
   )
 
-  -- at most 8 rows have at most 8 bits
-  pub lossy-small : {r word : ℕ} → rows ≤ 8 → Lossy rows marks r word → word < 256
-  lossy-small {r} few s = rw (s .gathered .made) (le-trans (packed-lt (bitOf marks) small r (rows - r)) (pow-mono {i = rows - r} {j = 8} (omega arith)))
+  -- a bit for each row
+  pub lossy-small : {r word : ℕ} → rows ≤ rowRoom → Lossy rows marks r word → word < 2 ^ rowRoom
+  lossy-small {r} few s =
+      rw (s .gathered .made) (le-trans (packed-lt (bitOf marks) small r (rows - r)) (pow-mono {i = rows - r} {j = rowRoom} (omega arith)))

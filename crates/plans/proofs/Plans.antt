@@ -10,18 +10,21 @@ use lib.Dec.{T, leb, ltb, leb→le, ltb→lt, lt→ltb, nleb→lt}
 use lib.ListN.{length, getD, List·getD-eq-default}
 use lib.Seq.{take-all}
 use Rattle.field.specs.Lists.{upFrom}
+use Rattle.field.specs.Field.{size, gf32, gf64}
 use Rattle.field.proofs.Test.{both-left, both-right, both}
 use Rattle.field.proofs.Words.{Each, _&_, each-getD}
 use Rattle.fills.specs.Lists.{all}
 use Rattle.fills.proofs.Tests.{either}
 use Rattle.plans.specs.Rooms.{rowRoom, columnRoom, symbolRoom}
-use Rattle.plans.specs.Plan.{Plan, Level, allOnes, plan1, plan2, plan3, plans, known, noPlan, planOf, noLevel, levelOf, checksTo}
+use Rattle.plans.specs.Plan.{Plan, Level, binaryPlan, plan1, plan2, plan3, plan5, plans, known, noPlan, planOf, noLevel, levelOf, checksTo}
 use Rattle.plans.proofs.Flat.{all-getD, all-at, each-up}
 use Rattle.plans.proofs.Columns.{Columns}
 pub use Rattle.plans.proofs.Known.{Shape, Known}
 use Rattle.plans.proofs.Plan1.{distances-1, plan-1}
-use Rattle.plans.proofs.Plan2.{distances-2, plan-2}
+use Rattle.plans.proofs.BinaryPlan.{binaryDistances}
+use Rattle.plans.proofs.Plan2.{plan-2}
 use Rattle.plans.proofs.Plan3.{distances-3, plan-3}
+use Rattle.plans.proofs.Plan5.{plan-5}
 
 -- ---- every plan
 
@@ -37,41 +40,49 @@ all-plans f t = all-getD f noPlan (both-left (f noPlan) (all f plans) t) (noPlan
 
 -- ---- known numbers
 
--- what holds of the number of each plan holds of every known number
-pub of-known : (Q : ℕ → Type 0) → Each Q (upFrom 1 (length plans)) → (p : ℕ) → T (known p) → Q p
-unfolding known
-of-known Q each p t =
-    let most = leb→le p (length plans) (both-right (ltb 0 p) (leb p (length plans)) t) in
-    each-up Q 1 (length plans) each p (ltb→lt 0 p (both-left (ltb 0 p) (leb p (length plans)) t)) (omega arith)
+abbrev pub numbers : List ℕ
+numbers = 1 ∷ 2 ∷ 3 ∷ 5 ∷ []
 
--- any other reads nothing in a table with an entry for each plan
-pub known-or-past : {A : Type 0} (none : A) (table : List A) → length table ≡ length plans → (p : ℕ) → T (known p) ⊎ (getD (none ∷ table) p none ≡ none)
-unfolding known
-known-or-past none table e zero = inr refl
-known-or-past none table e (suc i) =
-    elim (either (leb (suc i) (length plans))) [
-      | inl t ↦ inl (both (ltb 0 (suc i)) (leb (suc i) (length plans)) (lt→ltb 0 (suc i) (omega arith)) t)
-      | inr n ↦
-          let past : suc (length table) ≤ suc i = omega (arith, e, nleb→lt (suc i) (length plans) n) in
-          inr (List·getD-eq-default (none ∷ table) none past)
-    ]
+-- what holds of the number of each plan holds of every known number
+pub of-known : (Q : ℕ → Type 0) → Each Q numbers → (p : ℕ) → T (known p) → Q p
+unfolding noPlan planOf known
+of-known Q each zero t = absurd t
+of-known Q each (suc zero) t = each .0
+of-known Q each (suc (suc zero)) t = each .1 .0
+of-known Q each (suc (suc (suc zero))) t = each .1 .1 .0
+of-known Q each (suc (suc (suc (suc zero)))) t = absurd t
+of-known Q each (suc (suc (suc (suc (suc zero))))) t = each .1 .1 .1 .0
+of-known Q each (suc (suc (suc (suc (suc (suc p)))))) t = absurd t
+
+-- any other reads nothing in a table with an entry for each plan, and none at 4
+pub known-or-past : {A : Type 0} (none : A) (table : List A) → length table ≡ length plans → getD (none ∷ table) 4 none ≡ none
+    → (p : ℕ) → T (known p) ⊎ (getD (none ∷ table) p none ≡ none)
+unfolding size gf32 gf64 binaryPlan plan1 plan2 plan3 plan5 planOf known
+known-or-past none table e gap zero = inr refl
+known-or-past none table e gap (suc zero) = inl tt
+known-or-past none table e gap (suc (suc zero)) = inl tt
+known-or-past none table e gap (suc (suc (suc zero))) = inl tt
+known-or-past none table e gap (suc (suc (suc (suc zero)))) = inr gap
+known-or-past none table e gap (suc (suc (suc (suc (suc zero))))) = inl tt
+known-or-past none table e gap (suc (suc (suc (suc (suc (suc i)))))) =
+    let past : suc (length table) ≤ suc (suc (suc (suc (suc (suc i))))) = omega (arith, e) in inr (List·getD-eq-default (none ∷ table) none past)
 
 pub known-or-none : (p : ℕ) → T (known p) ⊎ (planOf p ≡ noPlan)
 unfolding planOf
-known-or-none = known-or-past noPlan plans refl
+known-or-none = known-or-past noPlan plans refl refl
 
-pub unknown : (p : ℕ) → Each (λ k. p ≢ k) (upFrom 1 (length plans)) → planOf p ≡ noPlan
+pub unknown : (p : ℕ) → Each (λ k. p ≢ k) numbers → planOf p ≡ noPlan
 unknown p others = elim (known-or-none p) [ inl t ↦ absurd (of-known (λ k. p ≢ k) others p t refl) | inr e ↦ e ]
 
 -- ---- what is known of a plan
 
 -- the distances of its row code
 abbrev pub distancesOf : ℕ → List ℕ
-distancesOf p = getD ([] ∷ distances-1 ∷ distances-2 ∷ distances-3 ∷ []) p []
+distancesOf p = getD ([] ∷ distances-1 ∷ binaryDistances ∷ distances-3 ∷ [] ∷ binaryDistances ∷ []) p []
 
 pub known-of : (p : ℕ) → T (known p) → Known (planOf p) (distancesOf p)
-unfolding upFrom planOf
-known-of = of-known (λ p. Known (planOf p) (distancesOf p)) (plan-1 & plan-2 & plan-3 & tt)
+unfolding planOf
+known-of = of-known (λ p. Known (planOf p) (distancesOf p)) (plan-1 & plan-2 & plan-3 & plan-5 & tt)
 
 pub shape : (p : ℕ) → T (known p) → Shape (planOf p)
 shape p k = known-of p k .shape
@@ -141,8 +152,8 @@ by-level P Q none each t =
 
 -- level 1 has no weights
 first-none : (p : ℕ) → levelOf (planOf p) 1 .weights ≡ []
-unfolding plan1 plan2 plan3 noPlan noLevel levelOf
-first-none = of-plans (λ P. levelOf P 1 .weights ≡ []) refl (refl & refl & refl & tt)
+unfolding binaryPlan plan1 plan2 plan3 plan5 noPlan noLevel levelOf
+first-none = of-plans (λ P. levelOf P 1 .weights ≡ []) refl (refl & refl & refl & refl & refl & tt)
 
 -- only levels 2 and 3 have weights
 pub weights-none : (p t : ℕ) → t ≢ 2 → t ≢ 3 → levelOf (planOf p) t .weights ≡ []
@@ -153,20 +164,3 @@ weights-none p (suc (suc zero)) n2 n3 = absurd (n2 refl)
 weights-none p (suc (suc (suc zero))) n2 n3 = absurd (n3 refl)
 weights-none p (suc (suc (suc (suc t)))) n2 n3 =
     ap (λ (L : Level). L .weights) (level-beyond (planOf p) (suc (suc (suc (suc t)))) (omega (arith, levels-most p)))
-
--- only plans 2 and 3 have a level 3: one plain total
-pub weights-3 : (p : ℕ) → 2 ≤ p → p < 4 → levelOf (planOf p) 3 .weights ≡ allOnes 8 ∷ []
-unfolding planOf plan2 plan3 levelOf
-weights-3 zero l h = absurd (omega arith)
-weights-3 (suc zero) l h = absurd (omega arith)
-weights-3 (suc (suc zero)) l h = refl
-weights-3 (suc (suc (suc zero))) l h = refl
-weights-3 (suc (suc (suc (suc p)))) l h = absurd (omega arith)
-
-pub weights-none-3 : (p : ℕ) → p ≢ 2 → p ≢ 3 → levelOf (planOf p) 3 .weights ≡ []
-unfolding planOf plan1 noPlan noLevel levelOf
-weights-none-3 zero n2 n3 = refl
-weights-none-3 (suc zero) n2 n3 = refl
-weights-none-3 (suc (suc zero)) n2 n3 = absurd (n2 refl)
-weights-none-3 (suc (suc (suc zero))) n2 n3 = absurd (n3 refl)
-weights-none-3 (suc (suc (suc (suc p)))) n2 n3 = refl

@@ -7,7 +7,7 @@ use native.Mathlib.Omega.{arith}
 use lib.Dec.{T, leb, leb→le}
 use lib.ListN.{length, length-append}
 use Rattle.fills.specs.Lists.{all}
-use Rattle.plans.specs.Rooms.{checkRoom, weightRoom}
+use Rattle.plans.specs.Rooms.{checkRoom, weightRoom, totalRoom}
 use Rattle.plans.specs.Plan.{Level, noPlan, planOf, noLevel, levelOf, checksTo}
 use Rattle.plans.specs.Tables.{flat, checkTable, weightTable}
 use Rattle.plans.proofs.Padded.{length-padded}
@@ -32,11 +32,11 @@ checks-length p = rw (checks-all p) (mul-le-mul (sums-most p (length (planOf p .
 -- ---- weights
 
 module _ (p t : ℕ) where
-  pub totals-most : length (levelOf (planOf p) t .weights) ≤ 2
+  pub totals-most : length (levelOf (planOf p) t .weights) ≤ totalRoom
   unfolding all noPlan noLevel levelOf
   totals-most =
-      let few : Level → Bool = λ L. leb (length (L .weights)) 2 in
-      leb→le _ 2 (all-getD few noLevel tt (planOf p .levels) (by-known (λ P. T (all few (P .levels))) tt (λ P ds k. k .shape .few-totals) p) (pred t))
+      let few : Level → Bool = λ L. leb (length (L .weights)) totalRoom in
+      leb→le _ totalRoom (all-getD few noLevel tt (planOf p .levels) (by-known (λ P. T (all few (P .levels))) tt (λ P ds k. k .shape .few-totals) p) (pred t))
 
   pub weights-room : length (levelOf (planOf p) t .weights) * planOf p .rows ≤ weightRoom
   weights-room = mul-le-mul totals-most (rows-most p)

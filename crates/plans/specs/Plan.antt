@@ -1,11 +1,11 @@
--- The three plans. Row checks and weights are computed from the locations.
+-- The plans. Row checks and weights are computed from the locations.
 use Prim.Native.Nat.{ℕ, pred, _+_, _*_, _/_, _%_, _^_}
 use mathlib.Core.Bool.{Bool, not, _&&_}
 use mathlib.Core.List.{List, [], _∷_, _++_, map, flatMap}
 use lib.Dec.{ltb, leb}
 use lib.ListN.{length, take, drop, getD, replicate}
-use Rattle.field.specs.Lists.{upFrom, _to_}
-use Rattle.field.specs.Field.{Field, dot, gf2, gf16, gf32}
+use Rattle.field.specs.Lists.{if_then_else_, upFrom, _to_}
+use Rattle.field.specs.Field.{Field, size, dot, gf2, gf16, gf32, gf64}
 use Rattle.field.specs.Power.{power}
 use Rattle.fills.specs.Lists.{only}
 use Rattle.fills.specs.Marks.{bitsOf}
@@ -55,26 +55,38 @@ plan1 = record {
   checkPlaces = replicate 2 (wordOf (6 ∷ [])) ++ (wordOf (2 ∷ 4 ∷ 5 ∷ 6 ∷ []) ∷ []);
 }
 
--- ---- plan 2: column c from 0 to 30 has location a ^ c, column 31 has location 0
+-- ---- plans 2 and 5: a column for each element of a field F. The last has location 0, column c before it location a ^ c
 
-unfoldable pub locations2 : List ℕ
-locations2 = map (power gf32 2) (0 to 30) ++ (0 ∷ [])
+unfoldable pub elements : Field → List ℕ
+elements F = map (power F 2) (upFrom 0 (pred (size F))) ++ (0 ∷ [])
 
-unfoldable pub powers2 : ℕ → List (List ℕ)
-powers2 p = bitChecks 5 (map (λ x. power gf32 x p) locations2)
+-- the bits of the locations' powers p
+unfoldable pub powerBits : Field → ℕ → List (List ℕ)
+powerBits F p = bitChecks (F .width) (map (λ x. power F x p) (elements F))
 
-unfoldable pub plan2 : Plan
-plan2 = record {
+-- the first n columns and the last
+unfoldable pub frontAndLast : Field → ℕ → List ℕ
+frontAndLast F n = upFrom 0 n ++ (pred (size F) ∷ [])
+
+unfoldable pub binaryPlan : Field → Plan
+binaryPlan F = record {
   field = gf2;
   rows = 8;
-  columns = 32;
+  columns = size F;
   levels =
-      record { checks = allOnes 32 ∷ powers2 1; weights = [] }
-      ∷ record { checks = powers2 3; weights = allOnes 8 ∷ [] }
-      ∷ record { checks = powers2 5; weights = allOnes 8 ∷ [] }
+      record { checks = allOnes (size F) ∷ powerBits F 1; weights = [] }
+      ∷ record { checks = powerBits F 3; weights = allOnes 8 ∷ [] }
+      ∷ record { checks = powerBits F 5; weights = allOnes 8 ∷ [] }
       ∷ [];
-  checkPlaces = replicate 7 (wordOf ((0 to 4) ++ (31 ∷ []))) ++ (wordOf ((0 to 14) ++ (31 ∷ [])) ∷ []);
+  checkPlaces = replicate 7 (wordOf (frontAndLast F (F .width))) ++ (wordOf (frontAndLast F (3 * F .width)) ∷ []);
 }
+
+-- 32 columns, and 64
+unfoldable pub plan2 : Plan
+plan2 = binaryPlan gf32
+
+unfoldable pub plan5 : Plan
+plan5 = binaryPlan gf64
 
 -- ---- plan 3: column c has location a ^ c
 
@@ -99,19 +111,20 @@ plan3 = record {
 
 -- ---- a plan by its number
 
--- the plans in the order of their numbers, from 1 on
-abbrev pub plans : List Plan
-plans = plan1 ∷ plan2 ∷ plan3 ∷ []
-
-unfoldable pub known : ℕ → Bool
-known p = ltb 0 p && leb p (length plans)
-
 -- an unknown number has the plan with nothing in it
 unfoldable pub noPlan : Plan
 noPlan = record { field = gf2; rows = 0; columns = 0; levels = []; checkPlaces = [] }
 
+-- the plans in the order of their numbers, from 1 on. No plan has number 4
+abbrev pub plans : List Plan
+plans = plan1 ∷ plan2 ∷ plan3 ∷ noPlan ∷ plan5 ∷ []
+
 unfoldable pub planOf : ℕ → Plan
 planOf p = getD (noPlan ∷ plans) p noPlan
+
+-- a plan has rows
+unfoldable pub known : ℕ → Bool
+known p = ltb 0 (planOf p .rows)
 
 -- ---- what is read off a plan
 
@@ -155,8 +168,15 @@ carried P = length (only not (checkPlacesOf P))
 unfoldable pub marksOffset : ℕ
 marksOffset = 8
 
+-- a word of four bytes where that is a bit for each column, else one of eight
+unfoldable pub wideMarks : Plan → Bool
+wideMarks P = ltb 32 (P .columns)
+
+unfoldable pub wordBytes : Plan → ℕ
+wordBytes P = if wideMarks P then 8 else 4
+
 unfoldable pub symbolsOffset : Plan → ℕ
-symbolsOffset P = marksOffset + 4 * P .rows
+symbolsOffset P = marksOffset + wordBytes P * P .rows
 
 unfoldable pub fileLength : Plan → ℕ
 fileLength P = symbolsOffset P + P .rows * P .columns

@@ -3,24 +3,28 @@ use Prim.Native.Nat.{ℕ}
 
 -- rows, columns and symbols of a stripe
 abbrev pub rowRoom : ℕ
-rowRoom = 8
+rowRoom = 12
 
 abbrev pub columnRoom : ℕ
-columnRoom = 32
+columnRoom = 64
 
 abbrev pub symbolRoom : ℕ
-symbolRoom = 256
+symbolRoom = 512
 
 -- learned sums: a row's stand at the first of its places
 abbrev pub sumRoom : ℕ
-sumRoom = 16
+sumRoom = 19
 
 abbrev pub learnedRoom : ℕ
-learnedRoom = 128
+learnedRoom = 228
+
+-- weighted totals of a level
+abbrev pub totalRoom : ℕ
+totalRoom = 3
 
 -- numbers in a table of row checks, and in one of weights
 abbrev pub checkRoom : ℕ
-checkRoom = 512
+checkRoom = 1216
 
 abbrev pub weightRoom : ℕ
-weightRoom = 16
+weightRoom = 36

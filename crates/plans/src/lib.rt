@@ -1,27 +1,29 @@
 // Rooms, what a bench is, and what each call answers.
 
-// The most rows, columns and symbols that a stripe has; learned sums of a row, and of all rows; numbers in a table of row checks, and in
-// one of weights.
-pub const ROWS: usize = 8;
+// The most rows, columns and symbols that a stripe has; learned sums of a row, and of all rows; weighted totals of a level; numbers in a
+// table of row checks, and in one of weights.
+pub const ROWS: usize = 12;
 
-pub const COLUMNS: usize = 32;
+pub const COLUMNS: usize = 64;
 
-pub const SYMBOLS: usize = ROWS * COLUMNS;
+pub const SYMBOLS: usize = 512;
 
-pub const SUMS: usize = 16;
+pub const SUMS: usize = 19;
 
 pub const LEARNED: usize = ROWS * SUMS;
 
+pub const TOTALS: usize = 3;
+
 pub const CHECKS: usize = SUMS * COLUMNS;
 
-pub const WEIGHTS: usize = 16;
+pub const WEIGHTS: usize = TOTALS * ROWS;
 
 // A plan's number, the level t that was reached, symbols and mark words row after row, and each row's learned sums, SUMS places a row.
 pub struct Bench {
     pub plan: usize,
     pub level: usize,
     pub symbols: [u8; SYMBOLS],
-    pub marks: [u32; ROWS],
+    pub marks: [u64; ROWS],
     pub sums: [u8; LEARNED],
 }
 

@@ -13,10 +13,12 @@ use Rattle.field.specs.Lists.{if_then_else_, upFrom}
 use Rattle.field.specs.Field.{size}
 use Rattle.field.proofs.Lists.{length-up}
 use Rattle.field.proofs.Test.{both}
+use Rattle.field.proofs.Words.{_&_}
 use Rattle.fills.specs.Lists.{all, only}
 use Rattle.fills.specs.Marks.{bitsOf}
 use Rattle.fills.specs.Fill.{none}
-use Rattle.plans.specs.Plan.{Plan, planOf, rowAt, marksAt}
+use Rattle.plans.specs.Plan.{Plan, planOf, known, rowAt, marksAt}
+use Rattle.plans.specs.Rooms.{rowRoom}
 use Rattle.plans.specs.Answers.{answerNumber, placeValues, endValues, answerValues, reportValues}
 use Rattle.plans.specs.Refusal.{unasked, allBelow, unmarkedBelow, symbolsFit, lentRefusal}
 use Rattle.steps.specs.Steps.{fresh, rowStep, lossy, levelStep}
@@ -26,15 +28,20 @@ use Rattle.rounds.specs.Reports.{rowsLeft, endReport, bare}
 use Rattle.printing.specs.Parts.{Printable}
 use Rattle.files.specs.File.{planIn, symbolsIn, marksIn, fileRefusal}
 use Rattle.texts.specs.Text.{item, lineEnd, grid, answerText, mendText, printed}
+use Rattle.texts.specs.Parts.{numbers}
 use Rattle.plans.specs.declared.Step.{Step}
 use Rattle.plans.specs.declared.Step.the-variants.{Whole, Filled, Tied, Raised, Blocked, Top, Clash, Refused}
 use Rattle.plans.specs.declared.Answer.the-variants.{Restored, Stuck}
 use Rattle.plans.specs.declared.Report.{Report}
 use Rattle.plans.proofs.Flat.{all-getD}
 use Rattle.plans.proofs.Rows.{row-end, row-append}
-use Rattle.plans.proofs.Plans.{Shape, shape}
+use Rattle.plans.proofs.Plans.{of-known, Shape, shape}
 use Rattle.steps.proofs.Fit.{RowFits, LentFit, fit-symbols, lent-fit, all-take}
 use Rattle.steps.proofs.Sound.{Sound, sound-fresh, row-keeps, level-plan, sound-row, sound-level}
+
+-- the number of a plan is small
+pub plan-small : (p : ℕ) → T (known p) → p < numbers
+plan-small = of-known (λ p. p < numbers) (omega arith & omega arith & omega arith & omega arith & tt)
 
 only-length : (f : Bool → Bool) (l : List Bool) → length (only f l) ≤ length l
 unfolding if_then_else_ only
@@ -58,7 +65,7 @@ record After (p n : ℕ) (m : Standing) : Type 0 where
 abbrev Reached : (p n : ℕ) → Turn → Type 0
 Reached p n (on m) = After p n m
 Reached p n (end m) = After p n m
-Reached p n (clash place) = T (allBelow 100 (placeValues place))
+Reached p n (clash place) = T (allBelow numbers (placeValues place))
 
 set-le : (n : ℕ) (l : List ℕ) (j v : ℕ) → ((i : ℕ) → getD l i 0 ≤ n) → v ≤ n → (i : ℕ) → getD (set l j v) i 0 ≤ n
 set-le n [] j v h e i = h i
@@ -76,15 +83,15 @@ module _ (t : ℕ) (l : List ℕ) where
   unfolding moreRows
   more-le n h = let v = h (pred t) in set-le (suc n) l (pred t) (getD l (pred t) 0 + 1) (λ i. let w = h i in omega arith) (omega arith)
 
-below-more : (x : ℕ) (l : List ℕ) → x < 100 → T (allBelow 100 l) → T (allBelow 100 (x ∷ l))
+below-more : (x : ℕ) (l : List ℕ) → x < numbers → T (allBelow numbers l) → T (allBelow numbers (x ∷ l))
 unfolding all allBelow
-below-more x l h t = both (ltb x 100) (allBelow 100 l) (lt→ltb x 100 h) t
+below-more x l h t = both (ltb x numbers) (allBelow numbers l) (lt→ltb x numbers h) t
 
-below-none : T (allBelow 100 [])
+below-none : T (allBelow numbers [])
 unfolding all allBelow
 below-none = tt
 
-below-each : (l : List ℕ) → ((i : ℕ) → getD l i 0 < 100) → T (allBelow 100 l)
+below-each : (l : List ℕ) → ((i : ℕ) → getD l i 0 < numbers) → T (allBelow numbers l)
 below-each [] h = below-none
 below-each (x ∷ l) h = below-more x l (h 0) (below-each l (λ i. h (suc i)))
 
@@ -165,14 +172,18 @@ turns-reached p k (suc n) N m a h = go (takeTurn m) (turn-reached p k m a) (λ l
 
 -- ---- mending in one call
 
+-- a turn for each row and one for the level, at each level
+abbrev mostTurns : ℕ
+mostTurns = 3 * suc rowRoom
+
 module _ (p : ℕ) (stripe marks : List ℕ) (e : lentRefusal p stripe marks ≡ 0) where
-  reached : Reached p 27 (mended p stripe marks)
+  reached : Reached p mostTurns (mended p stripe marks)
   unfolding all fresh mended
   reached =
       let s = sound-fresh p stripe marks e in
       let room = shape p (s .fit .plan-known) in
       let none : (i : ℕ) → getD (replicate 3 0) i 0 ≤ 0 = λ i. leb→le _ 0 (all-getD (λ x. leb x 0) 0 tt (replicate 3 0) tt i) in
-      turns-reached p 0 (length (planOf p .levels) * suc (planOf p .rows)) 27 _
+      turns-reached p 0 (length (planOf p .levels) * suc (planOf p .rows)) mostTurns _
       (record { sound = s; plan = refl; three = refl; few = none })
       (omega (arith, mul-le-mul (room .levels-le) (suc-le-suc (room .rows-le))))
 
@@ -182,14 +193,14 @@ module _ (p : ℕ) (stripe marks : List ℕ) (e : lentRefusal p stripe marks ≡
   abbrev f : LentFit p stripe marks
   f = lent-fit p stripe marks e
 
-  stripe-room : (m : Standing) → After p 27 m → length stripe ≤ length (m .bench .symbols)
+  stripe-room : (m : Standing) → After p mostTurns m → length stripe ≤ length (m .bench .symbols)
   stripe-room m a = rw (f .long) (subst (λ q. planOf q .rows * planOf q .columns ≤ length (m .bench .symbols)) (a .plan) (a .sound .room .stripe .size))
 
-  marks-room : (m : Standing) → After p 27 m → length marks ≤ length (m .bench .marks)
+  marks-room : (m : Standing) → After p mostTurns m → length marks ≤ length (m .bench .marks)
   marks-room m a = rw (f .words) (subst (λ q. planOf q .rows ≤ length (m .bench .marks)) (a .plan) (a .sound .room .stripe .rows))
 
   -- the rows of a bench's symbols, under its marks
-  rows-fit : (m : Standing) → After p 27 m → T (symbolsFit P (take (length marks) (m .bench .marks)) (take (length stripe) (m .bench .symbols)))
+  rows-fit : (m : Standing) → After p mostTurns m → T (symbolsFit P (take (length marks) (m .bench .marks)) (take (length stripe) (m .bench .symbols)))
   unfolding marksAt
   rows-fit m a =
       fit-symbols P (take (length marks) (m .bench .marks)) (take (length stripe) (m .bench .symbols)) (λ r h.
@@ -208,30 +219,30 @@ module _ (p : ℕ) (stripe marks : List ℕ) (e : lentRefusal p stripe marks ≡
 
   -- ---- numbers
 
-  left-low : (m : Standing) → After p 27 m → rowsLeft (m .bench) < 100
+  left-low : (m : Standing) → After p mostTurns m → rowsLeft (m .bench) < numbers
   unfolding lossy rowsLeft
   left-low m a =
       let R = planOf (m .bench .plan) .rows in
-      let few : R ≤ 8 = shape (m .bench .plan) (a .sound .fit .plan-known) .rows-le in
+      let few : R ≤ rowRoom = shape (m .bench .plan) (a .sound .fit .plan-known) .rows-le in
       let marked : ℕ → Bool = λ r. not (eqb (getD (m .bench .marks) r 0) 0) in
       omega (arith, only-length (λ m. m) (map marked (upFrom 0 R)), length-map (upFrom 0 R) marked, length-up 0 R)
 
-  end-values : (m : Standing) → After p 27 m → T (allBelow 100 (endValues P (endReport m)))
+  end-values : (m : Standing) → After p mostTurns m → T (allBelow numbers (endValues P (endReport m)))
   unfolding allBelow endValues endReport
   end-values m a =
       let counts = take (length (P .levels)) (m .restored) in
-      below-more (m .bench .level) (rowsLeft (m .bench) ∷ counts) (omega (arith, level-low p 27 m a))
+      below-more (m .bench .level) (rowsLeft (m .bench) ∷ counts) (omega (arith, level-low p mostTurns m a))
       (below-more (rowsLeft (m .bench)) counts (left-low m a)
-      (all-take (λ x. ltb x 100) (length (P .levels)) (m .restored) (below-each (m .restored) (λ i. let w = a .few i in omega arith))))
+      (all-take (λ x. ltb x numbers) (length (P .levels)) (m .restored) (below-each (m .restored) (λ i. let w = a .few i in omega arith))))
 
-  end-below : (m : Standing) → After p 27 m → (b : Bool)
-      → (answerNumber (if b then Restored else Stuck) < 100) × T (allBelow 100 (answerValues (if b then Restored else Stuck) (endValues P (endReport m))))
+  end-below : (m : Standing) → After p mostTurns m → (b : Bool)
+      → (answerNumber (if b then Restored else Stuck) < numbers) × T (allBelow numbers (answerValues (if b then Restored else Stuck) (endValues P (endReport m))))
   unfolding if_then_else_ answerNumber answerValues
   end-below m a true = (omega arith, end-values m a)
   end-below m a false = (omega arith, end-values m a)
 
   -- what stands after the last turn can be printed
-  end-printable : (m : Standing) → After p 27 m → Printable p (endReport m) (take (length stripe) (m .bench .symbols)) (take (length marks) (m .bench .marks))
+  end-printable : (m : Standing) → After p mostTurns m → Printable p (endReport m) (take (length stripe) (m .bench .symbols)) (take (length marks) (m .bench .marks))
   unfolding reportValues endReport
   end-printable m a =
       let below = end-below m a (eqb (rowsLeft (m .bench)) 0) in
@@ -246,7 +257,7 @@ module _ (p : ℕ) (stripe marks : List ℕ) (e : lentRefusal p stripe marks ≡
         values = below .1;
       }
 
-  turn-printable : (t : Turn) → Reached p 27 t → Printable p (turnReport t) (turnStripe t stripe) (turnMarks t marks)
+  turn-printable : (t : Turn) → Reached p mostTurns t → Printable p (turnReport t) (turnStripe t stripe) (turnMarks t marks)
   unfolding reportValues answerNumber answerValues bare turnReport turnStripe turnMarks
   turn-printable (on m) a = end-printable m a
   turn-printable (end m) a = end-printable m a
@@ -262,7 +273,7 @@ module _ (p : ℕ) (stripe marks : List ℕ) (e : lentRefusal p stripe marks ≡
   unfolding if_then_else_ mendReport mendStripe mendMarks
   mend-printable er es em = rw (er, es, em) (rw e (turn-printable (mended p stripe marks) reached))
 
-  pub report-below : (answerNumber (mendReport p stripe marks .answer) < 100) × T (allBelow 100 (reportValues P (mendReport p stripe marks)))
+  pub report-below : (answerNumber (mendReport p stripe marks .answer) < numbers) × T (allBelow numbers (reportValues P (mendReport p stripe marks)))
   report-below = let h = mend-printable refl refl refl in (h .answer, h .values)
 
 -- the text of a report, a stripe and marks that are those of mending

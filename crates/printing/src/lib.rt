@@ -21,7 +21,7 @@ fn put_end(
     plan: usize,
     report: Report,
     stripe: &[u8],
-    marks: &[u32],
+    marks: &[u64],
     out: &mut [u8],
     at: usize,
 ) -> usize
@@ -37,7 +37,7 @@ fn put_report(
     plan: usize,
     report: Report,
     stripe: &[u8],
-    marks: &[u32],
+    marks: &[u64],
     out: &mut [u8],
     at: usize,
 ) -> usize
@@ -61,7 +61,7 @@ fn put_mended(
     plan: usize,
     file: &[u8],
     stripe: &mut [u8],
-    marks: &mut [u32],
+    marks: &mut [u64],
     out: &mut [u8],
 ) -> usize
     requires { ⌜ Mended plan (now file) (now stripe) (now marks) (now out) ⌝ }
@@ -85,7 +85,7 @@ fn put_loaded(file: &[u8], out: &mut [u8]) -> usize
     let size = facts.symbols;
     let rows = facts.rows;
     let mut stripe = [0u8; SYMBOLS];
-    let mut marks = [0u32; ROWS];
+    let mut marks = [0u64; ROWS];
     put_mended(plan, file, &mut stripe[..size], &mut marks[..rows], out)
 }
 

@@ -38,7 +38,7 @@ pub fn plan_in(file: &[u8]) -> usize
 // ---- what is refused
 
 // Whether every marked symbol is 0.
-fn is_blank(plan: usize, symbols: &[u8], marks: &[u32]) -> bool
+fn is_blank(plan: usize, symbols: &[u8], marks: &[u64]) -> bool
     requires { ⌜ Symbols plan (now symbols) (now marks) ⌝ }
     ensures { λ r. ⌜ r ≡ equal (now (symbols .entry)) (blanked (marksOf (planOf plan) (now (marks .entry))) (now (symbols .entry))) ⌝ }
 {
@@ -49,7 +49,7 @@ fn is_blank(plan: usize, symbols: &[u8], marks: &[u32]) -> bool
 }
 
 // What of marks and symbols that were read is refused; 0 where nothing is.
-fn content_refusal(plan: usize, symbols: &[u8], marks: &[u32]) -> usize
+fn content_refusal(plan: usize, symbols: &[u8], marks: &[u64]) -> usize
     requires { ⌜ Symbols plan (now symbols) (now marks) ⌝ }
     ensures { λ r. ⌜ r ≡ contentRefusal (planOf plan) (now (marks .entry)) (now (symbols .entry)) ⌝ }
 {
@@ -70,10 +70,12 @@ fn whole_refusal(plan: usize, file: &[u8]) -> usize
     requires { ⌜ Whole plan (now file) ⌝ }
     ensures { λ r. ⌜ r ≡ fileRefusal (now (file .entry)) unasked ⌝ }
 {
-    let rows = tables::facts_of(plan).rows;
-    let mut room = [0u32; ROWS];
-    words::read_words(file, HEADER, &mut room[..rows]);
-    let start = HEADER + 4 * rows;
+    let facts = tables::facts_of(plan);
+    let rows = facts.rows;
+    let size = facts.word_bytes;
+    let mut room = [0u64; ROWS];
+    words::read_words(file, HEADER, size, &mut room[..rows]);
+    let start = HEADER + size * rows;
     content_refusal(plan, &file[start..], &room[..rows])
 }
 
@@ -104,18 +106,19 @@ pub fn file_refusal(file: &[u8], lengths: bool) -> usize
 // ---- reading
 
 // Reads a file that is not refused into a stripe and mark words as long as its plan's.
-pub fn load(file: &[u8], stripe: &mut [u8], marks: &mut [u32])
+pub fn load(file: &[u8], stripe: &mut [u8], marks: &mut [u64])
     requires { ⌜ Loading (now file) (now stripe) (now marks) ⌝ }
     ensures { λ _. ⌜ now (stripe .exit) ≡ symbolsIn (now (file .entry)) ⌝ }
     ensures { λ _. ⌜ now (marks .exit) ≡ marksIn (now (file .entry)) ⌝ }
 {
-    words::read_words(file, HEADER, marks);
-    let start = HEADER + 4 * marks.len();
+    let size = tables::facts_of(plan_in(file)).word_bytes;
+    words::read_words(file, HEADER, size, marks);
+    let start = HEADER + size * marks.len();
     words::put(&file[start..], stripe, 0);
 }
 
 // Reads a file into a stripe and its marks. Where it is refused both are unchanged.
-pub fn read_file(file: &[u8], stripe: &mut [u8], marks: &mut [u32]) -> Outcome
+pub fn read_file(file: &[u8], stripe: &mut [u8], marks: &mut [u64]) -> Outcome
     ensures { λ r. ⌜ r ≡ outcomeOf (readRefusal (now (file .entry)) (now (stripe .entry)) (now (marks .entry))) ⌝ }
     ensures { λ _. ⌜ now (stripe .exit) ≡ readStripe (now (file .entry)) (now (stripe .entry)) (now (marks .entry)) ⌝ }
     ensures { λ _. ⌜ now (marks .exit) ≡ readMarks (now (file .entry)) (now (stripe .entry)) (now (marks .entry)) ⌝ }

@@ -27,7 +27,7 @@ pub fn all_below(q: usize, symbols: &[u8]) -> bool
 }
 
 // Whether each unmarked symbol of a row is below q.
-fn row_fits(q: usize, word: u32, row: &[u8]) -> bool
+fn row_fits(q: usize, word: u64, row: &[u8]) -> bool
     requires { ⌜ length (now row) ≤ columnRoom ⌝ }
     ensures { λ r. ⌜ r ≡ unmarkedBelow q (bitsOf (length (now (row .entry))) word) (now (row .entry)) ⌝ }
 {
@@ -44,7 +44,7 @@ fn row_fits(q: usize, word: u32, row: &[u8]) -> bool
 }
 
 // Whether no mark bit stands at column N or above.
-pub fn marks_fit(plan: usize, marks: &[u32]) -> bool
+pub fn marks_fit(plan: usize, marks: &[u64]) -> bool
     requires { ⌜ planOf plan .rows ≤ length (now marks) ⌝ }
     ensures { λ r. ⌜ r ≡ marksFit (planOf plan) (now (marks .entry)) ⌝ }
 {
@@ -60,7 +60,7 @@ pub fn marks_fit(plan: usize, marks: &[u32]) -> bool
 }
 
 // Whether each unmarked symbol is below q. Where every symbol is, the marks are not looked at.
-pub fn symbols_fit(plan: usize, marks: &[u32], symbols: &[u8]) -> bool
+pub fn symbols_fit(plan: usize, marks: &[u64], symbols: &[u8]) -> bool
     requires { ⌜ Holds (planOf plan) (now marks) (now symbols) ⌝ }
     ensures { λ r. ⌜ r ≡ symbolsFit (planOf plan) (now (marks .entry)) (now (symbols .entry)) ⌝ }
 {
@@ -106,7 +106,7 @@ pub fn sums_fit(plan: usize, level: usize, sums: &[u8]) -> bool
 }
 
 // Whether a stripe and its mark words have the plan's lengths.
-pub fn lengths_fit(plan: usize, stripe: &[u8], marks: &[u32]) -> bool
+pub fn lengths_fit(plan: usize, stripe: &[u8], marks: &[u64]) -> bool
     ensures { λ r. ⌜ r ≡ (stripeFits (planOf plan) (now (stripe .entry)) && wordsFit (planOf plan) (now (marks .entry))) ⌝ }
 {
     let facts = tables::facts_of(plan);
@@ -130,7 +130,7 @@ fn level_fits(plan: usize, level: usize) -> bool
 }
 
 // What start and mending in one call refuse; 0 where they do not.
-pub fn lent_refusal(plan: usize, stripe: &[u8], marks: &[u32]) -> usize
+pub fn lent_refusal(plan: usize, stripe: &[u8], marks: &[u64]) -> usize
     ensures { λ r. ⌜ r ≡ lentRefusal plan (now (stripe .entry)) (now (marks .entry)) ⌝ }
 {
     if !tables::is_known(plan) {
@@ -153,7 +153,7 @@ pub fn bench_refusal(
     plan: usize,
     level: usize,
     symbols: &[u8],
-    marks: &[u32],
+    marks: &[u64],
     sums: &[u8],
     row: bool,
 ) -> usize

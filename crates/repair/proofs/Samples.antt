@@ -1,4 +1,4 @@
--- Plans 2 and 3 on samples: a codeword of each, found by another program from the rule of the code alone, and the plans' published sizes.
+-- Plans 2, 3 and 5 on samples: a codeword of each, found by another program from the rule of the code alone, and the plans' published sizes.
 -- And the orders of refusal, on samples that have two flaws at once.
 -- Assumes nothing.
 use Prim.Native.Nat.{ℕ, suc, _/_, _%_, _^_}
@@ -7,12 +7,12 @@ use mathlib.Core.Bool.{true, false}
 use mathlib.Core.List.{List, [], _∷_, map, flatMap}
 use lib.ListN.{getD, replicate, set}
 use Rattle.field.specs.Lists.{if_then_else_, upFrom}
-use Rattle.field.specs.Field.{_⊕_, size, double, times, mul, dot, gf2, gf16, gf32}
+use Rattle.field.specs.Field.{_⊕_, size, double, times, mul, dot, gf2, gf16, gf32, gf64}
 use Rattle.field.specs.Power.{power}
 use Rattle.fills.specs.Lists.{all, only, vanish, first, rest, beside}
 use Rattle.fills.specs.Marks.{bitsOf}
 use Rattle.fills.specs.Fill.{sumsOf}
-use Rattle.plans.specs.Plan.{allOnes, bitChecks, wordOf, locations1, plan1, locations2, powers2, plan2, locations3, powers3, plan3, known, noPlan, planOf, noLevel, levelOf, checksTo, rowAt, marksAt, marksOf, across, checkPlacesOf, carried, marksOffset, symbolsOffset, fileLength}
+use Rattle.plans.specs.Plan.{allOnes, bitChecks, wordOf, locations1, plan1, elements, powerBits, frontAndLast, binaryPlan, plan2, plan5, locations3, powers3, plan3, known, noPlan, planOf, noLevel, levelOf, checksTo, rowAt, marksAt, marksOf, across, checkPlacesOf, carried, marksOffset, wideMarks, wordBytes, symbolsOffset, fileLength}
 use Rattle.plans.specs.Refusal.{firstFailed, unasked, stripeFits, wordsFit, marksFit, allBelow, unmarkedBelow, symbolsFit, sumsAt, sumsFit, levelFits, lentTests, lentRefusal, benchTests, benchRefusal}
 use Rattle.plans.specs.Rooms.{rowRoom, symbolRoom, learnedRoom}
 use Rattle.codewords.specs.Codeword.{rowsHold, totalsHold, isCodeword, testRefusal}
@@ -35,6 +35,12 @@ sample3 =
     (0x4346dfdabe852f5 ∷ 0xb8e34e8647c73ef ∷ 0x1f2a8115f357270 ∷ 0x7851f7fc1f4e8d1
     ∷ 0x86b3b80841f1a7b ∷ 0x506e2bbc5160e1e ∷ 0x279e5511f8ecee7 ∷ 0x4e9e3f89bd0b4f6 ∷ [])
 
+unfoldable pub sample5 : List ℕ
+sample5 =
+    flatMap (rowOf 2 64)
+    (0xf81f4d92b190ffdf ∷ 0x21b1758b3d5d0da9 ∷ 0x25fec4dbc66d0849 ∷ 0x32e5ef6b64a52314
+    ∷ 0x4f4ab94ca7f90067 ∷ 0x3acb681411b6cb21 ∷ 0x3d73acee800a50ec ∷ 0x947e649745efe752 ∷ [])
+
 -- two symbols of a row changed so that its level-1 parity stays as it was
 unfoldable pub changed : (at by : ℕ) → List ℕ → List ℕ
 changed at by l = set (set l at (getD l at 0 ⊕ by)) (suc at) (getD l (suc at) 0 ⊕ by)
@@ -42,17 +48,19 @@ changed at by l = set (set l at (getD l at 0 ⊕ by)) (suc at) (getD l (suc at) 
 pub samples :
     (isCodeword plan2 sample2 ≡ true) × (isCodeword plan2 (changed 40 1 sample2) ≡ false)
     × (isCodeword plan3 sample3 ≡ true) × (isCodeword plan3 (changed 40 9 sample3) ≡ false)
-unfolding if_then_else_ upFrom _⊕_ size double times mul dot gf2 gf16 gf32 power flatMap all vanish bitsOf sumsOf
-    allOnes bitChecks wordOf locations2 powers2 plan2 locations3 powers3 plan3 noLevel levelOf rowAt
-    across rowsHold totalsHold isCodeword rowOf sample2 sample3 changed
-samples = (refl, refl, refl, refl)
+    × (isCodeword plan5 sample5 ≡ true) × (isCodeword plan5 (changed 126 1 sample5) ≡ false)
+unfolding if_then_else_ upFrom _⊕_ size double times mul dot gf2 gf16 gf32 gf64 power flatMap all vanish bitsOf sumsOf
+    allOnes bitChecks wordOf elements powerBits frontAndLast binaryPlan plan2 plan5 locations3 powers3 plan3 noLevel levelOf rowAt
+    across rowsHold totalsHold isCodeword rowOf sample2 sample3 sample5 changed
+samples = (refl, refl, refl, refl, refl, refl)
 
 -- symbols carried, and the length of a file
 pub sizes :
-    (carried plan1 ≡ 15) × (carried plan2 ≡ 198) × (carried plan3 ≡ 98)
-    × (fileLength plan1 ≡ 41) × (fileLength plan2 ≡ 296) × (fileLength plan3 ≡ 160)
-unfolding if_then_else_ upFrom flatMap only bitsOf allOnes wordOf plan1 plan2 plan3 marksAt marksOf checkPlacesOf carried marksOffset symbolsOffset fileLength
-sizes = (refl, refl, refl, refl, refl, refl)
+    (carried plan1 ≡ 15) × (carried plan2 ≡ 198) × (carried plan3 ≡ 98) × (carried plan5 ≡ 444)
+    × (fileLength plan1 ≡ 41) × (fileLength plan2 ≡ 296) × (fileLength plan3 ≡ 160) × (fileLength plan5 ≡ 584)
+unfolding if_then_else_ upFrom flatMap size gf32 gf64 only bitsOf allOnes wordOf frontAndLast binaryPlan plan1 plan2 plan3 plan5 marksAt marksOf checkPlacesOf carried
+    marksOffset wideMarks wordBytes symbolsOffset fileLength
+sizes = (refl, refl, refl, refl, refl, refl, refl, refl)
 
 -- ---- the orders of refusal: of two flaws the earlier in the order is named
 

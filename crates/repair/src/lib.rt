@@ -24,7 +24,7 @@ ghost use Rattle.repair.specs.Encoding.{encodeStripe};
 
 // Mends a stripe in one call, by rounds of row steps and level steps on a bench of its own. Restored and Stuck leave the restored
 // rows in the stripe and their marks clear; a Clash and a refusal leave both as they were.
-pub fn mend(plan: usize, stripe: &mut [u8], marks: &mut [u32]) -> Report
+pub fn mend(plan: usize, stripe: &mut [u8], marks: &mut [u64]) -> Report
     ensures { λ r. ⌜ r ≡ mendReport plan (now (stripe .entry)) (now (marks .entry)) ⌝ }
     ensures { λ _. ⌜ now (stripe .exit) ≡ mendStripe plan (now (stripe .entry)) (now (marks .entry)) ⌝ }
     ensures { λ _. ⌜ now (marks .exit) ≡ mendMarks plan (now (stripe .entry)) (now (marks .entry)) ⌝ }

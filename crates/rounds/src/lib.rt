@@ -19,7 +19,7 @@ ghost use Rattle.rounds.specs.Reports.{roundsOn, bare, endReport};
 ghost use Rattle.rounds.specs.Ended.{startOf, Ended, clashes};
 
 // How many of the rows have marks.
-fn rows_left(rows: usize, marks: &[u32]) -> usize
+fn rows_left(rows: usize, marks: &[u64]) -> usize
     requires { ⌜ rows ≤ length (now marks) ⌝ }
     ensures { λ n. ⌜ n ≡ length (only (λ m. m) (map (λ r. not (eqb (getD (now (marks .entry)) r 0) 0)) (upFrom 0 rows))) ⌝ }
 {
@@ -47,7 +47,7 @@ pub fn bare_report(answer: Answer) -> Report
 }
 
 // What the rounds end in at Blocked or Top: Restored where no mark is left, else Stuck.
-pub fn end_report(plan: usize, level: usize, restored: [usize; 3], marks: &[u32]) -> Report
+pub fn end_report(plan: usize, level: usize, restored: [usize; 3], marks: &[u64]) -> Report
     requires { ⌜ planOf plan .rows ≤ length (now marks) ⌝ }
     ensures { λ r. ⌜ r ≡ endReport (standingOf (benchOf plan level [] (now (marks .entry)) []) 0 restored) ⌝ }
 {
@@ -71,7 +71,7 @@ pub fn end_report(plan: usize, level: usize, restored: [usize; 3], marks: &[u32]
 
 // Rounds on a bench at level 1 of these symbols and marks, until they stop. Symbols and marks become those of the bench where the rounds
 // end.
-pub fn rounds(plan: usize, symbols: &mut [u8], marks: &mut [u32]) -> Report
+pub fn rounds(plan: usize, symbols: &mut [u8], marks: &mut [u64]) -> Report
     requires { ⌜ Ready (startOf plan (now symbols) (now marks)) ⌝ }
     ensures { λ r. ⌜ Ended (roundsOn plan (startOf plan (now (symbols .entry)) (now (marks .entry)))) r (now (symbols .exit)) (now (marks .exit)) ⌝ }
 {

@@ -21,7 +21,7 @@ pub fn fill_row(
     table: &[u8],
     checks: &[u8],
     symbols: &mut [u8],
-    word: u32,
+    word: u64,
     sums: &[u8],
     row: usize,
 ) -> linear::FillAnswer
@@ -39,7 +39,7 @@ pub fn fill_row(
     let n = facts.columns;
     let m = tables::sums_to(plan, level);
     // in a row of power sums any sums are met by more columns than sums, and by more than one filling
-    if q != 2 && m < u32::count_ones(word) as usize {
+    if q != 2 && m < u64::count_ones(word) as usize {
         return linear::FillAnswer::Tied;
     }
     let size = m * n;
@@ -62,7 +62,7 @@ fn step_row(
     plan: usize,
     level: usize,
     symbols: &mut [u8],
-    marks: &mut [u32],
+    marks: &mut [u64],
     sums: &[u8],
     row: usize,
 ) -> Step

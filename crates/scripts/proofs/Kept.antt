@@ -3,24 +3,23 @@
 use mathlib.Core.Path.{_≡_, refl, sym, ap, ap₂, _∙_, subst}
 use mathlib.Core.Logic.{_≢_, inl, inr}
 use mathlib.Core.Bool.{Bool, true, false}
-use mathlib.Core.List.{List, [], _∷_, _++_, map, flatMap, append-assoc}
+use mathlib.Core.List.{List, [], _∷_, _++_, flatMap, append-assoc}
 use Prim.Native.Nat.{ℕ, zero, suc, _+_, _*_, _-_, _^_, _<_, _≤_}
-use native.Mathlib.Nat.{le-of-eq, le-trans, add-sub-of-le}
+use native.Mathlib.Nat.{le-of-eq, le-trans, add-sub-of-le, pow-suc}
 use native.Mathlib.Omega.{arith}
 use borrow.Author.Tests.{eqb-true, eqb-false}
 use lib.Dec.{T, eqb, ltb, ltb→lt, nltb→le}
-use lib.ListN.{length, take, drop, getD, set, replicate, length-append, length-take, length-drop, length-map, length-replicate, getD-replicate}
+use lib.ListN.{length, take, drop, getD, set, replicate, length-append, length-take, length-drop, length-replicate, getD-replicate}
 use lib.Pow.{pow-pos, pow-mono}
 use lib.Seq.{take-add, take-all, take-at, drop-at, ext-getD, getD-append-add, getD-set-same, getD-set-other}
-use Rattle.field.specs.Lists.{if_then_else_, upFrom}
-use Rattle.field.proofs.Lists.{length-up, getD-map-below}
+use Rattle.field.specs.Lists.{if_then_else_}
 use Rattle.fills.specs.Fill.{Fill, tied, none, one}
 use Rattle.fills.proofs.Tests.{either}
 use Rattle.plans.specs.Plan.{Plan, planOf}
 use Rattle.plans.specs.Answers.{stepNumber}
 use Rattle.plans.specs.Refusal.{unasked, allBelow, lentRefusal, benchRefusal}
 use Rattle.plans.specs.Rooms.{rowRoom, symbolRoom, learnedRoom}
-use Rattle.words.specs.Words.{byteRange, wordBits, bytes4, wordAt}
+use Rattle.words.specs.Words.{byteRange, wordBits, bytesOf, numberAt, wordsAt}
 use Rattle.steps.specs.Steps.{fresh, empty, startedBy, started, stepped, unlessRefused, rowFill, putRow, rowStepBy, rowStep, Learned, blocked, failing, learned, levelFill, raise, levelStepBy, levelStep}
 use Rattle.steps.specs.Parts.{benchOf}
 use Rattle.plans.specs.declared.Bench.{Bench}
@@ -32,10 +31,10 @@ use Rattle.steps.proofs.Fit.{LentFit, lent-fit, Sized, sized-room, sized-fresh,
 use Rattle.steps.proofs.Sound.{Sound, sized-put, sized-raise}
 use Rattle.walks.proofs.Settled.{whole-row, put-whole}
 use Rattle.files.proofs.Laws.{bytes-fit}
-use Rattle.words.proofs.Bytes.{word-behind, words-bytes, words-at, length-bytes}
+use Rattle.words.proofs.Bytes.{word-behind, words-bytes, words-at, length-words-at, getD-words-at}
 use Rattle.numbers.proofs.Values.{below-at}
-use Rattle.layout.specs.Layout.{symbolsFrom, marksFrom, sumsFrom, benchSize, benchBytes, benchIn}
-use Rattle.layout.proofs.Benches.{bench-length}
+use Rattle.layout.specs.Layout.{markSize, symbolsFrom, marksFrom, sumsFrom, benchSize, benchBytes, benchIn}
+use Rattle.layout.proofs.Benches.{length-words, bench-length}
 use Rattle.shelf.specs.Calls.{stepAnswer, stepBuffer}
 use Rattle.shelf.proofs.Sizing.{sized-fit, sized-unfit}
 use Rattle.scripts.specs.Kept.{OfCode, ReadOfCode, StartOfCode, RowStepOfCode, LevelStepOfCode, WrittenLong, WrittenIsRead, ReadIsWritten, RowStepStays, LevelStepStays}
@@ -47,30 +46,30 @@ module _ (b : Bench) (c : OfCode b) where
   front = b .plan ∷ b .level ∷ b .symbols
 
   abbrev words : List ℕ
-  words = flatMap bytes4 (b .marks)
+  words = flatMap (bytesOf markSize) (b .marks)
 
   front-long : length front ≡ marksFrom
   front-long = length-append (b .plan ∷ b .level ∷ []) (b .symbols) ∙ ap (λ n. 2 + n) (c .symbols)
 
   middle-long : length (front ++ words) ≡ sumsFrom
-  middle-long = length-append front words ∙ ap₂ _+_ front-long (length-bytes (b .marks) ∙ ap (λ n. 4 * n) (c .marks))
+  middle-long = length-append front words ∙ ap₂ _+_ front-long (length-words b (c .symbols) (c .marks) (c .sums))
 
   symbols-read : take symbolRoom (drop symbolsFrom (benchBytes b)) ≡ b .symbols
   unfolding benchBytes
   symbols-read = ap (take symbolRoom) (append-assoc (b .symbols) words (b .sums)) ∙ take-at (b .symbols) (words ++ b .sums) symbolRoom (c .symbols)
 
-  word-read : (r : ℕ) → r < rowRoom → wordAt (benchBytes b) (marksFrom + 4 * r) ≡ getD (b .marks) r 0
+  word-read : (r : ℕ) → r < rowRoom → numberAt markSize (benchBytes b) (marksFrom + markSize * r) ≡ getD (b .marks) r 0
   unfolding benchBytes
   word-read r h =
-      ap₂ wordAt (append-assoc front words (b .sums)) (ap (λ n. n + 4 * r) (sym front-long))
-      ∙ word-behind front (words ++ b .sums) (4 * r) ∙ words-bytes (b .marks) (b .sums) r (omega (arith, c .marks)) (c .words r h)
+      ap₂ (numberAt markSize) (append-assoc front words (b .sums)) (ap (λ n. n + markSize * r) (sym front-long))
+      ∙ word-behind markSize front (words ++ b .sums) (markSize * r)
+      ∙ words-bytes markSize (b .marks) (b .sums) r (omega (arith, c .marks)) (c .words r h)
 
-  marks-read : map (λ r. wordAt (benchBytes b) (marksFrom + 4 * r)) (upFrom 0 rowRoom) ≡ b .marks
+  marks-read : wordsAt markSize (benchBytes b) marksFrom rowRoom ≡ b .marks
   marks-read =
-      let word : ℕ → ℕ = λ r. wordAt (benchBytes b) (marksFrom + 4 * r) in
-      let long = length-map (upFrom 0 rowRoom) word ∙ length-up 0 rowRoom in
-      ext-getD 0 (map word (upFrom 0 rowRoom)) (b .marks) (long ∙ sym (c .marks))
-      (λ r h. getD-map-below word rowRoom r 0 (omega (arith, long)) ∙ word-read r (omega (arith, long)))
+      let long = length-words-at markSize (benchBytes b) marksFrom rowRoom in
+      ext-getD 0 (wordsAt markSize (benchBytes b) marksFrom rowRoom) (b .marks) (long ∙ sym (c .marks))
+      (λ r h. getD-words-at markSize (benchBytes b) marksFrom rowRoom r (omega (arith, long)) ∙ word-read r (omega (arith, long)))
 
   sums-read : take learnedRoom (drop sumsFrom (benchBytes b)) ≡ b .sums
   unfolding benchBytes
@@ -82,7 +81,7 @@ written-long b c = bench-length b (c .symbols) (c .marks) (c .sums)
 pub written-is-read : WrittenIsRead
 unfolding benchBytes benchIn
 written-is-read b c =
-    ap (λ s. benchOf (b .plan) (b .level) s (map (λ r. wordAt (benchBytes b) (marksFrom + 4 * r)) (upFrom 0 rowRoom)) (take learnedRoom (drop sumsFrom (benchBytes b)))) (symbols-read b c)
+    ap (λ s. benchOf (b .plan) (b .level) s (wordsAt markSize (benchBytes b) marksFrom rowRoom) (take learnedRoom (drop sumsFrom (benchBytes b)))) (symbols-read b c)
     ∙ ap₂ (λ m s. benchOf (b .plan) (b .level) (b .symbols) m s) (marks-read b c) (sums-read b c)
 
 -- ---- what was read is written
@@ -95,8 +94,8 @@ first-two (x ∷ y ∷ l) h = refl
 pub read-is-written : ReadIsWritten
 unfolding benchBytes benchIn
 read-is-written l t e =
-    ap₂ (λ a w. ((a ++ take symbolRoom (drop symbolsFrom l)) ++ w) ++ take learnedRoom (drop sumsFrom l)) (sym (first-two l (omega arith))) (words-at l (bytes-fit l t) marksFrom 0 rowRoom (omega arith))
-    ∙ sym (take-add sumsFrom learnedRoom l ∙ ap (λ k. k ++ take learnedRoom (drop sumsFrom l)) (take-add marksFrom (4 * rowRoom) l ∙ ap (λ k. k ++ take (4 * rowRoom) (drop marksFrom l)) (take-add symbolsFrom symbolRoom l)))
+    ap₂ (λ a w. ((a ++ take symbolRoom (drop symbolsFrom l)) ++ w) ++ take learnedRoom (drop sumsFrom l)) (sym (first-two l (omega arith))) (words-at l (bytes-fit l t) markSize marksFrom rowRoom (omega arith))
+    ∙ sym (take-add sumsFrom learnedRoom l ∙ ap (λ k. k ++ take learnedRoom (drop sumsFrom l)) (take-add marksFrom (markSize * rowRoom) l ∙ ap (λ k. k ++ take (markSize * rowRoom) (drop marksFrom l)) (take-add symbolsFrom symbolRoom l)))
     ∙ take-all benchSize l (le-of-eq e)
 
 -- ---- benches of the code
@@ -109,22 +108,22 @@ sized-in : (l : List ℕ) → length l ≡ benchSize → Sized (benchIn l)
 unfolding benchIn
 sized-in l e = record {
   symbols = simp (length-take, length-drop) (omega arith);
-  marks = length-map (upFrom 0 rowRoom) (λ r. wordAt l (marksFrom + 4 * r)) ∙ length-up 0 rowRoom;
+  marks = length-words-at markSize l marksFrom rowRoom;
   sums = simp (length-take, length-drop) (omega arith);
 }
 
--- four bytes are a word of so many bits
-word-lt : (l : List ℕ) → T (allBelow byteRange l) → (i : ℕ) → i + 4 ≤ length l → wordAt l i < 2 ^ wordBits
-unfolding wordAt
-word-lt l t i h =
-    let byte = below-at byteRange l t in
-    omega (arith, byte i (omega arith), byte (i + 1) (omega arith), byte (i + 2) (omega arith), byte (i + 3) (omega arith))
+-- n bytes are a number below the range of so many
+number-lt : (n : ℕ) (l : List ℕ) → T (allBelow byteRange l) → (i : ℕ) → i + n ≤ length l → numberAt n l i < byteRange ^ n
+unfolding numberAt
+number-lt zero l t i h = omega arith
+number-lt (suc n) l t i h =
+    omega (arith, pow-suc byteRange n, below-at byteRange l t i (omega arith), number-lt n l t (suc i) (omega arith))
 
 pub read-of-code : ReadOfCode
 unfolding benchIn
 read-of-code l t e =
     of-code (benchIn l) (sized-in l e) (λ r h.
-    subst (λ w. w < 2 ^ wordBits) (sym (getD-map-below (λ r. wordAt l (marksFrom + 4 * r)) rowRoom r 0 h)) (word-lt l t (marksFrom + 4 * r) (omega arith)))
+    subst (λ w. w < 2 ^ wordBits) (sym (getD-words-at markSize l marksFrom rowRoom r h)) (number-lt markSize l t (marksFrom + markSize * r) (omega arith)))
 
 -- zeros behind a list
 zeros-behind : (l : List ℕ) (n r : ℕ) → length l ≤ r → r < length l + n → getD (l ++ replicate n 0) r 0 ≡ 0

@@ -8,7 +8,8 @@ use lib.ListN.{length, take, getD, set, replicate, length-replicate, getD-replic
 use Rattle.field.specs.Lists.{if_then_else_, upFrom, _to_}
 use Rattle.fills.specs.Lists.{all, only}
 use Rattle.fills.specs.Marks.{bitsOf}
-use Rattle.plans.specs.Plan.{wordOf, plan1, plan3, known, planOf, rowAt, marksAt}
+use Rattle.plans.specs.Plan.{wordOf, plan1, plan3, noPlan, known, planOf, rowAt, marksAt}
+use Rattle.plans.specs.Rooms.{rowRoom}
 use Rattle.plans.specs.Answers.{stepNumber, outcomeNumber}
 use Rattle.plans.specs.Refusal.{firstFailed, marksFit, allBelow, benchTests, benchRefusal}
 use Rattle.steps.specs.Steps.{fresh, startedBy, started, stepped, unlessRefused, putRow, rowStep, lossy, raise, levelStep}
@@ -19,7 +20,9 @@ use Rattle.steps.proofs.Fit.{marks-fit, fit-lent}
 use Rattle.plans.proofs.Refusals.{unmarked-below}
 use Rattle.walks.proofs.Settled.{put-whole}
 use Rattle.words.specs.Words.{byteRange}
-use Rattle.layout.specs.Layout.{benchSize, benchIn}
+use Rattle.layout.specs.Layout.{reportSize, symbolsFrom, marksFrom, sumsFrom, benchSize, benchIn}
+use Rattle.texts.specs.Text.{textRoom}
+use Rattle.shelf.specs.Calls.{sizeRoom}
 use Rattle.demands.specs.Published.{counts}
 use Rattle.demands.specs.Words.{Fit, Move, onRow, onLevel, after, walk, Quiet, rounds}
 use Rattle.demands.specs.Third.{Premise}
@@ -32,6 +35,12 @@ use Rattle.scripts.specs.Calls.{Call, start, step, told, numbers}
 use Rattle.scripts.specs.Third.{script, QuietBytes}
 use Rattle.scripts.proofs.Calls.{calls-are-steps}
 use Rattle.scripts.proofs.Third.{script-holds, quiet-bytes, scripts-end-equal, scripts-end-mended, script-rounds-suffice}
+
+-- ---- the sizes that scripts plan on: a bench and where its parts begin, a report, a text and the bytes that tell its length
+
+pub sizes :
+    (benchSize ≡ 838) × (symbolsFrom ≡ 2) × (marksFrom ≡ 514) × (sumsFrom ≡ 610) × (reportSize ≡ 8) × (textRoom ≡ 640) × (sizeRoom ≡ 2)
+sizes = (refl, refl, refl, refl, refl, refl, refl)
 
 -- ---- buffers of the bench's size: zeros, and bytes that are no bench at all
 
@@ -58,7 +67,7 @@ abbrev calls : List Call
 calls = step (onRow 0) ∷ step onLevel ∷ start 1 exampleStripe exampleMarks ∷ []
 
 calls-numbers : numbers calls (benchIn used) ≡ 10 ∷ 10 ∷ 0 ∷ []
-unfolding if_then_else_ known firstFailed benchTests benchRefusal startedBy started stepped unlessRefused rowStep levelStep stepNumber outcomeNumber
+unfolding if_then_else_ noPlan planOf known firstFailed benchTests benchRefusal startedBy started stepped unlessRefused rowStep levelStep stepNumber outcomeNumber
     benchIn used
 calls-numbers = ap (λ n. 10 ∷ 10 ∷ outcomeNumber (startedBy n 1 exampleStripe exampleMarks .answer) ∷ []) (example .fit)
 
@@ -163,23 +172,27 @@ module _ (p : ℕ) (X : List ℕ) {b : Bench} {t : ℕ} {marks : List ℕ} (at :
 abbrev levelsFirst : List Move
 levelsFirst = onLevel ∷ onRow 0 ∷ onLevel ∷ onRow 1 ∷ []
 
-zero-at : At 3 blank3 (fresh 3 blank3 twoMarked) 1 twoMarked
-unfolding fresh twoMarked
+-- the mark words of its bench
+unfoldable benchMarked : List ℕ
+benchMarked = fresh 3 blank3 twoMarked .marks
+
+zero-at : At 3 blank3 (fresh 3 blank3 twoMarked) 1 benchMarked
+unfolding fresh benchMarked
 zero-at = record { held = held-fresh 3 blank3 blank3 twoMarked zero-fits blank-word (λ i e. refl); level = refl; words = refl }
 
-zero-ends : At 3 blank3 (walk levelsFirst (fresh 3 blank3 twoMarked)) 3 (replicate 8 0)
-unfolding if_then_else_ upFrom only bitsOf wordOf plan3 planOf marksAt lossy counts twoMarked
+zero-ends : At 3 blank3 (walk levelsFirst (fresh 3 blank3 twoMarked)) 3 (replicate rowRoom 0)
+unfolding if_then_else_ upFrom only bitsOf wordOf plan3 planOf marksAt lossy counts fresh twoMarked benchMarked
 zero-ends =
-    let two = raised 3 blank3 zero-at (omega arith) (weights-independent 3 0 (lossy (planOf 3) twoMarked) refl (omega arith)) in
-    let row = filled 3 blank3 two 0 (omega arith) (few-independent 3 1 (marksAt (planOf 3) twoMarked 0) refl (omega arith)) in
-    let three = raised 3 blank3 row (omega arith) (weights-independent 3 1 (lossy (planOf 3) (set twoMarked 0 0)) refl (omega arith)) in
-    filled 3 blank3 three 1 (omega arith) (few-independent 3 2 (marksAt (planOf 3) (set twoMarked 0 0) 1) refl (omega arith))
+    let two = raised 3 blank3 zero-at (omega arith) (weights-independent 3 0 (lossy (planOf 3) benchMarked) refl (omega arith)) in
+    let row = filled 3 blank3 two 0 (omega arith) (few-independent 3 1 (marksAt (planOf 3) benchMarked 0) refl (omega arith)) in
+    let three = raised 3 blank3 row (omega arith) (weights-independent 3 1 (lossy (planOf 3) (set benchMarked 0 0)) refl (omega arith)) in
+    filled 3 blank3 three 1 (omega arith) (few-independent 3 2 (marksAt (planOf 3) (set benchMarked 0 0) 1) refl (omega arith))
 
 pub zero-order-quiet : QuietBytes (script 3 blank3 twoMarked levelsFirst used)
 unfolding plan3 planOf
 zero-order-quiet =
     quiet-bytes (script-holds 3 blank3 twoMarked zero-premise used used-long levelsFirst)
-    (whole-quiet 3 blank3 zero-ends (omega arith) (λ r l. getD-replicate 8 r 0 0 l))
+    (whole-quiet 3 blank3 zero-ends (omega arith) (λ r l. getD-replicate rowRoom r 0 0 (omega arith)))
 
 pub zero-equal : script 3 blank3 twoMarked (rounds (planOf 3) 3) clean ≡ script 3 blank3 twoMarked levelsFirst used
 zero-equal =

@@ -16,6 +16,7 @@ use Rattle.plans.specs.Answers.{answerValues, reportValues}
 use Rattle.plans.specs.Refusal.{unasked, allBelow, lentRefusal, benchRefusal}
 use Rattle.steps.specs.Steps.{fresh, empty, startedBy, started, stepped, unlessRefused, rowStep, Learned, blocked, failing, learned, levelFill, raise, levelStepBy, levelStep}
 use Rattle.repair.specs.Mending.{mendReport}
+use Rattle.texts.specs.Parts.{numbers}
 use Rattle.rounds.specs.Reports.{bare}
 use Rattle.plans.specs.declared.Bench.{Bench}
 use Rattle.plans.specs.declared.Started.{Started}
@@ -47,7 +48,7 @@ module _ (p : ℕ) (stripe marks : List ℕ) where
   report-fits e = subst (λ r. T (allBelow byteRange (reportValues (planOf p) r))) (sym e) (go (eqb (lentRefusal p stripe marks) 0) refl)
     where
       go : (b : Bool) → eqb (lentRefusal p stripe marks) 0 ≡ b → T (allBelow byteRange (reportValues (planOf p) (mendReport p stripe marks)))
-      go true e = below-le 100 byteRange (omega arith) (reportValues (planOf p) (mendReport p stripe marks)) (report-below p stripe marks (eqb-true (lentRefusal p stripe marks) 0 e) .1)
+      go true e = below-le numbers byteRange (omega arith) (reportValues (planOf p) (mendReport p stripe marks)) (report-below p stripe marks (eqb-true (lentRefusal p stripe marks) 0 e) .1)
       go false e = rw e tt
 
 -- ---- a bench

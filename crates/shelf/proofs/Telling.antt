@@ -5,7 +5,7 @@ use Prim.Native.Nat.{ℕ, zero, suc}
 use lib.ListN.{length}
 use Rattle.plans.specs.Answers.{outcomeNumber}
 use Rattle.encoding.specs.Data.{outcomeOf}
-use Rattle.words.specs.Words.{bytes2}
+use Rattle.words.specs.Words.{bytesOf}
 use Rattle.plans.specs.Tables.{padded}
 use Rattle.texts.specs.Text.{textRoom, printed}
 use Rattle.plans.specs.declared.Outcome.{Outcome}
@@ -31,7 +31,7 @@ module _ (file text size : List ℕ) where
   unfolding textNumber textBuffer textSizeBuffer
   tells-no-size e h = (sym (roomy-no-size text size _ _ e h), (sym (roomy-no-size text size _ _ e h), sym (roomy-no-size text size _ _ e h)))
 
-  pub tells : {t s : List ℕ} → length text ≡ textRoom → length size ≡ sizeRoom → t ≡ padded textRoom (printed file) → s ≡ bytes2 (length (printed file))
+  pub tells : {t s : List ℕ} → length text ≡ textRoom → length size ≡ sizeRoom → t ≡ padded textRoom (printed file) → s ≡ bytesOf sizeRoom (length (printed file))
       → Told 0 t s
   unfolding textNumber textBuffer textSizeBuffer
   tells e f g h = (

@@ -7,7 +7,7 @@ use Rattle.field.specs.Lists.{if_then_else_}
 use Rattle.plans.specs.Plan.{Plan, planOf}
 use Rattle.plans.specs.Answers.{answerNumber, stepNumber, outcomeNumber}
 use Rattle.steps.specs.Steps.{started}
-use Rattle.words.specs.Words.{bytes2}
+use Rattle.words.specs.Words.{bytesOf}
 use Rattle.plans.specs.Tables.{padded}
 use Rattle.texts.specs.Text.{textRoom, printed}
 use Rattle.repair.specs.Mending.{mendReport, mendStripe, mendMarks}
@@ -73,4 +73,4 @@ textBuffer file text size = roomy text size (padded textRoom (printed file)) tex
 
 -- how many bytes the text has, low byte first
 unfoldable pub textSizeBuffer : (file text size : List ℕ) → List ℕ
-textSizeBuffer file text size = roomy text size (bytes2 (length (printed file))) size
+textSizeBuffer file text size = roomy text size (bytesOf sizeRoom (length (printed file))) size

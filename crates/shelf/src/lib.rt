@@ -18,7 +18,7 @@ const SIZE: usize = 2;
 
 // Starts a bench at level 1 with the stripe and the marks as lent; a refusal makes it a bench of zeros.
 #[no_mangle]
-pub extern "C" fn shelf_start(plan: usize, stripe: &[u8], marks: &[u32], bench: &mut [u8]) -> usize
+pub extern "C" fn shelf_start(plan: usize, stripe: &[u8], marks: &[u64], bench: &mut [u8]) -> usize
     ensures { λ r. ⌜ r ≡ startNumber plan (now (stripe .entry)) (now (marks .entry)) (now (bench .entry)) ⌝ }
     ensures { λ _. ⌜ now (bench .exit) ≡ startBuffer plan (now (stripe .entry)) (now (marks .entry)) (now (bench .entry)) ⌝ }
 {
@@ -85,7 +85,7 @@ pub extern "C" fn shelf_is_interleaved(stripe: &[u8]) -> usize
 pub extern "C" fn shelf_mend(
     plan: usize,
     stripe: &mut [u8],
-    marks: &mut [u32],
+    marks: &mut [u64],
     report: &mut [u8],
 ) -> usize
     ensures { λ r. ⌜ r ≡ mendNumber plan (now (stripe .entry)) (now (marks .entry)) (now (report .entry)) ⌝ }
@@ -127,7 +127,7 @@ pub extern "C" fn shelf_extract(plan: usize, stripe: &[u8], data: &mut [u8]) -> 
 
 // Reads a stripe file's stripe and marks. A refusal leaves both buffers as they were.
 #[no_mangle]
-pub extern "C" fn shelf_read_file(file: &[u8], stripe: &mut [u8], marks: &mut [u32]) -> usize
+pub extern "C" fn shelf_read_file(file: &[u8], stripe: &mut [u8], marks: &mut [u64]) -> usize
     ensures { λ r. ⌜ r ≡ readRefusal (now (file .entry)) (now (stripe .entry)) (now (marks .entry)) ⌝ }
     ensures { λ _. ⌜ now (stripe .exit) ≡ readStripe (now (file .entry)) (now (stripe .entry)) (now (marks .entry)) ⌝ }
     ensures { λ _. ⌜ now (marks .exit) ≡ readMarks (now (file .entry)) (now (stripe .entry)) (now (marks .entry)) ⌝ }
@@ -140,7 +140,7 @@ pub extern "C" fn shelf_read_file(file: &[u8], stripe: &mut [u8], marks: &mut [u
 pub extern "C" fn shelf_write_file(
     plan: usize,
     stripe: &[u8],
-    marks: &[u32],
+    marks: &[u64],
     file: &mut [u8],
 ) -> usize
     ensures { λ r. ⌜ r ≡ writeRefusal plan (now (stripe .entry)) (now (marks .entry)) (now (file .entry)) ⌝ }

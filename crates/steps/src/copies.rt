@@ -20,11 +20,11 @@ pub fn symbols_of(stripe: &[u8]) -> [u8; SYMBOLS]
 }
 
 // A bench's mark words.
-pub fn words_of(marks: &[u32]) -> [u32; ROWS]
+pub fn words_of(marks: &[u64]) -> [u64; ROWS]
     requires { ⌜ length (now marks) ≤ rowRoom ⌝ }
     ensures { λ r. ⌜ r ≡ padded rowRoom (now (marks .entry)) ⌝ }
 {
-    let mut words = [0u32; ROWS];
+    let mut words = [0u64; ROWS];
     for r in 0..marks.len() {
         words[r] = marks[r];
     }
@@ -42,7 +42,7 @@ pub fn put_symbols(stripe: &mut [u8], symbols: &[u8])
 }
 
 // Writes a bench's mark words back, as many as were lent.
-pub fn put_words(marks: &mut [u32], words: &[u32])
+pub fn put_words(marks: &mut [u64], words: &[u64])
     requires { ⌜ length (now marks) ≤ length (now words) ⌝ }
     ensures { λ _. ⌜ now (marks .exit) ≡ take (length (now (marks .entry))) (now (words .entry)) ⌝ }
 {

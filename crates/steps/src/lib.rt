@@ -12,7 +12,7 @@ ghost use Rattle.steps.specs.Steps.{started};
 
 // A bench at level 1 that holds the stripe and the marks as lent, all sums zero; or, where they are refused, a bench of zeros.
 // Stripe and marks stay as they are.
-pub fn start(plan: usize, stripe: &[u8], marks: &[u32]) -> Started
+pub fn start(plan: usize, stripe: &[u8], marks: &[u64]) -> Started
     ensures { λ r. ⌜ r ≡ started plan (now (stripe .entry)) (now (marks .entry)) ⌝ }
 {
     let number = refusals::lent_refusal(plan, stripe, marks);

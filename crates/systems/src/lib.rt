@@ -7,8 +7,8 @@ ghost use Prim.Native.Nat.{ℕ, _+_};
 ghost use Rattle.field.specs.Ours.{fieldOf};
 ghost use Rattle.equations.specs.System.{vec, ent, Consistency, Dependence, Solved};
 ghost use Rattle.systems.specs.Solve.{Solvable};
-ghost use Rattle.elimination.specs.Steps.{Free, ReadOff};
-ghost use Rattle.systems.specs.Steps.{Readable};
+ghost use Rattle.elimination.specs.Steps.{ReadOff};
+ghost use Rattle.systems.specs.Steps.{Readable, Loosened};
 
 // Writes 0 everywhere.
 fn wipe(z: &mut [u8])
@@ -76,8 +76,7 @@ fn find_dependency(
     free: usize,
     z: &mut [u8],
 ) -> bool
-    requires { ⌜ Readable q (now a) m k (now pivots) r free (now z) ⌝ }
-    requires { ⌜ Free (vec (now pivots)) r k k free ⌝ }
+    requires { ⌜ Loosened q (now a) m k (now pivots) r free (now z) ⌝ }
     ensures { λ s. ⌜ Dependence (fieldOf q) (ent (now (a .entry)) (k + 1)) m k s (vec (now (z .exit))) ⌝ }
 {
     if k <= free {

@@ -6,7 +6,7 @@ use lib.ListN.{length}
 use Rattle.field.specs.Lists.{upFrom}
 use Rattle.field.specs.Field.{Field, size}
 use Rattle.field.specs.Ours.{fieldOf, tableOf}
-use Rattle.plans.specs.Plan.{Plan, levelOf, checksTo, fileLength}
+use Rattle.plans.specs.Plan.{Plan, levelOf, checksTo, wordBytes, fileLength}
 use Rattle.plans.specs.Tables.{checkTable}
 use Rattle.tables.specs.declared.Facts.{Facts}
 
@@ -22,6 +22,7 @@ pub record FactsOf (P : Plan) (f : Facts) : Type 0 where
   pub columns : f .columns ≡ P .columns
   pub symbols : f .symbols ≡ P .rows * P .columns
   pub word : f .word + 1 ≡ 2 ^ P .columns
+  pub word-bytes : f .«word_bytes» ≡ wordBytes P
   pub levels : f .levels ≡ length (P .levels)
   pub sums : f .sums ≡ map (λ t. length (checksTo P t)) (upFrom 0 4)
   pub totals : f .totals ≡ map (λ t. length (levelOf P t .weights)) (upFrom 0 4)

@@ -1,6 +1,10 @@
-// Facts of a plan by its number, and the tables of its checks, weights and check places. A number that is no plan's has the plan with
-// nothing in it.
-use plans::CHECKS;
+// Facts of a plan by its number, and the tables of its checks, weights and check places. What is a plan's own stands in its file. A number
+// that is no plan's has the plan with nothing in it.
+mod plan_1;
+mod plan_2;
+mod plan_3;
+mod plan_5;
+
 use plans::ROWS;
 use plans::WEIGHTS;
 ghost use mathlib.Core.Path.{_≡_};
@@ -11,14 +15,15 @@ ghost use Rattle.plans.specs.Tables.{checkTable, weightTable, placeTable};
 ghost use Rattle.words.specs.Written.{Put};
 ghost use Rattle.tables.specs.Tables.{FactsOf};
 
-// A plan's numbers. A stripe has so many `symbols`; `word` is the largest mark word; `sums` has how many sums a row has at levels 1 to t,
-// and `totals` how many weighted totals level t has, both for t from 0 to 3.
+// A plan's numbers. A stripe has so many `symbols`; `word` is the largest mark word, and a file has `word_bytes` bytes for one; `sums` has
+// how many sums a row has at levels 1 to t, and `totals` how many weighted totals level t has, both for t from 0 to 3.
 pub struct Facts {
     pub field: usize,
     pub rows: usize,
     pub columns: usize,
     pub symbols: usize,
-    pub word: u32,
+    pub word: u64,
+    pub word_bytes: usize,
     pub levels: usize,
     pub sums: [usize; 4],
     pub totals: [usize; 4],
@@ -26,51 +31,13 @@ pub struct Facts {
     pub file_length: usize,
 }
 
-const PLAN_1: Facts = Facts {
-    field: 2,
-    rows: 3,
-    columns: 7,
-    symbols: 21,
-    word: 0x7f,
-    levels: 2,
-    sums: [0, 1, 4, 4],
-    totals: [0, 0, 1, 0],
-    carried: 15,
-    file_length: 41,
-};
-
-const PLAN_2: Facts = Facts {
-    field: 2,
-    rows: 8,
-    columns: 32,
-    symbols: 256,
-    word: 0xffff_ffff,
-    levels: 3,
-    sums: [0, 6, 11, 16],
-    totals: [0, 0, 1, 1],
-    carried: 198,
-    file_length: 296,
-};
-
-const PLAN_3: Facts = Facts {
-    field: 16,
-    rows: 8,
-    columns: 15,
-    symbols: 120,
-    word: 0x7fff,
-    levels: 3,
-    sums: [0, 2, 3, 7],
-    totals: [0, 0, 2, 1],
-    carried: 98,
-    file_length: 160,
-};
-
 const NO_PLAN: Facts = Facts {
     field: 2,
     rows: 0,
     columns: 0,
     symbols: 0,
     word: 0,
+    word_bytes: 4,
     levels: 0,
     sums: [0, 0, 0, 0],
     totals: [0, 0, 0, 0],
@@ -83,9 +50,10 @@ pub fn facts_of(plan: usize) -> Facts
     ensures { λ r. ⌜ FactsOf (planOf plan) r ⌝ }
 {
     match plan {
-        1 => PLAN_1,
-        2 => PLAN_2,
-        3 => PLAN_3,
+        1 => plan_1::FACTS,
+        2 => plan_2::FACTS,
+        3 => plan_3::FACTS,
+        5 => plan_5::FACTS,
         _ => NO_PLAN,
     }
 }
@@ -94,7 +62,7 @@ pub fn facts_of(plan: usize) -> Facts
 pub fn is_known(plan: usize) -> bool
     ensures { λ r. ⌜ r ≡ known plan ⌝ }
 {
-    0 < plan && plan <= 3
+    0 < facts_of(plan).rows
 }
 
 // How many sums a row has at levels 1 to `level`.
@@ -115,42 +83,6 @@ pub fn totals(plan: usize, level: usize) -> usize
 
 // ---- tables
 
-// The row checks of each plan, one to a line, levels in order. Plan 1: parity; the bits of the locations.
-const CHECKS_1: [u8; 28] = *b"\
-    \x01\x01\x01\x01\x01\x01\x01\
-    \x01\x00\x01\x00\x01\x00\x01\
-    \x00\x01\x01\x00\x00\x01\x01\
-    \x00\x00\x00\x01\x01\x01\x01";
-
-// Plan 2: parity and the bits of the locations; of their cubes; of their fifth powers.
-const CHECKS_2: [u8; CHECKS] = *b"\
-    \x01\x01\x01\x01\x01\x01\x01\x01\x01\x01\x01\x01\x01\x01\x01\x01\x01\x01\x01\x01\x01\x01\x01\x01\x01\x01\x01\x01\x01\x01\x01\x01\
-    \x01\x00\x00\x00\x00\x01\x00\x00\x01\x00\x01\x01\x00\x00\x01\x01\x01\x01\x01\x00\x00\x00\x01\x01\x00\x01\x01\x01\x00\x01\x00\x00\
-    \x00\x01\x00\x00\x00\x00\x01\x00\x00\x01\x00\x01\x01\x00\x00\x01\x01\x01\x01\x01\x00\x00\x00\x01\x01\x00\x01\x01\x01\x00\x01\x00\
-    \x00\x00\x01\x00\x00\x01\x00\x01\x01\x00\x00\x01\x01\x01\x01\x01\x00\x00\x00\x01\x01\x00\x01\x01\x01\x00\x01\x00\x01\x00\x00\x00\
-    \x00\x00\x00\x01\x00\x00\x01\x00\x01\x01\x00\x00\x01\x01\x01\x01\x01\x00\x00\x00\x01\x01\x00\x01\x01\x01\x00\x01\x00\x01\x00\x00\
-    \x00\x00\x00\x00\x01\x00\x00\x01\x00\x01\x01\x00\x00\x01\x01\x01\x01\x01\x00\x00\x00\x01\x01\x00\x01\x01\x01\x00\x01\x00\x01\x00\
-    \x01\x00\x00\x00\x00\x01\x01\x00\x00\x01\x00\x00\x01\x01\x01\x01\x01\x00\x01\x01\x01\x00\x00\x00\x01\x00\x01\x00\x01\x01\x00\x00\
-    \x00\x00\x01\x01\x01\x01\x01\x00\x01\x01\x01\x00\x00\x00\x01\x00\x01\x00\x01\x01\x00\x01\x00\x00\x00\x00\x01\x01\x00\x00\x01\x00\
-    \x00\x00\x00\x00\x01\x01\x00\x00\x01\x00\x00\x01\x01\x01\x01\x01\x00\x01\x01\x01\x00\x00\x00\x01\x00\x01\x00\x01\x01\x00\x01\x00\
-    \x00\x01\x01\x01\x01\x01\x00\x01\x01\x01\x00\x00\x00\x01\x00\x01\x00\x01\x01\x00\x01\x00\x00\x00\x00\x01\x01\x00\x00\x01\x00\x00\
-    \x00\x00\x00\x01\x00\x01\x00\x01\x01\x00\x01\x00\x00\x00\x00\x01\x01\x00\x00\x01\x00\x00\x01\x01\x01\x01\x01\x00\x01\x01\x01\x00\
-    \x01\x01\x01\x01\x00\x01\x00\x00\x00\x01\x00\x00\x01\x00\x01\x00\x01\x01\x00\x00\x00\x00\x01\x01\x01\x00\x00\x01\x01\x00\x01\x00\
-    \x00\x00\x00\x01\x00\x00\x01\x00\x01\x00\x01\x01\x00\x00\x00\x00\x01\x01\x01\x00\x00\x01\x01\x00\x01\x01\x01\x01\x01\x00\x01\x00\
-    \x00\x01\x00\x01\x01\x00\x00\x00\x00\x01\x01\x01\x00\x00\x01\x01\x00\x01\x01\x01\x01\x01\x00\x01\x00\x00\x00\x01\x00\x00\x01\x00\
-    \x00\x00\x00\x01\x01\x01\x00\x00\x01\x01\x00\x01\x01\x01\x01\x01\x00\x01\x00\x00\x00\x01\x00\x00\x01\x00\x01\x00\x01\x01\x00\x00\
-    \x00\x00\x01\x01\x00\x01\x01\x01\x01\x01\x00\x01\x00\x00\x00\x01\x00\x00\x01\x00\x01\x00\x01\x01\x00\x00\x00\x00\x01\x01\x01\x00";
-
-// Plan 3: powers 0 and 1 of the locations; 2; 3 to 6.
-const CHECKS_3: [u8; 105] = *b"\
-    \x01\x01\x01\x01\x01\x01\x01\x01\x01\x01\x01\x01\x01\x01\x01\
-    \x01\x02\x04\x08\x03\x06\x0c\x0b\x05\x0a\x07\x0e\x0f\x0d\x09\
-    \x01\x04\x03\x0c\x05\x07\x0f\x09\x02\x08\x06\x0b\x0a\x0e\x0d\
-    \x01\x08\x0c\x0a\x0f\x01\x08\x0c\x0a\x0f\x01\x08\x0c\x0a\x0f\
-    \x01\x03\x05\x0f\x02\x06\x0a\x0d\x04\x0c\x07\x09\x08\x0b\x0e\
-    \x01\x06\x07\x01\x06\x07\x01\x06\x07\x01\x06\x07\x01\x06\x07\
-    \x01\x0c\x0f\x08\x0a\x01\x0c\x0f\x08\x0a\x01\x0c\x0f\x08\x0a";
-
 // Writes the row checks of all levels, one behind the other, to the front of `checks`, and gives how many numbers they are. A table
 // that is chosen by the plan and given back as a value would be put together number by number.
 pub fn put_checks(plan: usize, checks: &mut [u8]) -> usize
@@ -159,20 +91,34 @@ pub fn put_checks(plan: usize, checks: &mut [u8]) -> usize
 {
     match plan {
         1 => {
-            let table = CHECKS_1;
+            let table = plan_1::CHECKS;
             words::put(&table, checks, 0)
         }
         2 => {
-            let table = CHECKS_2;
+            let table = plan_2::CHECKS;
             words::put(&table, checks, 0)
         }
         3 => {
-            let table = CHECKS_3;
+            let table = plan_3::CHECKS;
+            words::put(&table, checks, 0)
+        }
+        5 => {
+            let table = plan_5::CHECKS;
             words::put(&table, checks, 0)
         }
         _ => 0,
     }
 }
+
+// Weights, one total behind the other, and zeros behind them: the plain total of 3 rows and of 8, and with it that of weights a ^ r.
+const PLAIN_3: [u8; WEIGHTS] = *b"\
+    \x01\x01\x01\x00\x00\x00\x00\x00\x00\x00\x00\x00\x00\x00\x00\x00\x00\x00\x00\x00\x00\x00\x00\x00\x00\x00\x00\x00\x00\x00\x00\x00\x00\x00\x00\x00";
+
+const PLAIN_8: [u8; WEIGHTS] = *b"\
+    \x01\x01\x01\x01\x01\x01\x01\x01\x00\x00\x00\x00\x00\x00\x00\x00\x00\x00\x00\x00\x00\x00\x00\x00\x00\x00\x00\x00\x00\x00\x00\x00\x00\x00\x00\x00";
+
+const LOCATED_8: [u8; WEIGHTS] = *b"\
+    \x01\x01\x01\x01\x01\x01\x01\x01\x01\x02\x04\x08\x03\x06\x0c\x0b\x00\x00\x00\x00\x00\x00\x00\x00\x00\x00\x00\x00\x00\x00\x00\x00\x00\x00\x00\x00";
 
 // The weights of a level, one total behind the other, and zeros behind them.
 pub fn weights(plan: usize, level: usize) -> [u8; WEIGHTS]
@@ -180,15 +126,18 @@ pub fn weights(plan: usize, level: usize) -> [u8; WEIGHTS]
 {
     if level == 2 {
         return match plan {
-            1 => [1, 1, 1, 0, 0, 0, 0, 0, 0, 0, 0, 0, 0, 0, 0, 0],
-            2 => [1, 1, 1, 1, 1, 1, 1, 1, 0, 0, 0, 0, 0, 0, 0, 0],
-            3 => [1, 1, 1, 1, 1, 1, 1, 1, 1, 2, 4, 8, 3, 6, 12, 11],
+            1 => PLAIN_3,
+            2 => PLAIN_8,
+            3 => LOCATED_8,
+            5 => PLAIN_8,
             _ => [0; WEIGHTS],
         };
     }
     if level == 3 {
         return match plan {
-            2 | 3 => [1, 1, 1, 1, 1, 1, 1, 1, 0, 0, 0, 0, 0, 0, 0, 0],
+            2 => PLAIN_8,
+            3 => PLAIN_8,
+            5 => PLAIN_8,
             _ => [0; WEIGHTS],
         };
     }
@@ -196,31 +145,14 @@ pub fn weights(plan: usize, level: usize) -> [u8; WEIGHTS]
 }
 
 // The mark words of the check places, and zeros behind them.
-pub fn check_places(plan: usize) -> [u32; ROWS]
+pub fn check_places(plan: usize) -> [u64; ROWS]
     ensures { λ r. ⌜ r ≡ placeTable (planOf plan) ⌝ }
 {
     match plan {
-        1 => [0x40, 0x40, 0x74, 0, 0, 0, 0, 0],
-        2 => [
-            0x8000001f,
-            0x8000001f,
-            0x8000001f,
-            0x8000001f,
-            0x8000001f,
-            0x8000001f,
-            0x8000001f,
-            0x80007fff,
-        ],
-        3 => [
-            0x6000,
-            0x6000,
-            0x6000,
-            0x6000,
-            0x6000,
-            0x6000,
-            0x7000,
-            0x7f00,
-        ],
+        1 => plan_1::PLACES,
+        2 => plan_2::PLACES,
+        3 => plan_3::PLACES,
+        5 => plan_5::PLACES,
         _ => [0; ROWS],
     }
 }

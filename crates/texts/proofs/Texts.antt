@@ -16,7 +16,7 @@ use Rattle.fills.specs.Lists.{all, first, rest, beside}
 use Rattle.fills.specs.Marks.{bitsOf}
 use Rattle.fills.proofs.Marked.{bits-at}
 use Rattle.fills.proofs.Beside.{length-beside-bits, beside-bits-at}
-use Rattle.plans.specs.Plan.{plan1, plan2, plan3, noPlan, planOf, known, rowAt, marksAt}
+use Rattle.plans.specs.Plan.{binaryPlan, plan1, plan2, plan3, plan5, noPlan, planOf, known, rowAt, marksAt}
 use Rattle.plans.specs.Refusal.{unmarkedBelow, symbolsFit}
 use Rattle.plans.specs.Answers.{placeValues, endValues}
 use Rattle.plans.specs.declared.Report.{Report}
@@ -141,4 +141,4 @@ fit-hex p marks stripe t r h =
     unmarked-le (size (planOf p .field)) digits (few p) (marksAt (planOf p) marks r) (rowAt (planOf p) stripe r) (symbols-fit (planOf p) marks stripe t r h)
   where
     few : (p : ℕ) → size (planOf p .field) ≤ digits
-    few p = unfold size gf2 gf16 all plan1 plan2 plan3 noPlan in leb→le _ digits (all-plans (λ P. leb (size (P .field)) digits) tt p)
+    few p = unfold size gf2 gf16 all binaryPlan plan1 plan2 plan3 plan5 noPlan in leb→le _ digits (all-plans (λ P. leb (size (P .field)) digits) tt p)

@@ -7,7 +7,7 @@ use lib.Dec.{T, eqb}
 use lib.ListN.{length, take}
 use Rattle.fills.specs.Marks.{bitsOf}
 use Rattle.plans.specs.Plan.{planOf, known}
-use Rattle.plans.specs.Rooms.{rowRoom, columnRoom}
+use Rattle.plans.specs.Rooms.{rowRoom, symbolRoom}
 use Rattle.plans.specs.Answers.{placeValues, endValues}
 use Rattle.plans.specs.Refusal.{allBelow, unmarkedBelow, symbolsFit}
 use Rattle.plans.specs.declared.Place.{Place}
@@ -25,7 +25,7 @@ numbers = 100
 abbrev pub digits : ℕ
 digits = 16
 
--- the most bytes of a number, of three counts, of level, rows left and counts, of a Clash's place, and of all rows
+-- the most bytes of a number, of three counts, of level, rows left and counts, of a Clash's place, and of all rows: its symbols, a line feed a row
 abbrev pub numberRoom : ℕ
 numberRoom = 2
 
@@ -39,7 +39,7 @@ abbrev pub placeRoom : ℕ
 placeRoom = 22
 
 abbrev pub gridRoom : ℕ
-gridRoom = rowRoom * (columnRoom + 1)
+gridRoom = symbolRoom + rowRoom
 
 -- the bytes xs were written, no more than there is room for
 pub record Within (room : ℕ) (old : List ℕ) (at : ℕ) (xs : List ℕ) (next : ℕ) (new : List ℕ) : Type 0 where

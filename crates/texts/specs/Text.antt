@@ -89,4 +89,4 @@ printed file =
 
 -- how many bytes a text has room for
 abbrev pub textRoom : ℕ
-textRoom = 320
+textRoom = 640

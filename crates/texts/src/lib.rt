@@ -16,7 +16,7 @@ ghost use Rattle.texts.specs.Text.{decimal, hex, «item» as itemOf, lin
 ghost use Rattle.texts.specs.Parts.{numberRoom, countsRoom, summaryRoom, placeRoom, Within, Item, Digit, Line, Grid, Counts, Summary, PlacePut};
 
 // How many bytes a text has room for.
-pub const ROOM: usize = 320;
+pub const ROOM: usize = 640;
 
 // ---- numbers
 
@@ -47,7 +47,7 @@ pub fn put_item(word: &[u8], n: usize, out: &mut [u8], at: usize) -> usize
 // ---- rows
 
 // What is shown for a symbol: a lowercase hex digit, or `?` where its column is marked.
-fn digit(word: u32, column: usize, symbol: u8) -> u8
+fn digit(word: u64, column: usize, symbol: u8) -> u8
     requires { ⌜ Digit word column symbol ⌝ }
     ensures { λ r. ⌜ r ≡ (if eqb (word / 2 ^ column % 2) 1 then 63 else hex symbol) ⌝ }
 {
@@ -61,7 +61,7 @@ fn digit(word: u32, column: usize, symbol: u8) -> u8
 }
 
 // A row, and a line feed.
-fn put_line(word: u32, row: &[u8], out: &mut [u8], at: usize) -> usize
+fn put_line(word: u64, row: &[u8], out: &mut [u8], at: usize) -> usize
     requires { ⌜ Line word (now row) (now out) at ⌝ }
     ensures { λ r. ⌜ Put (now (out .entry)) at (shown (bitsOf (length (now (row .entry))) word) (now (row .entry)) ++ lineEnd) r (now (out .exit)) ⌝ }
 {
@@ -74,7 +74,7 @@ fn put_line(word: u32, row: &[u8], out: &mut [u8], at: usize) -> usize
 }
 
 // All rows, a line each.
-pub fn put_grid(plan: usize, stripe: &[u8], marks: &[u32], out: &mut [u8], at: usize) -> usize
+pub fn put_grid(plan: usize, stripe: &[u8], marks: &[u64], out: &mut [u8], at: usize) -> usize
     requires { ⌜ Grid plan (now stripe) (now marks) (now out) at ⌝ }
     ensures { λ r. ⌜ Put (now (out .entry)) at (gridOf (planOf plan) (now (stripe .entry)) (now (marks .entry))) r (now (out .exit)) ⌝ }
 {

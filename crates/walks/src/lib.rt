@@ -33,7 +33,7 @@ fn check_sum(
 
 // Whether every row has more marks than sums at level 1, in a plan in which such a row is tied whatever its symbols: then no step changes
 // anything. Of the rows of bits only those with one parity are so.
-pub fn over_marked(plan: usize, marks: &[u32]) -> bool
+pub fn over_marked(plan: usize, marks: &[u64]) -> bool
     requires { ⌜ planOf plan .rows ≤ length (now marks) ⌝ }
     ensures { λ r. ⌜ r ≡ overMarked (planOf plan) (now (marks .entry)) ⌝ }
 {
@@ -45,7 +45,7 @@ pub fn over_marked(plan: usize, marks: &[u32]) -> bool
         return false;
     }
     for r in 0..rows {
-        if u32::count_ones(marks[r]) as usize <= sums {
+        if u64::count_ones(marks[r]) as usize <= sums {
             return false;
         }
     }
@@ -65,7 +65,7 @@ pub fn walk_rows(
     table: &[u8],
     checks: &[u8],
     symbols: &mut [u8],
-    marks: &mut [u32],
+    marks: &mut [u64],
     sums: &[u8],
 ) -> Walk
     requires { ⌜ WalkReady plan level (now table) (now checks) (now symbols) (now marks) (now sums) ⌝ }

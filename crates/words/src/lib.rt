@@ -4,11 +4,11 @@ ghost use mathlib.Core.List.{flatMap};
 ghost use Prim.Native.Nat.{_+_, _*_, _/_, _%_, _^_, _≤_, _<_};
 ghost use lib.Dec.{eqb};
 ghost use lib.ListN.{length};
-ghost use Rattle.words.specs.Words.{wordBits, bytes2, bytes4, wordAt, wordsAt};
-ghost use Rattle.words.specs.Written.{Put};
+ghost use Rattle.words.specs.Words.{wordBits, bytesOf, numberAt, wordsAt};
+ghost use Rattle.words.specs.Written.{Put, WordIn, WordsIn};
 
 // Whether the mark word has a mark at this column.
-pub fn is_marked(word: u32, column: usize) -> bool
+pub fn is_marked(word: u64, column: usize) -> bool
     requires { ⌜ column < wordBits ⌝ }
     ensures { λ r. ⌜ r ≡ eqb (word / 2 ^ column % 2) 1 ⌝ }
 {
@@ -28,59 +28,57 @@ pub fn put(bytes: &[u8], out: &mut [u8], at: usize) -> usize
 
 // The two bytes of an offset or a length.
 pub fn size_bytes(n: usize) -> [u8; 2]
-    ensures { λ r. ⌜ r ≡ bytes2 n ⌝ }
+    ensures { λ r. ⌜ r ≡ bytesOf 2 n ⌝ }
 {
     let low = n % 256;
     let high = n / 256 % 256;
     [low as u8, high as u8]
 }
 
-// The word of these bytes.
-fn word_of(b0: u8, b1: u8, b2: u8, b3: u8) -> u32
-    ensures { λ r. ⌜ r ≡ b0 + b1 * 256 + b2 * 2 ^ 16 + b3 * 2 ^ 24 ⌝ }
+// The word of the `size` bytes that stand at `at`: from the high byte down.
+fn word_at(bytes: &[u8], at: usize, size: usize) -> u64
+    requires { ⌜ WordIn (now bytes) at size ⌝ }
+    ensures { λ r. ⌜ r ≡ numberAt size (now (bytes .entry)) at ⌝ }
 {
-    b0 as u32 + b1 as u32 * 0x100 + b2 as u32 * 0x10000 + b3 as u32 * 0x1000000
+    let mut word: u64 = 0;
+    for i in 0..size {
+        let place = size - 1 - i;
+        word = word * 0x100 + bytes[at + place] as u64;
+    }
+    word
 }
 
-// The word that stands at `at`.
-fn word_at(bytes: &[u8], at: usize) -> u32
-    requires { ⌜ at + 4 ≤ length (now bytes) ⌝ }
-    ensures { λ r. ⌜ r ≡ wordAt (now (bytes .entry)) at ⌝ }
-{
-    word_of(bytes[at], bytes[at + 1], bytes[at + 2], bytes[at + 3])
-}
-
-// Reads the words that stand from `at` on, as many as `words` has room for.
-pub fn read_words(bytes: &[u8], at: usize, words: &mut [u32])
-    requires { ⌜ at + 4 * length (now words) ≤ length (now bytes) ⌝ }
-    ensures { λ _. ⌜ now (words .exit) ≡ wordsAt (now (bytes .entry)) at (length (now (words .entry))) ⌝ }
+// Reads the words of `size` bytes that stand from `at` on, as many as `words` has room for.
+pub fn read_words(bytes: &[u8], at: usize, size: usize, words: &mut [u64])
+    requires { ⌜ WordsIn (now bytes) at size (length (now words)) ⌝ }
+    ensures { λ _. ⌜ now (words .exit) ≡ wordsAt size (now (bytes .entry)) at (length (now (words .entry))) ⌝ }
 {
     for r in 0..words.len() {
-        words[r] = word_at(bytes, at + 4 * r);
+        words[r] = word_at(bytes, at + size * r, size);
     }
 }
 
-// The bytes of a word.
-fn word_bytes(word: u32) -> [u8; 4]
-    ensures { λ r. ⌜ r ≡ bytes4 word ⌝ }
+// Writes the word's `size` low bytes into `out` from `at` on, and gives the place behind them. The rest of `out` is unchanged.
+fn put_word(word: u64, size: usize, out: &mut [u8], at: usize) -> usize
+    requires { ⌜ at + size ≤ length (now out) ⌝ }
+    ensures { λ r. ⌜ Put (now (out .entry)) at (bytesOf size word) r (now (out .exit)) ⌝ }
 {
-    [
-        (word % 0x100) as u8,
-        (word / 0x100 % 0x100) as u8,
-        (word / 0x10000 % 0x100) as u8,
-        (word / 0x1000000 % 0x100) as u8,
-    ]
+    let mut left = word;
+    for i in 0..size {
+        out[at + i] = (left % 0x100) as u8;
+        left = left / 0x100;
+    }
+    at + size
 }
 
-// Writes the words' bytes into `out` from `at` on, and gives the place behind them. The rest of `out` is unchanged.
-pub fn put_words(words: &[u32], out: &mut [u8], at: usize) -> usize
-    requires { ⌜ at + 4 * length (now words) ≤ length (now out) ⌝ }
-    ensures { λ r. ⌜ Put (now (out .entry)) at (flatMap bytes4 (now (words .entry))) r (now (out .exit)) ⌝ }
+// Writes `size` bytes of each word into `out` from `at` on, and gives the place behind them. The rest of `out` is unchanged.
+pub fn put_words(words: &[u64], size: usize, out: &mut [u8], at: usize) -> usize
+    requires { ⌜ at + size * length (now words) ≤ length (now out) ⌝ }
+    ensures { λ r. ⌜ Put (now (out .entry)) at (flatMap (bytesOf size) (now (words .entry))) r (now (out .exit)) ⌝ }
 {
     let mut next = at;
     for r in 0..words.len() {
-        let bytes = word_bytes(words[r]);
-        next = put(&bytes, out, next);
+        next = put_word(words[r], size, out, next);
     }
     next
 }

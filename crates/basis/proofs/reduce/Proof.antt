@@ -3,6 +3,7 @@ use Prim.Native.Nat.{_-_, _<_}
 use native.Mathlib.Omega.{arith}
 use Rattle.field.specs.Field.{_⊕_}
 use Rattle.equations.specs.System.{vec}
+use Rattle.basis.specs.Span.{columnBits}
 use Rattle.basis.proofs.Reducing.{Reducing, reducing-start, reducing-turn, reducing-end}
 use borrow.Author.Needs.{needs}
 use Rattle.basis.proofs.reduce.Statement.{statement}
@@ -15,7 +16,7 @@ abbrev μ-loop : tie.MeasureT-loop
 μ-loop words masks pivots r word mask left₀ made₀ i₀ left made i = r - i
 
 -- a pivot is a bit's place
-pivot-lt : (c : tie.In-loop Inv-loop μ-loop) → vec (c .before .before .args .pivots .now) (c .before .loop .i) < 32
+pivot-lt : (c : tie.In-loop Inv-loop μ-loop) → vec (c .before .before .args .pivots .now) (c .before .loop .i) < columnBits
 pivot-lt c = c .before .before .pre .ordered .fits _ (c .loop-test .taken)
 
 loop-holds : tie.Need-loop-holds Inv-loop μ-loop

@@ -1,17 +1,21 @@
 -- `span`: the invariant `Building` is the echelon of the first t columns and a dependency of theirs; a column of which something is left
 -- joins the echelon, one of which nothing is left is a dependency. Assumes nothing.
-use mathlib.Core.Path.{_≡_, sym, _∙_}
+use mathlib.Core.Path.{_≡_, sym, ap, _∙_}
+use mathlib.Core.Bool.{not}
 use mathlib.Core.Logic.{_≢_, ⊎-elim}
 use Prim.Native.Nat.{ℕ, _+_, _%_, _^_, _-_, _≤_, _<_}
 use native.Mathlib.Nat.{mod-eq-of-lt}
 use native.Mathlib.Omega.{arith}
+use borrow.Author.Tests.{ne-eqb}
 use lib.Count.{trailingZeros}
 use Rattle.equations.specs.System.{vec}
 use Rattle.equations.specs.Words.{columnOf}
 use Rattle.equations.proofs.Bits.{shifted-one, low-bits, low-fits, low-some, lowest-lt}
 use Rattle.equations.proofs.Wording.{column-lt}
-use Rattle.basis.proofs.Building.{Building, building-start, building-reducible, building-some, building-tied, building-more, building-ends, building-enough}
+use Rattle.basis.specs.Span.{columnBits}
+use Rattle.basis.proofs.Building.{Building, building-start, building-reducible, building-some, building-tied, building-more, building-ends, spans-longer}
 use borrow.Author.Needs.{needs}
+use mir.Facts.{fits-8-64}
 use Rattle.basis.proofs.span.Statement.{statement}
 use Rattle.basis.proofs.span.Tie as tie
 
@@ -48,11 +52,11 @@ cast-wanted c = record { fits = low-fits _ (c .before .before .pre .few) }
 loop-holds : tie.Need-loop-holds Inv-loop μ-loop
 loop-holds c = (search needs, building-start _)
 
-mul-gather-column : tie.Need-mul-gather-column Inv-loop μ-loop
-mul-gather-column c = search needs
-
 shared-slice-read-gather-column : tie.Need-shared-slice-read-gather-column Inv-loop μ-loop
 shared-slice-read-gather-column c = search needs
+
+cast-gather-column : tie.Need-cast-gather-column Inv-loop μ-loop
+cast-gather-column c = fits-8-64 (c .shared-slice-known3 .given _)
 
 gather-column-requires : tie.Need-gather-column-requires Inv-loop μ-loop
 gather-column-requires c κs =
@@ -66,8 +70,8 @@ reduce-requires : tie.Need-reduce-requires Inv-loop μ-loop
 reduce-requires c κs =
     building-reducible (c .before .before .before .before .before .before .loop .inv .1) (omega arith)
 
-reduce-requires-2 : tie.Need-reduce-requires-2 Inv-loop μ-loop
-reduce-requires-2 c κs =
+conclude-requires : tie.Need-conclude-requires Inv-loop μ-loop
+conclude-requires c κs =
     building-reducible (head (c .before .before .before .before) .loop .inv .1) (omega arith)
 
 -- the word that was reduced is that of column t, which has no bit beyond the checks
@@ -87,17 +91,19 @@ tied-too c =
       building-tied _ _ _ _ _ _ _ _ _ _ _ (at .inv .1) (c .before .reduce .ensures) (cut (c .before)) one (c .if1 .taken),
     )
 
+-- need is met by the columns so far, so by all
 returns : tie.Need-returns Inv-loop μ-loop
 returns c =
-    let here = c .before .before .before .before .before .before in
+    let here = c .before .before .before .before .before in
     let s = start (head (here .before)) in
     let D = tied-too here in
-    building-enough (columns s) _ _ _ _ _ _ _ _ _ _ _ _ (omega arith) (D .0) (D .1) (c .before .before .reduce2 .ensures)
-    (low-bits (s .args .need) (s .args .m) (s .pre .few)) (c .if2 .taken)
+    let end = c .before .conclude .ensures in
+    spans-longer (columns s) _ _ _ _ _ _ _ _ (omega arith) (c .if2 .taken) (end .some ∙ ap not (ne-eqb _ 0 (D .0)))
+    (building-ends (columns s) _ _ _ _ _ _ _ _ _ _ _ _ _ (D .1) end (low-bits (s .args .need) (s .args .m) (s .pre .few)))
 
 -- the place is in the room
-place-lt : (c : tie.Else1 Inv-loop μ-loop) → trailingZeros 32 (c .before .reduce .result .word) < 32
-place-lt c = lowest-lt 32 _ (c .before .reduce .ensures .small) (c .if1 .left)
+place-lt : (c : tie.Else1 Inv-loop μ-loop) → trailingZeros columnBits (c .before .reduce .result .word) < columnBits
+place-lt c = lowest-lt columnBits _ (c .before .reduce .ensures .small) (c .if1 .left)
 
 cast-p : tie.Need-cast-p Inv-loop μ-loop
 cast-p c = omega (arith, place-lt c)
@@ -136,24 +142,24 @@ loop-again c =
     let one = shifted-one (at .t) (omega arith) in (
       omega arith,
       ⊎-elim
-          (λ w. rw (w .7, w .8, w .9, w .10, w .11)
+          (λ w. rw (w .6, w .7, w .8, w .9, w .10)
           (building-tied _ _ _ _ _ _ _ _ _ _ _ (at .inv .1) (turned .ensures) (cut (c .before)) one (w .0 .taken)))
           (λ w. rw (w .1, w .2, w .3, w .4, w .5)
           (building-more _ _ _ _ _ _ _ _ _ _ _ (at .inv .1) (turned .ensures) (cut (c .before)) one (w .0 .left) (omega arith)))
           (c .if1 .came),
     )
 
-reduce-requires-3 : tie.Need-reduce-requires-3 Inv-loop μ-loop
-reduce-requires-3 c κs =
+conclude-requires-2 : tie.Need-conclude-requires-2 Inv-loop μ-loop
+conclude-requires-2 c κs =
     let inv = c .before .before .before .before .loop .inv in building-reducible (inv .1) (omega (arith, inv .0))
 
 returns-2 : tie.Need-returns-2 Inv-loop μ-loop
 returns-2 c =
-    let at = c .before .before .before .before .before .before in
+    let at = c .before .before .before .before .before in
     let s = start at in
     let e : at .loop .t ≡ s .args .k = omega (arith, at .loop .inv .0) in
-    building-ends (columns s) _ _ _ _ _ _ _ _ _ _ _
-    (rw e at (at .loop .inv .1)) (c .before .reduce3 .ensures) (low-bits (s .args .need) (s .args .m) (s .pre .few))
+    building-ends (columns s) _ _ _ _ _ _ _ _ _ _ _ _ _
+    (rw e at (at .loop .inv .1)) (c .conclude2 .ensures) (low-bits (s .args .need) (s .args .m) (s .pre .few))
 
 pub span-spec : {M : Type 1} → statement M
 span-spec =
@@ -165,12 +171,12 @@ span-spec =
     sub-wanted
     cast-wanted
     loop-holds
-    mul-gather-column
     shared-slice-read-gather-column
+    cast-gather-column
     gather-column-requires
     shl-reduce
     reduce-requires
-    reduce-requires-2
+    conclude-requires
     returns
     cast-p
     mul-words
@@ -183,5 +189,5 @@ span-spec =
     add-t
     loop-less
     loop-again
-    reduce-requires-3
+    conclude-requires-2
     returns-2)

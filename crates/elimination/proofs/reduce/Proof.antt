@@ -22,7 +22,8 @@ loop-holds : tie.Need-loop-holds Inv-loop μ-loop
 loop-holds c = reducing-start _ _ _ _ _ _ (c .before .before .before .pre .elements)
 
 find-row-requires : tie.Need-find-row-requires Inv-loop μ-loop
-find-row-requires c κs = let inv = c .before .before .loop .inv in (omega (arith, inv .size), inv .form .rows, omega arith)
+find-row-requires c κs = let inv = c .before .before .loop .inv in
+    record { rows = omega (arith, inv .size); row = inv .form .rows; column = omega arith }
 
 pivot-requires : tie.Need-pivot-requires Inv-loop μ-loop
 pivot-requires c κs =

@@ -3,6 +3,7 @@ use mathlib.Core.Path.{_≡_, refl}
 use Prim.Native.Nat.{_-_, _≤_}
 use native.Mathlib.Omega.{arith}
 use borrow.Author.Needs.{needs}
+use mir.Facts.{fits-8-64}
 use lib.ListN.{length, length-set}
 use Rattle.field.specs.Ours.{fieldOf}
 use Rattle.gathering.specs.Steps.{Copied}
@@ -31,11 +32,11 @@ mul-s c = omega arith
 loop-holds : tie.Need-loop-holds Inv-loop μ-loop
 loop-holds c = (omega arith, refl, c .pre .elements, copied-start _ _ _ _ _ _)
 
-mul-p : tie.Need-mul-p Inv-loop μ-loop
-mul-p c = search needs
-
 shared-slice-read-p : tie.Need-shared-slice-read-p Inv-loop μ-loop
 shared-slice-read-p c = search needs
+
+cast-p : tie.Need-cast-p Inv-loop μ-loop
+cast-p c = fits-8-64 (c .shared-slice-known .given _)
 
 add-a : tie.Need-add-a Inv-loop μ-loop
 add-a c = let s = c .before .before .before in omega (arith, s .pre .placed .below (c .before .before .loop .t) (omega arith))
@@ -81,8 +82,8 @@ gather-row-spec =
     add-s
     mul-s
     loop-holds
-    mul-p
     shared-slice-read-p
+    cast-p
     add-a
     shared-slice-read-a
     add-a-2

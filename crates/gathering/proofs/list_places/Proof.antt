@@ -19,10 +19,10 @@ abbrev μ-loop : tie.MeasureT-loop
 μ-loop marks n places₀ k rest₀ c₀ t₀ places rest c t = k - t
 
 -- the next place is the lowest bit that is left, and there is room for it
-next : (c : tie.In-loop Inv-loop μ-loop) → Lowest (c .before .loop .rest) (trailingZeros 32 (c .before .loop .rest))
+next : (c : tie.In-loop Inv-loop μ-loop) → Lowest (c .before .loop .rest) (trailingZeros 64 (c .before .loop .rest))
 next c = placing-next _ _ _ _ _ _ _ (c .before .loop .inv .1) (c .before .before .fits .marks .fits) (omega arith)
 
-fits : (c : tie.In-loop Inv-loop μ-loop) → c .before .loop .c + trailingZeros 32 (c .before .loop .rest) < c .before .before .args .n
+fits : (c : tie.In-loop Inv-loop μ-loop) → c .before .loop .c + trailingZeros 64 (c .before .loop .rest) < c .before .before .args .n
 fits c = placing-fits _ _ _ _ _ _ _ (c .before .loop .inv .1) _ (c .before .before .pre .within) (next c)
 
 room : (c : tie.In-loop Inv-loop μ-loop) → c .before .loop .t < length (c .before .loop .places)
@@ -35,16 +35,19 @@ loop-holds : tie.Need-loop-holds Inv-loop μ-loop
 loop-holds c = (refl, placing-start _ _ _)
 
 cast-c : tie.Need-cast-c Inv-loop μ-loop
-cast-c c = omega (arith, trailing-le 32 (c .before .loop .rest))
+cast-c c = omega (arith, trailing-le 64 (c .before .loop .rest))
 
 add-c : tie.Need-add-c Inv-loop μ-loop
 add-c c = omega (arith, fits c)
 
-mul-places : tie.Need-mul-places Inv-loop μ-loop
-mul-places c = omega (arith, room c)
+cast-places : tie.Need-cast-places Inv-loop μ-loop
+cast-places c = omega (arith, fits c, c .before .before .pre .narrow)
 
 slice-write-places : tie.Need-slice-write-places Inv-loop μ-loop
 slice-write-places c = room c
+
+cast-rest : tie.Need-cast-rest Inv-loop μ-loop
+cast-rest c = omega (arith, trailing-le 64 (c .before .loop .rest))
 
 shr-rest : tie.Need-shr-rest Inv-loop μ-loop
 shr-rest c = placing-shift _ _ _ _ _ _ _ (c .before .loop .inv .1) _ (c .before .before .fits .marks .fits) (next c)
@@ -82,8 +85,9 @@ list-places-spec =
     loop-holds
     cast-c
     add-c
-    mul-places
+    cast-places
     slice-write-places
+    cast-rest
     shr-rest
     add-c-2
     add-t

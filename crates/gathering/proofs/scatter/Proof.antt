@@ -3,6 +3,7 @@ use mathlib.Core.Path.{_≡_, refl, ap, _∙_}
 use Prim.Native.Nat.{_-_, _≤_}
 use native.Mathlib.Omega.{arith}
 use borrow.Author.Needs.{needs}
+use mir.Facts.{fits-8-64}
 use lib.ListN.{length}
 use Rattle.gathering.specs.Steps.{scattered}
 use Rattle.equations.specs.System.{vec}
@@ -20,11 +21,11 @@ loop-holds : tie.Need-loop-holds Inv-loop μ-loop
 unfolding scattered
 loop-holds c = (omega arith, refl)
 
-mul-p : tie.Need-mul-p Inv-loop μ-loop
-mul-p c = search needs
-
 shared-slice-read-p : tie.Need-shared-slice-read-p Inv-loop μ-loop
 shared-slice-read-p c = search needs
+
+cast-p : tie.Need-cast-p Inv-loop μ-loop
+cast-p c = fits-8-64 (c .shared-slice-known .given _)
 
 shared-slice-read-v : tie.Need-shared-slice-read-v Inv-loop μ-loop
 shared-slice-read-v c = search needs
@@ -33,7 +34,7 @@ slice-write-v : tie.Need-slice-write-v Inv-loop μ-loop
 slice-write-v c = let s = c .before .before .before .before in
     omega (
       arith,
-      s .pre .0 .below (c .before .before .before .loop .t) (omega arith),
+      s .pre .placed .below (c .before .before .before .loop .t) (omega arith),
       ap length (c .before .before .before .loop .inv .1),
       length-scattered (s .args .v .now) (vec (s .args .places .now)) (vec (s .args .x .now)) (c .before .before .before .loop .t),
     )
@@ -60,8 +61,8 @@ scatter-spec =
     Inv-loop
     μ-loop
     loop-holds
-    mul-p
     shared-slice-read-p
+    cast-p
     shared-slice-read-v
     slice-write-v
     add-t

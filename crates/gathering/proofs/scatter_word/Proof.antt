@@ -8,6 +8,7 @@ use Rattle.equations.specs.Words.{bitAt}
 use Rattle.gathering.specs.Steps.{scattered}
 use Rattle.gathering.proofs.Columns.{scattered-more, length-scattered}
 use borrow.Author.Needs.{needs}
+use mir.Facts.{fits-8-64}
 use Rattle.gathering.proofs.scatter_word.Statement.{statement}
 use Rattle.gathering.proofs.scatter_word.Tie as tie
 
@@ -21,11 +22,11 @@ loop-holds : tie.Need-loop-holds Inv-loop μ-loop
 unfolding scattered
 loop-holds c = (omega arith, refl)
 
-mul-p : tie.Need-mul-p Inv-loop μ-loop
-mul-p c = search needs
-
 shared-slice-read-p : tie.Need-shared-slice-read-p Inv-loop μ-loop
 shared-slice-read-p c = search needs
+
+cast-p : tie.Need-cast-p Inv-loop μ-loop
+cast-p c = fits-8-64 (c .shared-slice-known .given _)
 
 shr-v : tie.Need-shr-v Inv-loop μ-loop
 shr-v c = search needs
@@ -38,7 +39,7 @@ slice-write-v c = let s = c .before .before .before in
     let turn = c .before .before .loop in
     omega (
       arith,
-      s .pre .0 .below (turn .t) (omega arith),
+      s .pre .placed .below (turn .t) (omega arith),
       ap length (turn .inv .1),
       length-scattered (s .args .v .now) (vec (s .args .places .now)) (bitAt (s .args .word)) (turn .t),
     )
@@ -65,8 +66,8 @@ scatter-word-spec =
     Inv-loop
     μ-loop
     loop-holds
-    mul-p
     shared-slice-read-p
+    cast-p
     shr-v
     cast-v
     slice-write-v

@@ -29,7 +29,7 @@ placed c t l =
     omega (arith, s .pre, bit-bound _ (s .args .marks) _ (s .pre .within) (listed-at c .list-places .ensures .places .marked t l), c .copy .kept .1 .0)
 
 scatter-word-requires : tie.Need-scatter-word-requires
-scatter-word-requires c κs = (record { listed = search needs; below = placed (c .before .before .before .before) }, search needs)
+scatter-word-requires c κs = record { placed = record { listed = search needs; below = placed (c .before .before .before .before) }; bits = search needs }
 
 same-length : tie.Need-same-length
 same-length c = search needs

@@ -12,7 +12,7 @@ use Rattle.interleaved.proofs.is_interleaved.Statement.{statement}
 use Rattle.interleaved.proofs.is_interleaved.Tie as tie
 
 is-known : known 3 ≡ true
-unfolding known
+unfolding plan3 planOf known
 is-known = refl
 
 facts-of-requires : tie.Need-facts-of-requires

@@ -79,7 +79,7 @@ put-requires-3 c κs =
       two .put2 .ensures .reached,
       two .put2 .kept .1 .0,
       three .put-words .ensures .reached,
-      three .put-words .kept .1 .0,
+      three .put-words .kept .1 .1 .0,
     )
 
 same-length : tie.Need-same-length

@@ -1,6 +1,6 @@
 -- `learn`: the sums under the checks passed are learned and stand behind those from before, and a check less is to come. More rows with
 -- marks than totals block the level at once; a check that is tied blocks it, one that has no filling makes it fail. Assumes nothing.
-use Prim.Native.Nat.{ℕ, suc, _-_, _<_}
+use Prim.Native.Nat.{ℕ, suc, _-_, _≤_, _<_}
 use mathlib.Core.Path.{_≡_, refl, sym, ap, _∙_}
 use native.Mathlib.Numerals.{add-one}
 use native.Mathlib.Omega.{arith}
@@ -52,7 +52,7 @@ weighed c = weighing _ _ (c .before .facts-of .ensures) (ap (weightTable _) (sym
 level-few : (c : tie.After-facts-of Inv-loop μ-loop) → start c .args .level < 3
 level-few c = omega (arith, levels-most (start c .args .plan), start c .pre .level)
 
-rows-few : (c : tie.After-facts-of Inv-loop μ-loop) → c .facts-of .result .rows < 9
+rows-few : (c : tie.After-facts-of Inv-loop μ-loop) → c .facts-of .result .rows ≤ rowRoom
 rows-few c = omega (arith, c .facts-of .ensures .rows, rows-most (start c .args .plan))
 
 early : (c : AtCheck) → c .before .loop .j < sumRoom

@@ -7,6 +7,7 @@ use borrow.Author.Tests.{not-true, not-false}
 use Rattle.equations.specs.System.{vec}
 use Rattle.equations.specs.Words.{bitAt}
 use Rattle.equations.proofs.Bits.{bit-bound}
+use Rattle.gathering.specs.Most.{mostColumns}
 use Rattle.gathering.specs.Steps.{scattered}
 use Rattle.linear.proofs.Answers.{Outcomes}
 use Rattle.linear.proofs.Gathering.{words-outcomes}
@@ -63,7 +64,7 @@ slice-aggregate-span : tie.Need-slice-aggregate-span
 slice-aggregate-span c = sym (c .before .before .before .before .before .show .kept .1 .1 .0)
 
 -- there are few places, they are listed, and they are columns
-narrow : (c : tie.After-show) → c .show .result ≤ 32
+narrow : (c : tie.After-show) → c .show .result ≤ mostColumns
 narrow c = omega (arith, c .show .ensures .0 .few, start c .pre .narrow)
 
 listed : (c : tie.After-show) → c .show .result ≤ length (c .show .last .1 .1 .0)
@@ -101,7 +102,8 @@ slice-aggregate-scatter-word : tie.Need-slice-aggregate-scatter-word
 slice-aggregate-scatter-word c = sym (shown-at (c .before .before .before .before .before) .show .kept .1 .1 .0)
 
 scatter-word-requires : tie.Need-scatter-word-requires
-scatter-word-requires c κs = let at = shown-at (c .before .before .before .before .before) in (record { listed = listed at; below = below at }, narrow at)
+scatter-word-requires c κs = let at = shown-at (c .before .before .before .before .before) in
+    record { placed = record { listed = listed at; below = below at }; bits = narrow at }
 
 same-length-3 : tie.Need-same-length-3
 same-length-3 c = c .before .before .scatter-word .kept .0

@@ -5,12 +5,14 @@ use native.Mathlib.Omega.{arith}
 use borrow.Author.Tests.{not-true, not-false}
 use lib.ListN.{length}
 use Rattle.field.proofs.Fields.{our-field}
+use Rattle.gathering.specs.Most.{mostColumns}
 use Rattle.gathering.specs.Steps.{scattered}
 use Rattle.equations.specs.System.{vec}
 use Rattle.linear.proofs.Answers.{Outcomes, outcomes}
 use Rattle.equations.proofs.Elements.{zero-elements}
 use Rattle.equations.proofs.Bits.{bit-bound}
-use Rattle.equations.proofs.Rows.{system-fits}
+use Rattle.linear.specs.Steps.{systemRoom}
+use Rattle.linear.proofs.Rooms.{system-fits}
 use Rattle.linear.proofs.fill_marked.Statement.{statement}
 use Rattle.linear.proofs.fill_marked.Tie as tie
 
@@ -41,7 +43,7 @@ slice-aggregate-gather-marked-2 c = refl
 
 gather-marked-requires : tie.Need-gather-marked-requires
 gather-marked-requires c κs = let s = c .before .before .before .before .before .before .before in
-    (s .pre, record { listed = refl; system = refl; elements = zero-elements _ (our-field (s .args .q)) 528 })
+    record { asked = s .pre; listed = refl; room = refl; elements = zero-elements _ (our-field (s .args .q)) systemRoom }
 
 slice-aggregate-solve : tie.Need-slice-aggregate-solve
 slice-aggregate-solve c = sym (c .before .before .before .gather-marked .kept .1 .1 .1 .1 .1 .1 .1 .0)
@@ -60,7 +62,7 @@ solve-requires c κs =
     let at = c .before .before .before .before .before .before in
     let asked = start at .pre in
     let gathered = at .gather-marked in
-    let narrow : gathered .result ≤ 32 = omega (arith, gathered .ensures .0 .few, asked .narrow) in
+    let narrow : gathered .result ≤ mostColumns = omega (arith, gathered .ensures .0 .few, asked .narrow) in
     record {
       products = asked .products;
       rows = omega (
@@ -68,7 +70,7 @@ solve-requires c κs =
         gathered .kept .1 .1 .1 .1 .1 .1 .1 .0,
         system-fits (length (start at .args .target .now)) (gathered .result) (asked .few) narrow,
       );
-      pivots = narrow;
+      pivots = asked .few;
       solution = narrow;
       dependency = narrow;
       elements = gathered .ensures .1 .1;
@@ -97,13 +99,14 @@ scatter-requires c κs =
     let solved = c .before .before .before .before .before .before .before .before .before .before in
     let gathered = gathered-at solved .gather-marked in
     let s = start (gathered-at solved) in
-    let narrow : gathered .result ≤ 32 = omega (arith, gathered .ensures .0 .few, s .pre .narrow) in (
-      record {
+    let narrow : gathered .result ≤ mostColumns = omega (arith, gathered .ensures .0 .few, s .pre .narrow) in
+    record {
+      placed = record {
         listed = omega (arith, gathered .kept .1 .1 .1 .1 .1 .1 .0, narrow);
         below = λ t l. bit-bound _ (s .args .marks) _ (s .pre .within) (gathered .ensures .0 .places .marked t l);
-      },
-      omega (arith, solved .solve .kept .1 .1 .1 .1 .1 .1 .0, narrow),
-    )
+      };
+      symbols = omega (arith, solved .solve .kept .1 .1 .1 .1 .1 .1 .0, narrow);
+    }
 
 same-length-3 : tie.Need-same-length-3
 same-length-3 c = c .before .before .scatter .kept .0

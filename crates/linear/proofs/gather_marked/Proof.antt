@@ -4,7 +4,7 @@ use borrow.Author.Needs.{needs}
 use lib.ListN.{length}
 use Rattle.gathering.proofs.Columns.{gathered-same}
 use Rattle.equations.proofs.Bits.{bit-bound}
-use Rattle.equations.proofs.Rows.{system-fits}
+use Rattle.linear.proofs.Rooms.{system-fits}
 use Rattle.linear.proofs.gather_marked.Statement.{statement}
 use Rattle.linear.proofs.gather_marked.Tie as tie
 
@@ -22,21 +22,20 @@ gather-requires c κs =
     let at = c .before .before .before .before .before .before in
     let shown = at .show in
     let s = at .before .before .before .before .before .before .before .before .before in
-    let asked = s .pre .0 in
-    let room = s .pre .1 in
+    let asked = s .pre .asked in
     let few = shown .ensures .0 .few in
     record {
       products = asked .products;
       from = omega (arith, asked .shape);
-      to = omega (arith, system-fits (length (s .args .target .now)) (shown .result) (asked .few) (omega (arith, few, asked .narrow)), room .system);
+      to = omega (arith, system-fits (length (s .args .target .now)) (shown .result) (asked .few) (omega (arith, few, asked .narrow)), s .pre .room);
       symbols = omega (arith, shown .kept .1 .1 .1 .0, asked .narrow);
       placed = record {
-        listed = omega (arith, few, asked .narrow, room .listed, shown .kept .1 .1 .0);
+        listed = omega (arith, few, asked .narrow, s .pre .listed, shown .kept .1 .1 .0);
         below = λ t l. bit-bound _ (s .args .marks) _ (asked .within) (shown .ensures .0 .places .marked t l);
       };
       coefficients = asked .coefficients;
       sums = asked .sums;
-      elements = room .elements;
+      elements = s .pre .elements;
     }
 
 same-length : tie.Need-same-length

@@ -26,7 +26,7 @@ loop-holds c = (omega arith, λ x l. absurd (omega arith))
 row-sum-requires : tie.Need-row-sum-requires Inv-loop μ-loop
 row-sum-requires c κs = let s = c .before .before .before .before .before .before in
     let fit = row-fits (length (s .args .target .now)) (length (s .args .v .now)) (c .before .loop .i) (omega arith) in
-    record { products = s .pre .0; row = omega (arith, s .pre .1); symbols = le-refl _ }
+    record { products = s .pre .products; row = omega (arith, s .pre .shape); symbols = le-refl _ }
 
 shared-slice-read-if1 : tie.Need-shared-slice-read-if1 Inv-loop μ-loop
 shared-slice-read-if1 c = search needs

@@ -40,10 +40,10 @@ solve-requires c κs =
     record {
       products = lent (s .args .q) (lending .before .products .ensures) (lending .entries .ensures .1);
       rows = omega arith;
-      pivots = s .pre .1;
-      solution = s .pre .1;
-      dependency = s .pre .1;
-      elements = symbols-elements _ (s .args .system) (s .pre .2);
+      pivots = s .pre .pivots;
+      solution = s .pre .unknowns;
+      dependency = s .pre .unknowns;
+      elements = symbols-elements _ (s .args .system) (s .pre .elements);
     }
 
 flag-requires : tie.Need-flag-requires

@@ -41,9 +41,9 @@ fill-requires c κs =
       few = omega arith;
       narrow = omega arith;
       shape = rw (width, rows) size;
-      within = rw width (s .pre .0);
-      coefficients = symbols-elements _ (s .args .t2) (s .pre .1);
-      sums = symbols-elements _ (s .args .t3) (s .pre .2);
+      within = rw width (s .pre .within);
+      coefficients = symbols-elements _ (s .args .t2) (s .pre .coefficients);
+      sums = symbols-elements _ (s .args .t3) (s .pre .sums);
     }
 
 outcome-requires : tie.Need-outcome-requires

@@ -7,6 +7,7 @@ use borrow.Author.Needs.{needs}
 use lib.ListN.{length, replicate, length-append}
 use lib.Seq.{length-take-le}
 use Rattle.plans.specs.Tables.{padded}
+use Rattle.texts.specs.Text.{textRoom}
 use Rattle.mend.proofs.main.Statement.{statement}
 use Rattle.mend.proofs.main.Tie as tie
 
@@ -36,10 +37,10 @@ text-requires : tie.Need-text-requires
 text-requires c κs = search needs
 
 array-share-prefix-out : tie.Need-array-share-prefix-out
-array-share-prefix-out c = room 320 _ (c .text .ensures .0) (c .text .ensures .1)
+array-share-prefix-out c = room textRoom _ (c .text .ensures .0) (c .text .ensures .1)
 
 slice-aggregate-write-whole-2 : tie.Need-slice-aggregate-write-whole-2
-slice-aggregate-write-whole-2 c = sym (length-take-le _ _ (room 320 _ (c .before .text .ensures .0) (c .before .text .ensures .1)))
+slice-aggregate-write-whole-2 c = sym (length-take-le _ _ (room textRoom _ (c .before .text .ensures .0) (c .before .text .ensures .1)))
 
 write-whole-requires-2 : tie.Need-write-whole-requires-2
 write-whole-requires-2 c κs = search needs

@@ -8,10 +8,9 @@ use Rattle.steps.proofs.Fit.{fit-lent}
 use Rattle.words.proofs.Writing.{put-then, put-is}
 use Rattle.files.specs.File.{symbolsIn, marksIn}
 use Rattle.files.proofs.Files.{file-fit, read-fit}
-use Rattle.files.proofs.Stripes.{known-below}
 use Rattle.texts.specs.Text.{bytes, item, mendText}
 use Rattle.printing.specs.Parts.{Printable}
-use Rattle.printing.proofs.Printing.{mend-printable, text-mended}
+use Rattle.printing.proofs.Printing.{plan-small, mend-printable, text-mended}
 use Rattle.printing.proofs.put_mended.Statement.{statement}
 use Rattle.printing.proofs.put_mended.Tie as tie
 
@@ -51,7 +50,7 @@ slice-aggregate-put-item c = search needs
 put-item-requires : tie.Need-put-item-requires
 put-item-requires c κs =
     let m = c .before .before .before .before .before .before in
-    let ask = start (load m) .pre in record { small = omega (arith, known-below _ (printable m .sized .plan-known)); room = omega arith }
+    let ask = start (load m) .pre in record { small = plan-small _ (printable m .sized .plan-known); room = omega arith }
 
 slice-aggregate-put-item-2 : tie.Need-slice-aggregate-put-item-2
 slice-aggregate-put-item-2 c = search needs

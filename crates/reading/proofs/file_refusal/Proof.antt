@@ -13,8 +13,8 @@ use Rattle.fills.specs.Lists.{same}
 use Rattle.plans.specs.Plan.{fileLength, planOf, known}
 use Rattle.plans.specs.Refusal.{unasked}
 use Rattle.plans.proofs.Refusals.{passes, fails}
-use Rattle.words.specs.Words.{bytes2}
 use Rattle.files.specs.File.{headerSize, headerOf, planIn, fileRefusal}
+use Rattle.files.proofs.Stripes.{length-header}
 use Rattle.reading.proofs.file_refusal.Statement.{statement}
 use Rattle.reading.proofs.file_refusal.Tie as tie
 
@@ -89,10 +89,9 @@ slice-aggregate-same-2 : tie.Need-slice-aggregate-same-2
 slice-aggregate-same-2 c = search needs
 
 same-requires : tie.Need-same-requires
-unfolding bytes2 headerOf
 same-requires c κs =
     let head = c .before .before in
-    let e = at1 (head .before .before) in length-take-le headerSize (file e) (e .if1 .left) ∙ sym (ap length (head .header-of .ensures))
+    let e = at1 (head .before .before) in length-take-le headerSize (file e) (e .if1 .left) ∙ sym (ap length (head .header-of .ensures) ∙ length-header _)
 
 returns-3 : tie.Need-returns-3
 unfolding fileRefusal

@@ -2,8 +2,9 @@
 use mathlib.Core.Path.{ap, _∙_}
 use native.Mathlib.Omega.{arith}
 use borrow.Author.Needs.{needs}
-use Rattle.words.specs.Words.{bytes2}
+use Rattle.words.specs.Words.{bytesOf}
 use Rattle.words.proofs.Writing.{put-whole}
+use Rattle.shelf.specs.Calls.{sizeRoom}
 use Rattle.shelf.proofs.Telling.{tells-no-text, tells-no-size, tells}
 use Rattle.shelf.proofs.shelf_text.Statement.{statement}
 use Rattle.shelf.proofs.shelf_text.Tie as tie
@@ -52,7 +53,7 @@ returns-3 c =
     let text = bytes .before .text .ensures in
     tells _ _ _ (fits .before .if1 .left) (fits .if2 .left)
     (put .put-room .ensures ∙ text .1)
-    (put-whole (told .put .ensures) (omega (arith, fits .if2 .left)) ∙ bytes .size-bytes .ensures ∙ ap bytes2 (text .0))
+    (put-whole (told .put .ensures) (omega (arith, fits .if2 .left)) ∙ bytes .size-bytes .ensures ∙ ap (bytesOf sizeRoom) (text .0))
 
 pub shelf-text-spec : {M : Type 1} → statement M
 shelf-text-spec =

@@ -9,7 +9,7 @@ use Rattle.systems.proofs.find_dependency.Tie as tie
 
 returns : tie.Need-returns
 returns c = let s = c .before .before .before .before in
-    dependent-no _ (our-field (s .args .q)) _ _ _ _ _ _ _ (s .pre .0 .form) (s .pre .1) (c .if1 .taken)
+    dependent-no _ (our-field (s .args .q)) _ _ _ _ _ _ _ (s .pre .readable .form) (s .pre .loose) (c .if1 .taken)
 
 read-off-requires : tie.Need-read-off-requires
 read-off-requires c κs = search needs
@@ -23,8 +23,8 @@ same-length c = search needs
 returns-2 : tie.Need-returns-2
 returns-2 c = let s = c .before .before .before .before .before .before .before .before in
     let z = c .before .before .read-off .last .1 .1 .1 .1 .1 .1 .1 .0 in
-    dependent-yes _ (our-field (s .args .q)) _ _ _ _ _ _ _ _ (s .pre .0 .form) (omega arith)
-    (free-away _ _ _ _ _ _ (s .pre .0 .form) (s .pre .1)) (λ i. s .pre .0 .elements _) (c .before .before .read-off .ensures)
+    dependent-yes _ (our-field (s .args .q)) _ _ _ _ _ _ _ _ (s .pre .readable .form) (omega arith)
+    (free-away _ _ _ _ _ _ (s .pre .readable .form) (s .pre .loose)) (λ i. s .pre .readable .elements _) (c .before .before .read-off .ensures)
     (λ j ne. getD-set-other z _ j 1 0 ne) (getD-set-same z _ 1 0 (omega (arith, c .before .before .read-off .kept .1 .1 .1 .1 .1 .1 .1 .0)))
 
 pub find-dependency-spec : {M : Type 1} → statement M

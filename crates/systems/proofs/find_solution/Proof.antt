@@ -10,7 +10,7 @@ add-find-row : tie.Need-add-find-row
 add-find-row c = search needs
 
 find-row-requires : tie.Need-find-row-requires
-find-row-requires c κs = let s = c .before .before .before in (omega arith, s .pre .form .rows, omega arith)
+find-row-requires c κs = let s = c .before .before .before in record { rows = omega arith; row = s .pre .form .rows; column = omega arith }
 
 returns : tie.Need-returns
 returns c = let s = c .before .before .before .before .before in

@@ -17,7 +17,7 @@ solution-at c = c .before .before .before .before .before .before
 
 reduce-requires : tie.Need-reduce-requires
 reduce-requires c κs = let asked = c .before .before .before .before .before .before .before .pre in
-    record { products = asked .products; rows = asked .rows; pivots = asked .pivots; elements = asked .elements }
+    record { products = asked .products; rows = asked .rows; width = omega (arith, asked .solution); pivots = asked .pivots; elements = asked .elements }
 
 find-solution-requires : tie.Need-find-solution-requires
 find-solution-requires c κs =
@@ -26,7 +26,7 @@ find-solution-requires c κs =
     let reduced = at .reduce in
     record {
       rows = omega (arith, reduced .kept .1 .1 .0);
-      pivots = omega (arith, reduced .kept .1 .1 .1 .1 .1 .0, reduced .ensures .form .cols, asked .pivots);
+      pivots = omega (arith, reduced .kept .1 .1 .1 .1 .1 .0, reduced .ensures .form .rows, asked .pivots);
       room = asked .solution;
       column = omega arith;
       elements = reduced .ensures .elements;
@@ -37,17 +37,18 @@ find-dependency-requires : tie.Need-find-dependency-requires
 find-dependency-requires c κs =
     let at = reduced-at (c .before .before .before .before .before) in
     let asked = start at .pre in
-    let reduced = at .reduce in (
-      record {
+    let reduced = at .reduce in
+    record {
+      readable = record {
         rows = omega (arith, reduced .kept .1 .1 .0, asked .rows);
-        pivots = omega (arith, reduced .kept .1 .1 .1 .1 .1 .0, reduced .ensures .form .cols, asked .pivots);
+        pivots = omega (arith, reduced .kept .1 .1 .1 .1 .1 .0, reduced .ensures .form .rows, asked .pivots);
         room = asked .dependency;
         column = free-in _ _ _ _ (reduced .ensures .column);
         elements = reduced .ensures .elements;
         form = reduced .ensures .form;
-      },
-      reduced .ensures .column,
-    )
+      };
+      loose = reduced .ensures .column;
+    }
 
 same-length : tie.Need-same-length
 same-length c = reduced-at (solution-at (c .before .before)) .reduce .kept .1 .1 .0

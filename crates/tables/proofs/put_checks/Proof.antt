@@ -5,11 +5,11 @@ use Prim.Native.Nat.{ℕ, _≤_, zero-le}
 use borrow.Author.Needs.{needs}
 use lib.ListN.{length}
 use Rattle.field.specs.Lists.{upFrom}
-use Rattle.field.specs.Field.{_⊕_, size, double, times, mul, gf16, gf32}
+use Rattle.field.specs.Field.{_⊕_, size, double, times, mul, gf16, gf32, gf64}
 use Rattle.field.specs.Power.{power}
 use Rattle.field.proofs.Words.{_&_}
 use Rattle.words.specs.Written.{Put}
-use Rattle.plans.specs.Plan.{Plan, allOnes, bitChecks, locations1, plan1, locations2, powers2, plan2, locations3, powers3, plan3, noPlan, planOf, checksTo}
+use Rattle.plans.specs.Plan.{Plan, allOnes, bitChecks, locations1, elements, powerBits, binaryPlan, plan1, plan2, plan5, locations3, powers3, plan3, noPlan, planOf, checksTo}
 use Rattle.plans.specs.Tables.{checkTable}
 use Rattle.plans.proofs.Plans.{unknown}
 use Rattle.tables.proofs.put_checks.Statement.{statement}
@@ -39,7 +39,7 @@ slice-aggregate-put-2 : tie.Need-slice-aggregate-put-2
 slice-aggregate-put-2 c = search needs
 
 put-requires-2 : tie.Need-put-requires-2
-unfolding upFrom flatMap allOnes bitChecks locations2 powers2 plan2 planOf checksTo checkTable
+unfolding upFrom flatMap size gf32 allOnes bitChecks elements powerBits binaryPlan plan2 planOf checksTo checkTable
 put-requires-2 c κs = fits-at (c .before .before .match .keys2) (c .before .before .before .before .pre)
 
 slice-aggregate-put-3 : tie.Need-slice-aggregate-put-3
@@ -48,6 +48,13 @@ slice-aggregate-put-3 c = search needs
 put-requires-3 : tie.Need-put-requires-3
 unfolding upFrom flatMap locations3 powers3 plan3 planOf checksTo checkTable
 put-requires-3 c κs = fits-at (c .before .before .match .keys3) (c .before .before .before .before .pre)
+
+slice-aggregate-put-4 : tie.Need-slice-aggregate-put-4
+slice-aggregate-put-4 c = search needs
+
+put-requires-4 : tie.Need-put-requires-4
+unfolding upFrom flatMap size gf64 allOnes bitChecks elements powerBits binaryPlan plan5 planOf checksTo checkTable
+put-requires-4 c κs = fits-at (c .before .before .match .keys4) (c .before .before .before .before .pre)
 
 same-length : tie.Need-same-length
 same-length c = search needs
@@ -60,7 +67,7 @@ same-length-2 : tie.Need-same-length-2
 same-length-2 c = search needs
 
 returns-2 : tie.Need-returns-2
-unfolding upFrom flatMap _⊕_ size double times mul gf32 power allOnes bitChecks locations2 powers2 plan2 planOf checksTo checkTable
+unfolding upFrom flatMap _⊕_ size double times mul gf32 power allOnes bitChecks elements powerBits binaryPlan plan2 planOf checksTo checkTable
 returns-2 c = puts-at (c .before .before .before .before .before .match .keys2) (c .before .before .put2 .ensures)
 
 same-length-3 : tie.Need-same-length-3
@@ -70,9 +77,15 @@ returns-3 : tie.Need-returns-3
 unfolding upFrom flatMap _⊕_ size double times mul gf16 power locations3 powers3 plan3 planOf checksTo checkTable
 returns-3 c = puts-at (c .before .before .before .before .before .match .keys3) (c .before .before .put3 .ensures)
 
+same-length-4 : tie.Need-same-length-4
+same-length-4 c = search needs
+
 returns-4 : tie.Need-returns-4
-unfolding upFrom
-returns-4 c = puts-none (unknown _ (c .match .rest .0 .0 .1 & c .match .rest .0 .1 & c .match .rest .1 & tt))
+unfolding upFrom flatMap _⊕_ size double times mul gf64 power allOnes bitChecks elements powerBits binaryPlan plan5 planOf checksTo checkTable
+returns-4 c = puts-at (c .before .before .before .before .before .match .keys4) (c .before .before .put4 .ensures)
+
+returns-5 : tie.Need-returns-5
+returns-5 c = puts-none (unknown _ (c .match .rest .0 .0 .0 .1 & c .match .rest .0 .0 .1 & c .match .rest .0 .1 & c .match .rest .1 & tt))
 
 pub put-checks-spec : {M : Type 1} → statement M
 put-checks-spec =
@@ -84,10 +97,14 @@ put-checks-spec =
     put-requires-2
     slice-aggregate-put-3
     put-requires-3
+    slice-aggregate-put-4
+    put-requires-4
     same-length
     returns
     same-length-2
     returns-2
     same-length-3
     returns-3
-    returns-4)
+    same-length-4
+    returns-4
+    returns-5)

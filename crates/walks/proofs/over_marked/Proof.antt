@@ -9,6 +9,7 @@ use denote.Ref.{now}
 use lib.Count.{ones, ones-le}
 use lib.Dec.{ltb}
 use lib.ListN.{getD}
+use Rattle.words.specs.Words.{wordBits}
 use Rattle.plans.proofs.Scan.{Passing, passing-none, passing-more, passing-all}
 use Rattle.walks.proofs.Over.{over-bits, over-not, over-all}
 use Rattle.walks.proofs.over_marked.Statement.{statement}
@@ -44,7 +45,7 @@ cast-if3 : tie.Need-cast-if3 Inv-loop μ-loop
 cast-if3 c =
     let loop = c .before .before .loop in
     let args = c .before .before .before .before .before .before .before .args in
-    omega (arith, ones-le 32 (getD (now (args .marks)) (loop .r) 0) (omega (arith, c .shared-slice-known2 .given (loop .r))))
+    omega (arith, ones-le wordBits (getD (now (args .marks)) (loop .r) 0) (omega (arith, c .shared-slice-known2 .given (loop .r))))
 
 returns-2 : tie.Need-returns-2 Inv-loop μ-loop
 returns-2 c =

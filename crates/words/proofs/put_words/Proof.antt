@@ -1,41 +1,46 @@
--- After r turns the bytes of the first r words are written, four for each. Assumes nothing.
-use mathlib.Core.Path.{ap, _≡_, refl}
-use Prim.Native.Nat.{_+_, _*_, _-_}
+-- After r turns the bytes of the first r words are written, `size` for each. Assumes nothing.
+use mathlib.Core.Path.{_≡_, refl, ap}
+use Prim.Native.Nat.{_+_, _-_, _*_, _≤_}
+use native.Mathlib.Nat.{mul-zero, mul-suc}
+use native.Mathlib.Numerals.{add-one}
 use native.Mathlib.Omega.{arith}
 use borrow.Author.Needs.{needs}
-use lib.ListN.{length}
-use Rattle.words.specs.Words.{bytes4}
+use denote.Ref.{now}
+use lib.ListN.{length, getD}
+use Rattle.words.specs.Words.{bytesOf}
+use Rattle.words.proofs.Bytes.{word-inside, length-bytes-of}
 use Rattle.words.proofs.Writing.{Joining, joining-starts, joining-length, joining-turns, joining-ends}
 use Rattle.words.proofs.put_words.Statement.{statement}
 use Rattle.words.proofs.put_words.Tie as tie
 
 abbrev Inv-loop : tie.InvT-loop
-Inv-loop words out₀ at next₀ r₀ r-end out next r = (r-end ≡ length words) × (next ≡ at + 4 * r) × Joining bytes4 out₀ at words r out next
+Inv-loop words size out₀ at next₀ r₀ r-end out next r =
+    (r-end ≡ length words) × (next ≡ at + size * r) × Joining (bytesOf size) out₀ at words r out next
 
 abbrev μ-loop : tie.MeasureT-loop
-μ-loop words out₀ at next₀ r₀ r-end out next r = length words - r
+μ-loop words size out₀ at next₀ r₀ r-end out next r = length words - r
+
+-- from a turn of the loop: the start, and that there is room for word r
+abbrev start : tie.In-loop Inv-loop μ-loop → tie.Start Inv-loop μ-loop
+start c = c .before .before .before .before
+
+inside : (c : tie.In-loop Inv-loop μ-loop) → let a = start c .args in
+    a .at + a .size * c .before .loop .r + a .size ≤ length (now (a .out))
+inside c = omega (arith, word-inside (start c .args .size) (c .before .loop .r) (length (now (start c .args .words))) (omega arith), start c .pre)
 
 loop-holds : tie.Need-loop-holds Inv-loop μ-loop
-loop-holds c = (refl, omega arith, joining-starts bytes4 _ _ _)
+loop-holds c = (refl, omega (arith, mul-zero (c .before .before .args .size)), joining-starts _ _ _ _)
 
-mul-word-bytes : tie.Need-mul-word-bytes Inv-loop μ-loop
-mul-word-bytes c = search needs
+mul-put-word : tie.Need-mul-put-word Inv-loop μ-loop
+mul-put-word c = search needs
 
-shared-slice-read-word-bytes : tie.Need-shared-slice-read-word-bytes Inv-loop μ-loop
-shared-slice-read-word-bytes c = search needs
+shared-slice-read-put-word : tie.Need-shared-slice-read-put-word Inv-loop μ-loop
+shared-slice-read-put-word c = search needs
 
-word-bytes-requires : tie.Need-word-bytes-requires Inv-loop μ-loop
-word-bytes-requires c κs = search needs
-
-slice-aggregate-put : tie.Need-slice-aggregate-put Inv-loop μ-loop
-slice-aggregate-put c = search needs
-
-put-requires : tie.Need-put-requires Inv-loop μ-loop
-unfolding bytes4
-put-requires c κs =
-    let word-bytes = c .before .before .word-bytes in
-    let loop = c .before .before .before .before .before .loop in
-    omega (arith, ap length (word-bytes .ensures), joining-length bytes4 _ _ _ (loop .inv .2))
+put-word-requires : tie.Need-put-word-requires Inv-loop μ-loop
+put-word-requires c κs =
+    let turn = c .before .before in
+    let l = turn .before .loop in omega (arith, inside turn, l .inv .1, joining-length _ _ _ _ (l .inv .2))
 
 add-r : tie.Need-add-r Inv-loop μ-loop
 add-r c = search needs
@@ -44,20 +49,25 @@ loop-less : tie.Need-loop-less Inv-loop μ-loop
 loop-less c = search needs
 
 loop-again : tie.Need-loop-again Inv-loop μ-loop
-unfolding bytes4
 loop-again c =
-    let l = c .before .before .before .before .before .before .before .before .loop in
-    let put = c .before .before .put .ensures in (
+    let turn = c .before .before .before .before .before in
+    let l = turn .before .loop in
+    let a = start turn .args in
+    let put = c .before .before .put-word .ensures in (
       refl,
-      omega (arith, put .reached, ap length (c .before .before .before .before .before .word-bytes .ensures)),
-      joining-turns bytes4 _ _ _ (l .inv .2) (omega arith) (c .before .before .before .before .before .word-bytes .ensures) (put .written) (put .reached),
+      omega (arith, put .reached, length-bytes-of (a .size) (getD (now (a .words)) (l .r) 0), l .inv .1, ap (λ k. a .size * k) (add-one (l .r)), mul-suc (a .size) (l .r)),
+      joining-turns _ _ _ _ (l .inv .2) (omega arith) refl (put .written) (put .reached),
     )
 
 same-length : tie.Need-same-length Inv-loop μ-loop
-same-length c = joining-length bytes4 _ _ _ (c .before .loop .inv .2)
+same-length c = joining-length _ _ _ _ (c .before .loop .inv .2)
 
 returns : tie.Need-returns Inv-loop μ-loop
-returns c = joining-ends bytes4 _ _ _ (c .before .loop .inv .2) (omega arith) (omega arith)
+returns c =
+    let l = c .before .loop in
+    let s = c .before .before .before .before in
+    let all : l .r ≡ length (now (s .args .words)) = omega (arith, l .inv .2 .within) in
+    joining-ends _ _ _ _ (l .inv .2) (omega arith) (omega (arith, l .inv .1, ap (λ k. s .args .size * k) all, s .pre))
 
 pub put-words-spec : {M : Type 1} → statement M
 put-words-spec =
@@ -66,11 +76,9 @@ put-words-spec =
     Inv-loop
     μ-loop
     loop-holds
-    mul-word-bytes
-    shared-slice-read-word-bytes
-    word-bytes-requires
-    slice-aggregate-put
-    put-requires
+    mul-put-word
+    shared-slice-read-put-word
+    put-word-requires
     add-r
     loop-less
     loop-again

@@ -1,5 +1,5 @@
 -- Each byte is a rest by 256, so it fits a byte; the two are those of the definition. Assumes nothing.
-use Rattle.words.specs.Words.{bytes2}
+use Rattle.words.specs.Words.{bytesOf}
 use borrow.Author.Needs.{needs}
 use Rattle.words.proofs.size_bytes.Statement.{statement}
 use Rattle.words.proofs.size_bytes.Tie as tie
@@ -11,7 +11,7 @@ cast-t6 : tie.Need-cast-t6
 cast-t6 c = search needs
 
 returns : tie.Need-returns
-unfolding bytes2
+unfolding bytesOf
 returns c = search needs
 
 pub size-bytes-spec : {M : Type 1} → statement M

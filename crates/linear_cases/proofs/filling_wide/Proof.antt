@@ -1,0 +1,101 @@
+-- `filling_wide`: what is lent is the field's table and a check of its symbols. Assumes nothing.
+use mathlib.Core.Path.{_≡_, sym}
+use native.Mathlib.Omega.{arith}
+use borrow.Author.Needs.{needs}
+use lib.ListN.{length}
+use Rattle.field.proofs.Table.{lent, lent-length}
+use Rattle.gathering.specs.Most.{mostColumns}
+use Rattle.linear_cases.proofs.Symbols.{symbols-elements}
+use Rattle.linear_cases.proofs.filling_wide.Statement.{statement}
+use Rattle.linear_cases.proofs.filling_wide.Tie as tie
+
+products-requires : tie.Need-products-requires
+products-requires c κs = search needs
+
+entries-requires : tie.Need-entries-requires
+entries-requires c κs = search needs
+
+array-share-prefix-table : tie.Need-array-share-prefix-table
+array-share-prefix-table c = search needs
+
+slice-aggregate-fill : tie.Need-slice-aggregate-fill
+slice-aggregate-fill c = sym (lent-length (c .before .before .products .ensures) (c .before .entries .ensures .0))
+
+slice-aggregate-fill-2 : tie.Need-slice-aggregate-fill-2
+slice-aggregate-fill-2 c = search needs
+
+slice-aggregate-fill-3 : tie.Need-slice-aggregate-fill-3
+slice-aggregate-fill-3 c = search needs
+
+slice-aggregate-fill-4 : tie.Need-slice-aggregate-fill-4
+slice-aggregate-fill-4 c = search needs
+
+fill-requires : tie.Need-fill-requires
+fill-requires c κs =
+    let lending = c .before .before .before .before in
+    let s = lending .before .before in
+    let width : length (s .args .v) ≡ mostColumns = search needs in
+    let rows : length (s .args .t3) ≡ 1 = search needs in
+    let size : length (s .args .t2) ≡ mostColumns = search needs in
+    record {
+      products = lent (s .args .q) (lending .before .products .ensures) (lending .entries .ensures .1);
+      few = omega arith;
+      narrow = omega arith;
+      shape = rw (width, rows) size;
+      within = rw width (s .pre .within);
+      coefficients = symbols-elements _ (s .args .t2) (s .pre .coefficients);
+      sums = symbols-elements _ (s .args .t3) (s .pre .sums);
+    }
+
+sub-other : tie.Need-sub-other
+sub-other c = search needs
+
+array-read-other : tie.Need-array-read-other
+array-read-other c = search needs
+
+sub-last : tie.Need-sub-last
+sub-last c = search needs
+
+array-read-last : tie.Need-array-read-last
+array-read-last c = search needs
+
+outcome-requires : tie.Need-outcome-requires
+outcome-requires c κs = search needs
+
+digit-requires : tie.Need-digit-requires
+digit-requires c κs = search needs
+
+digit-requires-2 : tie.Need-digit-requires-2
+digit-requires-2 c κs = search needs
+
+slice-aggregate-write-all : tie.Need-slice-aggregate-write-all
+slice-aggregate-write-all c = search needs
+
+write-all-requires : tie.Need-write-all-requires
+write-all-requires c κs = search needs
+
+returns : tie.Need-returns
+returns c = search needs
+
+pub filling-wide-spec : {M : Type 1} → statement M
+filling-wide-spec =
+    tie.close
+    (tie.spec
+    products-requires
+    entries-requires
+    array-share-prefix-table
+    slice-aggregate-fill
+    slice-aggregate-fill-2
+    slice-aggregate-fill-3
+    slice-aggregate-fill-4
+    fill-requires
+    sub-other
+    array-read-other
+    sub-last
+    array-read-last
+    outcome-requires
+    digit-requires
+    digit-requires-2
+    slice-aggregate-write-all
+    write-all-requires
+    returns)

@@ -1,0 +1,2 @@
+-- What is read is enough. Assumes nothing.
+pub mod Input

@@ -1,0 +1,2 @@
+-- How much of the input decides what is printed.
+pub mod Input
