@@ -11,7 +11,7 @@ use std::ffi::c_void;
 
 /// Bytes of stack that one mending and one row step may take, whatever the plan.
 const MENDING: usize = 5120;
-const ROW_STEP: usize = 4608;
+const ROW_STEP: usize = 4096;
 /// Calls of each kind of marks and of stripe.
 const CALLS_OF_A_KIND: usize = 3;
 

@@ -3,6 +3,7 @@ use Prim.Native.Nat.{ℕ, _<_}
 use mathlib.Core.Path.{_≡_}
 use mathlib.Core.List.{List}
 use lib.ListN.{length}
+use Rattle.plans.specs.Rooms.{rowRoom}
 use Rattle.plans.specs.declared.Bench.{Bench}
 use Rattle.words.specs.Words.{byteRange}
 use Rattle.layout.specs.Layout.{benchSize}
@@ -16,3 +17,8 @@ pub record Small (b : Bench) : Type 0 where
 pub record BenchPut (b : Bench) (out : List ℕ) : Type 0 where
   pub small : Small b
   pub fits : length out ≡ benchSize
+
+-- a bench's bytes, and a row of which they hold the mark word
+pub record MarkPut (bytes : List ℕ) (row : ℕ) : Type 0 where
+  pub fits : length bytes ≡ benchSize
+  pub inside : row < rowRoom

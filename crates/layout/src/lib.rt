@@ -8,15 +8,18 @@ use plans::Report;
 use plans::SYMBOLS;
 ghost use mathlib.Core.Path.{_≡_};
 ghost use mathlib.Core.List.{_++_};
+ghost use Prim.Native.Nat.{_+_, _*_};
 ghost use lib.Dec.{T};
 ghost use lib.ListN.{length, replicate};
+ghost use lib.Seq.{sets};
 ghost use Rattle.plans.specs.Plan.{planOf};
 ghost use Rattle.plans.specs.Answers.{placeValues, endValues, reportValues};
 ghost use Rattle.plans.specs.Refusal.{allBelow};
 ghost use Rattle.plans.specs.Tables.{padded};
-ghost use Rattle.layout.specs.Layout.{reportSize, placeBytes, reportBytes, benchSize, benchBytes, benchIn};
-ghost use Rattle.layout.specs.Parts.{Small, BenchPut};
-ghost use Rattle.words.specs.Words.{byteRange};
+ghost use Rattle.layout.specs.Layout.{reportSize, placeBytes, reportBytes};
+ghost use Rattle.layout.specs.Layout.{markSize, marksFrom, benchSize, benchBytes, benchIn};
+ghost use Rattle.layout.specs.Parts.{Small, BenchPut, MarkPut};
+ghost use Rattle.words.specs.Words.{byteRange, bytesOf};
 
 // How many bytes a report has.
 pub const REPORT: usize = 8;
@@ -24,9 +27,9 @@ pub const REPORT: usize = 8;
 // How many bytes a bench has, where its symbols, its mark words and its sums begin, and how many bytes each mark word has.
 pub const BENCH: usize = AT_SUMS + LEARNED;
 
-const AT_SYMBOLS: usize = 2;
+pub const AT_SYMBOLS: usize = 2;
 
-const AT_MARKS: usize = AT_SYMBOLS + SYMBOLS;
+pub const AT_MARKS: usize = AT_SYMBOLS + SYMBOLS;
 
 const AT_SUMS: usize = AT_MARKS + MARK * ROWS;
 
@@ -77,7 +80,27 @@ pub fn report_bytes(plan: usize, report: Report) -> [u8; REPORT]
 
 // ---- a bench
 
-// The bench that these bytes are.
+// The mark words of the bench that these bytes are.
+pub fn marks_in(bytes: &[u8]) -> [u64; ROWS]
+    requires { ⌜ length (now bytes) ≡ benchSize ⌝ }
+    ensures { λ r. ⌜ r ≡ benchIn (now (bytes .entry)) .marks ⌝ }
+{
+    let mut marks = [0u64; ROWS];
+    words::read_words(bytes, AT_MARKS, MARK, &mut marks);
+    marks
+}
+
+// Its learned sums.
+pub fn sums_in(bytes: &[u8]) -> [u8; LEARNED]
+    requires { ⌜ length (now bytes) ≡ benchSize ⌝ }
+    ensures { λ r. ⌜ r ≡ benchIn (now (bytes .entry)) .sums ⌝ }
+{
+    let mut sums = [0u8; LEARNED];
+    words::put(&bytes[AT_SUMS..BENCH], &mut sums, 0);
+    sums
+}
+
+// The whole bench.
 pub fn bench_in(bytes: &[u8]) -> Bench
     requires { ⌜ length (now bytes) ≡ benchSize ⌝ }
     ensures { λ r. ⌜ r ≡ benchIn (now (bytes .entry)) ⌝ }
@@ -85,17 +108,21 @@ pub fn bench_in(bytes: &[u8]) -> Bench
 {
     let mut symbols = [0u8; SYMBOLS];
     words::put(&bytes[AT_SYMBOLS..AT_MARKS], &mut symbols, 0);
-    let mut marks = [0u64; ROWS];
-    words::read_words(bytes, AT_MARKS, MARK, &mut marks);
-    let mut sums = [0u8; LEARNED];
-    words::put(&bytes[AT_SUMS..BENCH], &mut sums, 0);
     Bench {
         plan: bytes[0] as usize,
         level: bytes[1] as usize,
         symbols: symbols,
-        marks: marks,
-        sums: sums,
+        marks: marks_in(bytes),
+        sums: sums_in(bytes),
     }
+}
+
+// Writes the mark word of row `row` into a bench's bytes. The others are unchanged.
+pub fn put_mark(bench: &mut [u8], row: usize, word: u64)
+    requires { ⌜ MarkPut (now bench) row ⌝ }
+    ensures { λ _. ⌜ now (bench .exit) ≡ sets (now (bench .entry)) (marksFrom + markSize * row) (bytesOf markSize word) ⌝ }
+{
+    words::put_words(&[word], MARK, bench, AT_MARKS + MARK * row);
 }
 
 // Writes a bench's bytes over the whole of `out`.

@@ -58,7 +58,7 @@ pub fn fill_row(
 }
 
 // The row step on the parts of a bench: symbols and marks become those of the bench that it leaves; plan, level and sums stay.
-fn step_row(
+pub fn step_row(
     plan: usize,
     level: usize,
     symbols: &mut [u8],

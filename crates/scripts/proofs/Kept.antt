@@ -9,7 +9,7 @@ use native.Mathlib.Nat.{le-of-eq, le-trans, add-sub-of-le, pow-suc}
 use native.Mathlib.Omega.{arith}
 use borrow.Author.Tests.{eqb-true, eqb-false}
 use lib.Dec.{T, eqb, ltb, ltb→lt, nltb→le}
-use lib.ListN.{length, take, drop, getD, set, replicate, length-append, length-take, length-drop, length-replicate, getD-replicate}
+use lib.ListN.{length, take, drop, getD, set, replicate, length-append, length-replicate, getD-replicate}
 use lib.Pow.{pow-pos, pow-mono}
 use lib.Seq.{take-add, take-all, take-at, drop-at, ext-getD, getD-append-add, getD-set-same, getD-set-other}
 use Rattle.field.specs.Lists.{if_then_else_}
@@ -34,9 +34,10 @@ use Rattle.files.proofs.Laws.{bytes-fit}
 use Rattle.words.proofs.Bytes.{word-behind, words-bytes, words-at, length-words-at, getD-words-at}
 use Rattle.numbers.proofs.Values.{below-at}
 use Rattle.layout.specs.Layout.{markSize, symbolsFrom, marksFrom, sumsFrom, benchSize, benchBytes, benchIn}
-use Rattle.layout.proofs.Benches.{length-words, bench-length}
+use Rattle.layout.proofs.Benches.{length-words, bench-length, first-two}
 use Rattle.shelf.specs.Calls.{stepAnswer, stepBuffer}
 use Rattle.shelf.proofs.Sizing.{sized-fit, sized-unfit}
+use Rattle.shelf.proofs.Rows.{sized-in}
 use Rattle.scripts.specs.Kept.{OfCode, ReadOfCode, StartOfCode, RowStepOfCode, LevelStepOfCode, WrittenLong, WrittenIsRead, ReadIsWritten, RowStepStays, LevelStepStays}
 
 -- ---- what was written is read
@@ -86,11 +87,6 @@ written-is-read b c =
 
 -- ---- what was read is written
 
-first-two : (l : List ℕ) → 2 ≤ length l → take 2 l ≡ getD l 0 0 ∷ getD l 1 0 ∷ []
-first-two [] h = absurd (omega arith)
-first-two (x ∷ []) h = absurd (omega arith)
-first-two (x ∷ y ∷ l) h = refl
-
 pub read-is-written : ReadIsWritten
 unfolding benchBytes benchIn
 read-is-written l t e =
@@ -103,14 +99,6 @@ read-is-written l t e =
 -- arrays of the code's sizes, and mark words of so many bits
 of-code : (b : Bench) → Sized b → ((r : ℕ) → r < rowRoom → getD (b .marks) r 0 < 2 ^ wordBits) → OfCode b
 of-code b s h = record { symbols = s .symbols; marks = s .marks; words = h; sums = s .sums }
-
-sized-in : (l : List ℕ) → length l ≡ benchSize → Sized (benchIn l)
-unfolding benchIn
-sized-in l e = record {
-  symbols = simp (length-take, length-drop) (omega arith);
-  marks = length-words-at markSize l marksFrom rowRoom;
-  sums = simp (length-take, length-drop) (omega arith);
-}
 
 -- n bytes are a number below the range of so many
 number-lt : (n : ℕ) (l : List ℕ) → T (allBelow byteRange l) → (i : ℕ) → i + n ≤ length l → numberAt n l i < byteRange ^ n

@@ -14,7 +14,7 @@ use Rattle.fills.specs.Lists.{all}
 use Rattle.plans.specs.Plan.{planOf}
 use Rattle.plans.specs.Answers.{answerValues, reportValues}
 use Rattle.plans.specs.Refusal.{unasked, allBelow, lentRefusal, benchRefusal}
-use Rattle.steps.specs.Steps.{fresh, empty, startedBy, started, stepped, unlessRefused, rowStep, Learned, blocked, failing, learned, levelFill, raise, levelStepBy, levelStep}
+use Rattle.steps.specs.Steps.{fresh, empty, startedBy, started, stepped, unlessRefused, Learned, blocked, failing, learned, levelFill, raise, levelStepBy, levelStep}
 use Rattle.repair.specs.Mending.{mendReport}
 use Rattle.texts.specs.Parts.{numbers}
 use Rattle.rounds.specs.Reports.{bare}
@@ -27,7 +27,7 @@ use Rattle.plans.proofs.Plans.{shape}
 use Rattle.words.specs.Words.{byteRange}
 use Rattle.layout.specs.Parts.{Small}
 use Rattle.steps.proofs.Fit.{lent-fit, bench-fit}
-use Rattle.steps.proofs.Sound.{row-keeps, level-plan}
+use Rattle.steps.proofs.Sound.{level-plan}
 use Rattle.files.proofs.Stripes.{known-below}
 use Rattle.printing.proofs.Printing.{report-below}
 
@@ -77,14 +77,6 @@ module _ (b : Bench) where
       go (suc n) e c f l = h
 
 module _ (b : Bench) {s : Stepped} (small : Small b) where
-  pub row-small : (r : ℕ) → s ≡ rowStep b r → Small (s .bench)
-  row-small r e =
-      subst (λ (s : Stepped). Small (s .bench)) (sym e)
-      record {
-        plan = subst (λ p. p < byteRange) (sym (row-keeps b r .0)) (small .plan);
-        level = subst (λ t. t < byteRange) (sym (row-keeps b r .1)) (small .level);
-      }
-
   pub level-small : s ≡ levelStep b → Small (s .bench)
   level-small e =
       subst (λ (s : Stepped). Small (s .bench)) (sym e)

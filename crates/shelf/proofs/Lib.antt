@@ -3,4 +3,5 @@ pub mod Sizing
 pub mod Fitting
 pub mod Mending
 pub mod Benches
+pub mod Rows
 pub mod Telling

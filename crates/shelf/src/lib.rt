@@ -1,4 +1,5 @@
 // The repair library under C names, on numbers and lent buffers. Each function answers for every input by its answer's number.
+use plans::ROWS;
 ghost use mathlib.Core.Path.{_≡_};
 ghost use lib.ListN.{length};
 ghost use Rattle.plans.specs.Answers.{verdictNumber};
@@ -32,7 +33,7 @@ pub extern "C" fn shelf_start(plan: usize, stripe: &[u8], marks: &[u64], bench: 
     numbers::of_outcome(answer)
 }
 
-// The row step: fills the row's marked symbols and clears its marks, or leaves the bench as it was.
+// The row step: fills the row's marked symbols and clears its marks, or leaves the bench as it was. The symbols are filled in the buffer.
 #[no_mangle]
 pub extern "C" fn shelf_row_step(bench: &mut [u8], row: usize) -> usize
     ensures { λ r. ⌜ r ≡ stepAnswer (λ b. rowStep b row) (now (bench .entry)) ⌝ }
@@ -41,11 +42,25 @@ pub extern "C" fn shelf_row_step(bench: &mut [u8], row: usize) -> usize
     if bench.len() != layout::BENCH {
         return 11;
     }
-    let stepped = repair::row_step(layout::bench_in(&bench[..]), row);
-    let answer = stepped.answer;
-    let after = stepped.bench;
-    layout::put_bench(after, bench);
-    numbers::of_step(answer)
+    let plan = bench[0] as usize;
+    let level = bench[1] as usize;
+    let mut marks = layout::marks_in(&bench[..]);
+    let sums = layout::sums_in(&bench[..]);
+    let answer = rows::step_row(
+        plan,
+        level,
+        &mut bench[layout::AT_SYMBOLS..layout::AT_MARKS],
+        &mut marks,
+        &sums,
+        row,
+    );
+    let number = numbers::of_step(answer);
+    if ROWS <= row {
+        return number;
+    }
+    // of the mark words only the row's can have changed
+    layout::put_mark(bench, row, marks[row]);
+    number
 }
 
 // The level step: learns all rows' sums of the next level and raises the level by one, or leaves the bench as it was.

@@ -21,46 +21,32 @@ slice-aggregate-put c = search needs
 put-requires : tie.Need-put-requires
 put-requires c κs = search needs
 
-slice-aggregate-read-words : tie.Need-slice-aggregate-read-words
-slice-aggregate-read-words c = search needs
+shared-slice-read-t11 : tie.Need-shared-slice-read-t11
+shared-slice-read-t11 c = search needs
 
-read-words-requires : tie.Need-read-words-requires
-read-words-requires c κs = search needs
+cast-t3 : tie.Need-cast-t3
+cast-t3 c = omega (arith, c .shared-slice-known2 .given 0)
 
-sub-put-2 : tie.Need-sub-put-2
-sub-put-2 c = search needs
-
-part-put-start-2 : tie.Need-part-put-start-2
-part-put-start-2 c = search needs
-
-part-put-end-2 : tie.Need-part-put-end-2
-part-put-end-2 c = search needs
-
-slice-aggregate-put-2 : tie.Need-slice-aggregate-put-2
-slice-aggregate-put-2 c = search needs
-
-put-requires-2 : tie.Need-put-requires-2
-put-requires-2 c κs = search needs
-
-shared-slice-read-t21 : tie.Need-shared-slice-read-t21
-shared-slice-read-t21 c = search needs
+shared-slice-read-t13 : tie.Need-shared-slice-read-t13
+shared-slice-read-t13 c = search needs
 
 cast-t5 : tie.Need-cast-t5
-cast-t5 c = omega (arith, c .shared-slice-known2 .given 0)
+cast-t5 c = omega (arith, c .shared-slice-known3 .given 1)
 
-shared-slice-read-t23 : tie.Need-shared-slice-read-t23
-shared-slice-read-t23 c = search needs
+marks-in-requires : tie.Need-marks-in-requires
+marks-in-requires c κs = search needs
 
-cast-t7 : tie.Need-cast-t7
-cast-t7 c = omega (arith, c .shared-slice-known3 .given 1)
+sums-in-requires : tie.Need-sums-in-requires
+sums-in-requires c κs = search needs
 
 returns : tie.Need-returns
 returns c =
-    let sums = c .before .before .before in
-    let marks = sums .before .before .before .before in
-    let symbols = marks .before .before .before in (
-      bench-is _ (put-whole (symbols .put .ensures) (omega arith)) (marks .read-words .ensures) (put-whole (sums .put2 .ensures) (omega arith)),
-      record { plan = omega (arith, c .before .shared-slice-known2 .given 0); level = omega (arith, c .shared-slice-known3 .given 1) },
+    let marks = c .before in
+    let level = marks .before in
+    let plan = level .before in
+    let symbols = plan .before .before in (
+      bench-is _ (put-whole (symbols .put .ensures) (omega arith)) (marks .marks-in .ensures) (c .sums-in .ensures),
+      record { plan = omega (arith, plan .shared-slice-known2 .given 0); level = omega (arith, level .shared-slice-known3 .given 1) },
     )
 
 pub bench-in-spec : {M : Type 1} → statement M
@@ -72,15 +58,10 @@ bench-in-spec =
     part-put-end
     slice-aggregate-put
     put-requires
-    slice-aggregate-read-words
-    read-words-requires
-    sub-put-2
-    part-put-start-2
-    part-put-end-2
-    slice-aggregate-put-2
-    put-requires-2
-    shared-slice-read-t21
+    shared-slice-read-t11
+    cast-t3
+    shared-slice-read-t13
     cast-t5
-    shared-slice-read-t23
-    cast-t7
+    marks-in-requires
+    sums-in-requires
     returns)
