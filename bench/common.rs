@@ -6,7 +6,7 @@ pub const ROWS: usize = 12;
 pub const COLUMNS: usize = 64;
 pub const SYMBOLS: usize = 512;
 pub const SUMS: usize = 19;
-pub const TOTALS: usize = 2;
+pub const TOTALS: usize = 3;
 /// Bytes of a bench, and where its symbols, its mark words and its learned sums begin.
 pub const BENCH: usize = 838;
 pub const SYMBOLS_AT: usize = 2;
@@ -34,7 +34,7 @@ const fn product(x: u8, y: u8, modulus: u8, degree: u32) -> u8 {
             sum ^= x;
         }
         let carry = x >> (degree - 1) & 1;
-        x = (x << 1) & ((1 << degree) - 1) ^ carry * modulus;
+        x = (x << 1) & ((1u16 << degree) - 1) as u8 ^ carry * modulus;
         bit += 1;
     }
     sum
@@ -52,10 +52,15 @@ pub const fn times64(x: u8, y: u8) -> u8 {
     product(x, y, 0b000011, 6)
 }
 
+const fn times256(x: u8, y: u8) -> u8 {
+    product(x, y, 0b00011101, 8)
+}
+
 /// The product of two locations of a plan.
 pub const fn times_located(plan: usize, x: u8, y: u8) -> u8 {
     match plan {
         2 => times32(x, y),
+        4 => times256(x, y),
         5 => times64(x, y),
         _ => times16(x, y),
     }
@@ -100,15 +105,65 @@ static INVERSES: [u8; 16] = {
     table
 };
 
+/// Powers of a in GF(256), twice over, and the logarithms of all elements but 0.
+const EXPONENTIALS: [u8; 510] = {
+    let mut table = [1; 510];
+    let mut entry = 1;
+    while entry < 510 {
+        table[entry] = times256(table[entry - 1], 2);
+        entry += 1;
+    }
+    table
+};
+
+const LOGARITHMS: [u8; 256] = {
+    let mut table = [0; 256];
+    let mut exponent = 0;
+    while exponent < 255 {
+        table[EXPONENTIALS[exponent] as usize] = exponent as u8;
+        exponent += 1;
+    }
+    table
+};
+
+/// Products and inverses in GF(256).
+static BYTE_PRODUCTS: [[u8; 256]; 256] = {
+    let mut table = [[0; 256]; 256];
+    let mut x = 1;
+    while x < 256 {
+        let mut y = 1;
+        while y < 256 {
+            table[x][y] = EXPONENTIALS[LOGARITHMS[x] as usize + LOGARITHMS[y] as usize];
+            y += 1;
+        }
+        x += 1;
+    }
+    table
+};
+
+static BYTE_INVERSES: [u8; 256] = {
+    let mut table = [0; 256];
+    let mut x = 1;
+    while x < 256 {
+        table[x] = EXPONENTIALS[255 - LOGARITHMS[x] as usize];
+        x += 1;
+    }
+    table
+};
+
 pub fn times(x: u8, y: u8) -> u8 {
     PRODUCTS[(x as usize * 16 + y as usize) & 255]
+}
+
+pub fn times_bytes(x: u8, y: u8) -> u8 {
+    BYTE_PRODUCTS[x as usize][y as usize]
 }
 
 // ---- plans
 
 pub struct Plan {
     pub number: usize,
-    pub q: u8,
+    pub q: usize,
     pub rows: usize,
     pub columns: usize,
     pub levels: usize,
@@ -123,22 +178,25 @@ pub struct Plan {
 
 const ONES: [u8; ROWS] = [1; ROWS];
 
-pub const POWERS: [u8; ROWS] = {
+/// The weights w^r of a plan.
+const fn weights_of(plan: usize, w: u8) -> [u8; ROWS] {
     let mut powers = [1; ROWS];
     let mut row = 1;
     while row < ROWS {
-        powers[row] = times16(powers[row - 1], 2);
+        powers[row] = times_located(plan, powers[row - 1], w);
         row += 1;
     }
     powers
-};
+}
+
+pub const POWERS: [u8; ROWS] = weights_of(3, 2);
 
 /// The check places of eight rows: the same in seven of them.
 const fn places(first: u64, last: u64) -> [u64; ROWS] {
     [first, first, first, first, first, first, first, last, 0, 0, 0, 0]
 }
 
-static PLANS: [Plan; 4] = [
+static PLANS: [Plan; 5] = [
     Plan {
         number: 1,
         q: 2,
@@ -148,7 +206,7 @@ static PLANS: [Plan; 4] = [
         carried: 15,
         sums_to: [0, 1, 4, 4],
         totals: [0, 0, 1, 0],
-        weights: [[ONES; 2]; 4],
+        weights: [[ONES; TOTALS]; 4],
         check_places: [1 << 6, 1 << 6, 0b1110100, 0, 0, 0, 0, 0, 0, 0, 0, 0],
     },
     Plan {
@@ -160,7 +218,7 @@ static PLANS: [Plan; 4] = [
         carried: 198,
         sums_to: [0, 6, 11, 16],
         totals: [0, 0, 1, 1],
-        weights: [[ONES; 2]; 4],
+        weights: [[ONES; TOTALS]; 4],
         check_places: places(1 << 31 | 0x1f, 1 << 31 | 0x7fff),
     },
     Plan {
@@ -172,8 +230,23 @@ static PLANS: [Plan; 4] = [
         carried: 98,
         sums_to: [0, 2, 3, 7],
         totals: [0, 0, 2, 1],
-        weights: [[ONES; 2], [ONES; 2], [ONES, POWERS], [ONES; 2]],
+        weights: [[ONES; TOTALS], [ONES; TOTALS], [ONES, POWERS, ONES], [ONES; TOTALS]],
         check_places: [0x6000, 0x6000, 0x6000, 0x6000, 0x6000, 0x6000, 0x7000, 0x7f00, 0, 0, 0, 0],
+    },
+    Plan {
+        number: 4,
+        q: 256,
+        rows: 12,
+        columns: 24,
+        levels: 3,
+        carried: 253,
+        sums_to: [0, 2, 4, 9],
+        totals: [0, 0, 3, 1],
+        weights: [[ONES; TOTALS], [ONES; TOTALS], [ONES, weights_of(4, 2), weights_of(4, 4)], [ONES; TOTALS]],
+        check_places: [
+            0xc00000, 0xc00000, 0xc00000, 0xc00000, 0xc00000, 0xc00000, 0xc00000, 0xc00000, 0xc00000, 0xf00000, 0xf00000,
+            0xff8000,
+        ],
     },
     Plan {
         number: 5,
@@ -184,7 +257,7 @@ static PLANS: [Plan; 4] = [
         carried: 444,
         sums_to: [0, 7, 13, 19],
         totals: [0, 0, 1, 1],
-        weights: [[ONES; 2]; 4],
+        weights: [[ONES; TOTALS]; 4],
         check_places: places(1 << 63 | 0x3f, 1 << 63 | 0x3ffff),
     },
 ];
@@ -201,8 +274,8 @@ impl Plan {
 
 // ---- refusals
 
-pub fn all_below(q: u8, symbols: &[u8]) -> bool {
-    symbols.iter().fold(0, |most, &symbol| most.max(symbol)) < q
+pub fn all_below(q: usize, symbols: &[u8]) -> bool {
+    q == 256 || (symbols.iter().fold(0, |most, &symbol| most.max(symbol)) as usize) < q
 }
 
 /// Refusals 12 and 13.
@@ -214,7 +287,7 @@ pub fn test(plan: &Plan, stripe: &[u8], marks: &[u64]) -> Result<(), usize> {
         return Ok(());
     }
     let fits = |(row, &word): (&[u8], &u64)| {
-        row.iter().enumerate().all(|(column, &symbol)| symbol < plan.q || word >> column & 1 == 1)
+        row.iter().enumerate().all(|(column, &symbol)| (symbol as usize) < plan.q || word >> column & 1 == 1)
     };
     match stripe.chunks_exact(plan.columns).zip(marks).all(fits) {
         true => Ok(()),
@@ -242,7 +315,7 @@ pub enum Solved {
 }
 
 /// Reduces equations in some unknowns, the right-hand side after them. Where there is one solution it stands there then.
-pub fn solve<const CELLS: usize>(q: u8, system: &mut [[u8; CELLS]], unknowns: usize) -> Solved {
+pub fn solve<const CELLS: usize>(q: usize, system: &mut [[u8; CELLS]], unknowns: usize) -> Solved {
     let mut rank = 0;
     for at in 0..unknowns {
         // every right-hand side is met
@@ -255,8 +328,7 @@ pub fn solve<const CELLS: usize>(q: u8, system: &mut [[u8; CELLS]], unknowns: us
         system.swap(rank, pivot);
         let own = &mut system[rank];
         if own[at] != 1 {
-            let inverse = INVERSES[own[at] as usize & 15];
-            own[at..=unknowns].iter_mut().for_each(|cell| *cell = times(inverse, *cell));
+            scale(q, &mut own[at..=unknowns]);
         }
         let own = *own;
         for row in (0..system.len()).filter(|&row| row != rank) {
@@ -274,11 +346,23 @@ pub fn solve<const CELLS: usize>(q: u8, system: &mut [[u8; CELLS]], unknowns: us
     }
 }
 
+/// Multiplies some cells such that the first of them is 1.
+fn scale(q: usize, cells: &mut [u8]) {
+    if q == 256 {
+        let inverse = BYTE_INVERSES[cells[0] as usize];
+        cells.iter_mut().for_each(|cell| *cell = times_bytes(inverse, *cell));
+    } else {
+        let inverse = INVERSES[cells[0] as usize & 15];
+        cells.iter_mut().for_each(|cell| *cell = times(inverse, *cell));
+    }
+}
+
 /// Adds a row times a factor that is not 0 to another row. The row is 0 outside the cells in use; over GF(2) all are added,
 /// their number being known.
-fn add<const CELLS: usize>(q: u8, factor: u8, row: &[u8; CELLS], other: &mut [u8; CELLS], used: RangeInclusive<usize>) {
+fn add<const CELLS: usize>(q: usize, factor: u8, row: &[u8; CELLS], other: &mut [u8; CELLS], used: RangeInclusive<usize>) {
     match q {
         2 => other.iter_mut().zip(row).for_each(|(cell, more)| *cell ^= more),
+        256 => other[used.clone()].iter_mut().zip(&row[used]).for_each(|(cell, &more)| *cell ^= times_bytes(factor, more)),
         _ => other[used.clone()].iter_mut().zip(&row[used]).for_each(|(cell, &more)| *cell ^= times(factor, more)),
     }
 }

@@ -1,16 +1,106 @@
 //! The timed calls once more, with packed tables and a precomputed encoder: what can be won beyond the plain code.
 //!
-//! A row's sums are packed into one word, each sum in as many bits as a symbol has. For every column and symbol a table
-//! gives the packed shares, so that a row's sums are an exclusive-or of one word a column. Over GF(2) a row is solved by
-//! these words too. Encoding looks up what each of a row's sums adds to the row's check symbols.
+//! A row's sums are packed into one word, each sum in as many bits as a symbol has: a word of 32 bits, and of 128 for the nine
+//! bytes of plan 4. For every column and symbol a table gives the packed shares, so that a row's sums are an exclusive-or of one
+//! word a column. Over GF(2) a row is solved by these words too. Encoding looks up what each of a row's sums adds to the row's
+//! check symbols.
 
 #[path = "common.rs"]
 pub mod common;
 
 use common::*;
+use std::ops::{BitAnd, BitOr, BitXor, BitXorAssign, Not, Shl, Shr};
 use std::sync::LazyLock;
 
 // ---- packed sums
+
+/// A word of packed sums.
+trait Word:
+    Copy
+    + Default
+    + PartialEq
+    + From<u8>
+    + Not<Output = Self>
+    + BitAnd<Output = Self>
+    + BitOr<Output = Self>
+    + BitXor<Output = Self>
+    + BitXorAssign
+    + Shl<usize, Output = Self>
+    + Shr<usize, Output = Self>
+    + 'static
+{
+    /// What each symbol in a column adds.
+    type Column: 'static;
+    fn columns(plan: &Plan) -> &'static [Self::Column];
+    fn share(column: &Self::Column, symbol: u8) -> Self;
+    fn encoder(plan: &Plan) -> &'static Encoder<Self>;
+    /// The low bits.
+    fn byte(self) -> u8;
+    fn fill(plan: &Plan, level: usize, row: &mut [u8], word: u64, missing: Self) -> usize;
+}
+
+impl Word for u32 {
+    type Column = [u32; 16];
+
+    fn columns(plan: &Plan) -> &'static [[u32; 16]] {
+        match plan.number {
+            1 => &SHARES_1,
+            2 => &SHARES_2,
+            3 => &SHARES_3,
+            _ => &SHARES_5,
+        }
+    }
+
+    fn share(column: &[u32; 16], symbol: u8) -> u32 {
+        column[symbol as usize & 15]
+    }
+
+    fn encoder(plan: &Plan) -> &'static Encoder<u32> {
+        static ENCODERS: [LazyLock<Encoder<u32>>; 4] = [
+            LazyLock::new(|| Encoder::new(1)),
+            LazyLock::new(|| Encoder::new(2)),
+            LazyLock::new(|| Encoder::new(3)),
+            LazyLock::new(|| Encoder::new(5)),
+        ];
+        &ENCODERS[plan.number.min(4) - 1]
+    }
+
+    fn byte(self) -> u8 {
+        self as u8
+    }
+
+    fn fill(plan: &Plan, level: usize, row: &mut [u8], word: u64, missing: u32) -> usize {
+        match plan.q {
+            2 => fill_bits(plan, level, row, word, missing),
+            _ => fill_symbols(plan, level, row, word, missing),
+        }
+    }
+}
+
+impl Word for u128 {
+    type Column = [u128; 256];
+
+    fn columns(_: &Plan) -> &'static [[u128; 256]] {
+        &SHARES_4
+    }
+
+    fn share(column: &[u128; 256], symbol: u8) -> u128 {
+        column[symbol as usize]
+    }
+
+    fn encoder(_: &Plan) -> &'static Encoder<u128> {
+        static ENCODER: LazyLock<Encoder<u128>> = LazyLock::new(|| Encoder::new(4));
+        &ENCODER
+    }
+
+    fn byte(self) -> u8 {
+        self as u8
+    }
+
+    fn fill(plan: &Plan, level: usize, row: &mut [u8], word: u64, missing: u128) -> usize {
+        fill_symbols(plan, level, row, word, missing)
+    }
+}
 
 type Shares = [[u32; 16]; COLUMNS];
 
@@ -18,6 +108,7 @@ type Shares = [[u32; 16]; COLUMNS];
 static SHARES_1: Shares = located_shares();
 static SHARES_2: Shares = power_shares(2, 5);
 static SHARES_3: Shares = nibble_shares();
+static SHARES_4: LazyLock<Vec<[u128; 256]>> = LazyLock::new(|| (0..24).map(byte_shares).collect());
 static SHARES_5: Shares = power_shares(5, 6);
 
 const fn located_shares() -> Shares {
@@ -64,47 +155,59 @@ const fn nibble_shares() -> Shares {
     shares
 }
 
+fn byte_shares(column: usize) -> [u128; 256] {
+    let mut shares = [0; 256];
+    for (symbol, packed) in shares.iter_mut().enumerate() {
+        let mut term = symbol as u8;
+        for sum in 0..9 {
+            *packed |= (term as u128) << (8 * sum);
+            term = times_bytes(term, location(4, column));
+        }
+    }
+    shares
+}
+
 impl Plan {
     /// Bits of a symbol.
     fn width(&self) -> usize {
-        if self.q == 2 {
-            1
-        } else {
-            4
-        }
+        self.q.trailing_zeros() as usize
     }
 
-    fn shares(&self) -> &'static Shares {
-        match self.number {
-            1 => &SHARES_1,
-            2 => &SHARES_2,
-            3 => &SHARES_3,
-            _ => &SHARES_5,
+    fn times(&self, x: u8, y: u8) -> u8 {
+        match self.q {
+            256 => times_bytes(x, y),
+            _ => times(x, y),
         }
     }
 
     /// The bits of the packed sums of levels 1 to a level.
-    fn mask(&self, level: usize) -> u32 {
-        ((1u64 << (self.width() * self.sums_to[level])) - 1) as u32
+    fn mask<W: Word>(&self, level: usize) -> W {
+        !(!W::default() << (self.width() * self.sums_to[level]))
     }
 
     /// One of some packed symbols.
-    fn unpacked(&self, packed: u32, at: usize) -> u8 {
-        (packed >> (self.width() * at)) as u8 & (self.q - 1)
+    fn unpacked<W: Word>(&self, packed: W, at: usize) -> u8 {
+        (packed >> (self.width() * at)).byte() & (self.q - 1) as u8
     }
 
-    fn packed(&self, symbols: &[u8]) -> u32 {
-        symbols.iter().rev().fold(0, |packed, &symbol| packed << self.width() | symbol as u32)
+    /// A symbol in its place.
+    fn placed<W: Word>(&self, symbol: u8, at: usize) -> W {
+        W::from(symbol) << (self.width() * at)
+    }
+
+    fn packed<W: Word>(&self, symbols: &[u8]) -> W {
+        symbols.iter().rev().fold(W::default(), |packed, &symbol| packed << self.width() | W::from(symbol))
     }
 
     /// The packed sums of the unmarked symbols of a row.
-    fn row_sums(&self, row: &[u8], word: u64) -> u32 {
-        let shares = self.shares().iter().zip(row);
+    fn row_sums<W: Word>(&self, row: &[u8], word: u64) -> W {
+        let shares = W::columns(self).iter().zip(row);
         if word == 0 {
-            return shares.fold(0, |sums, (share, &symbol)| sums ^ share[symbol as usize & 15]);
+            return shares.fold(W::default(), |sums, (share, &symbol)| sums ^ W::share(share, symbol));
         }
-        let shown = |column: usize, symbol: u8| if word >> column & 1 == 1 { 0 } else { symbol as usize & 15 };
-        shares.enumerate().fold(0, |sums, (column, (share, &symbol))| sums ^ share[shown(column, symbol)])
+        let shown = |column: usize, symbol: u8| if word >> column & 1 == 1 { 0 } else { symbol };
+        let shown = shares.enumerate().map(|(column, (share, &symbol))| W::share(share, shown(column, symbol)));
+        shown.fold(W::default(), |sums, share| sums ^ share)
     }
 }
 
@@ -121,14 +224,11 @@ fn columns_of(word: u64) -> impl Iterator<Item = usize> {
 // ---- steps
 
 /// Fills the marked columns of a row, of whose sums up to a level the packed ones are missing.
-fn fill_row(plan: &Plan, level: usize, row: &mut [u8], word: u64, missing: u32) -> usize {
+fn fill_row<W: Word>(plan: &Plan, level: usize, row: &mut [u8], word: u64, missing: W) -> usize {
     if word == 0 {
-        return if missing == 0 { WHOLE } else { CLASH };
+        return if missing == W::default() { WHOLE } else { CLASH };
     }
-    match plan.q {
-        2 => fill_bits(plan, level, row, word, missing),
-        _ => fill_nibbles(plan, level, row, word, missing),
-    }
+    W::fill(plan, level, row, word, missing)
 }
 
 /// Packed sums, and which columns add up to them.
@@ -150,7 +250,7 @@ fn fill_bits(plan: &Plan, level: usize, row: &mut [u8], word: u64, missing: u32)
     let (sums, count) = (plan.sums_to[level], word.count_ones() as usize);
     let (mut kept, mut rank) = ([Vector::default(); SUMS], 0);
     for column in columns_of(word) {
-        let shares = plan.shares()[column][1] & plan.mask(level);
+        let shares = u32::columns(plan)[column][1] & plan.mask::<u32>(level);
         let left = reduced(&kept[..sums], Vector { sums: shares, columns: 1 << column });
         if left.sums != 0 {
             kept[left.sums.trailing_zeros() as usize] = left;
@@ -174,7 +274,7 @@ fn fill_bits(plan: &Plan, level: usize, row: &mut [u8], word: u64, missing: u32)
     FILLED
 }
 
-fn fill_nibbles(plan: &Plan, level: usize, row: &mut [u8], word: u64, missing: u32) -> usize {
+fn fill_symbols<W: Word>(plan: &Plan, level: usize, row: &mut [u8], word: u64, missing: W) -> usize {
     let (sums, count) = (plan.sums_to[level], word.count_ones() as usize);
     // power sums of different locations: with more marks than sums every target is met, in more than one way
     if count > sums {
@@ -183,7 +283,7 @@ fn fill_nibbles(plan: &Plan, level: usize, row: &mut [u8], word: u64, missing: u
     let mut system = [[0; SUMS + 1]; SUMS];
     for (sum, equation) in system[..sums].iter_mut().enumerate() {
         for (cell, column) in equation.iter_mut().zip(columns_of(word)) {
-            *cell = plan.unpacked(plan.shares()[column][1], sum);
+            *cell = plan.unpacked(W::share(&W::columns(plan)[column], 1), sum);
         }
         equation[count] = plan.unpacked(missing, sum);
     }
@@ -200,6 +300,13 @@ fn fill_nibbles(plan: &Plan, level: usize, row: &mut [u8], word: u64, missing: u
 }
 
 pub fn row_step(bench: &mut [u8], row: usize) -> usize {
+    match bench.first() {
+        Some(4) => row_step_by::<u128>(bench, row),
+        _ => row_step_by::<u32>(bench, row),
+    }
+}
+
+fn row_step_by<W: Word>(bench: &mut [u8], row: usize) -> usize {
     let held = match Bench::read(bench) {
         Ok(held) => held,
         Err(number) => return number,
@@ -210,7 +317,7 @@ pub fn row_step(bench: &mut [u8], row: usize) -> usize {
     }
     let (word, level) = (held.marks[row], held.level);
     let symbols = &mut bench[SYMBOLS_AT + row * plan.columns..][..plan.columns];
-    let known = plan.row_sums(symbols, word) & plan.mask(level);
+    let known = plan.row_sums::<W>(symbols, word) & plan.mask(level);
     let missing = known ^ plan.packed(&held.sums[row][..plan.sums_to[level]]);
     let answer = fill_row(plan, level, symbols, word, missing);
     if answer == FILLED {
@@ -220,19 +327,19 @@ pub fn row_step(bench: &mut [u8], row: usize) -> usize {
 }
 
 /// A bench of packed sums: those of the unmarked symbols of each row, and the learned ones.
-struct Packed {
+struct Packed<W> {
     bench: Bench,
-    known: [u32; ROWS],
-    learned: [u32; ROWS],
+    known: [W; ROWS],
+    learned: [W; ROWS],
 }
 
-impl Packed {
-    fn new(plan: &'static Plan, stripe: &[u8], marks: &[u64]) -> Packed {
-        let mut known = [0; ROWS];
+impl<W: Word> Packed<W> {
+    fn new(plan: &'static Plan, stripe: &[u8], marks: &[u64]) -> Packed<W> {
+        let mut known = [W::default(); ROWS];
         for (sums, (row, &word)) in known.iter_mut().zip(stripe.chunks_exact(plan.columns).zip(marks)) {
             *sums = plan.row_sums(row, word);
         }
-        Packed { bench: Bench::new(plan, stripe, marks), known, learned: [0; ROWS] }
+        Packed { bench: Bench::new(plan, stripe, marks), known, learned: [W::default(); ROWS] }
     }
 
     fn row_step(&mut self, row: usize) -> usize {
@@ -260,10 +367,10 @@ impl Packed {
         if marked > totals {
             return BLOCKED;
         }
-        let own = plan.mask(next) & !plan.mask(level);
+        let own = plan.mask::<W>(next) & !plan.mask::<W>(level);
         let mut learned = self.learned;
         for row in (0..plan.rows).filter(|&row| marks[row] == 0) {
-            learned[row] |= self.known[row] & own;
+            learned[row] ^= self.known[row] & own;
         }
         for sum in plan.sums_to[level]..plan.sums_to[next] {
             let mut system = [[0; TOTALS + 1]; TOTALS];
@@ -271,7 +378,7 @@ impl Packed {
                 let mut unknown = 0;
                 for (row, &weight) in weights[..plan.rows].iter().enumerate() {
                     if marks[row] == 0 {
-                        equation[marked] ^= times(weight, plan.unpacked(self.known[row], sum));
+                        equation[marked] ^= plan.times(weight, plan.unpacked(self.known[row], sum));
                     } else {
                         equation[unknown] = weight;
                         unknown += 1;
@@ -283,7 +390,7 @@ impl Packed {
             };
             let rows = (0..plan.rows).filter(|&row| marks[row] != 0);
             for (equation, row) in system.iter().zip(rows) {
-                learned[row] |= (equation[marked] as u32) << (plan.width() * sum);
+                learned[row] ^= plan.placed(equation[marked], sum);
             }
         }
         self.learned = learned;
@@ -316,12 +423,19 @@ impl Packed {
 }
 
 pub fn mend(plan: usize, stripe: &mut [u8], marks: &mut [u64], report: &mut [u8]) -> usize {
+    match plan {
+        4 => mend_by::<u128>(plan, stripe, marks, report),
+        _ => mend_by::<u32>(plan, stripe, marks, report),
+    }
+}
+
+fn mend_by<W: Word>(plan: usize, stripe: &mut [u8], marks: &mut [u64], report: &mut [u8]) -> usize {
     let fits = report.len() == 8;
     let plan = match lent(plan, stripe, marks, |_| fits) {
         Ok(plan) => plan,
         Err(number) => return number,
     };
-    let mut packed = Packed::new(plan, stripe, marks);
+    let mut packed = Packed::<W>::new(plan, stripe, marks);
     let (answer, found) = packed.rounds();
     if answer != CLASH {
         stripe.copy_from_slice(&packed.bench.symbols[..plan.symbols()]);
@@ -333,12 +447,32 @@ pub fn mend(plan: usize, stripe: &mut [u8], marks: &mut [u64], report: &mut [u8]
 
 // ---- codeword test
 
-/// The third sum of a plan 3 row has two totals; this is the sum with the weight of the second.
-fn weighted(plan: &Plan, row: usize, sums: u32) -> u8 {
-    times(POWERS[row], plan.unpacked(sums, plan.sums_to[1]))
+/// The packed totals of the rows' sums, and those of level 2 under its second and third weights, where it has such.
+#[derive(Clone, Copy, Default)]
+struct Totals<W> {
+    plain: W,
+    weighted: [W; TOTALS - 1],
+}
+
+impl<W: Word> Totals<W> {
+    fn add(&mut self, plan: &Plan, row: usize, sums: W) {
+        self.plain ^= sums;
+        for (total, weights) in self.weighted.iter_mut().zip(&plan.weights[2][1..plan.totals[2]]) {
+            for sum in plan.sums_to[1]..plan.sums_to[2] {
+                *total ^= plan.placed(plan.times(weights[row], plan.unpacked(sums, sum)), sum);
+            }
+        }
+    }
 }
 
 pub fn is_codeword(plan: usize, stripe: &[u8]) -> usize {
+    match plan {
+        4 => is_codeword_by::<u128>(plan, stripe),
+        _ => is_codeword_by::<u32>(plan, stripe),
+    }
+}
+
+fn is_codeword_by<W: Word>(plan: usize, stripe: &[u8]) -> usize {
     let plan = match Plan::numbered(plan) {
         Ok(plan) => plan,
         Err(number) => return number,
@@ -349,16 +483,15 @@ pub fn is_codeword(plan: usize, stripe: &[u8]) -> usize {
     if !all_below(plan.q, stripe) {
         return 13;
     }
-    let (mut plain, mut second) = (0, 0);
+    let mut totals = Totals::<W>::default();
     for (row, symbols) in stripe.chunks_exact(plan.columns).enumerate() {
-        let sums = plan.row_sums(symbols, 0);
-        if sums & plan.mask(1) != 0 {
+        let sums: W = plan.row_sums(symbols, 0);
+        if sums & plan.mask(1) != W::default() {
             return 1;
         }
-        plain ^= sums;
-        second ^= weighted(plan, row, sums);
+        totals.add(plan, row, sums);
     }
-    (plain != 0 || plan.q == 16 && second != 0) as usize
+    (totals.plain != W::default() || totals.weighted.iter().any(|&total| total != W::default())) as usize
 }
 
 /// Plan 3 in its interleaved form: the same code.
@@ -368,56 +501,86 @@ pub fn is_interleaved(stripe: &[u8]) -> usize {
 
 // ---- encoding
 
-/// For each row, sum and value: the packed check symbols that give the row this sum and no other.
-type Encoder = [[[u32; 16]; SUMS]; ROWS];
+struct Encoder<W> {
+    /// For each row, sum and value: the packed check symbols that give the row this sum and no other.
+    solutions: Vec<W>,
+    /// The last rows, as many as level 2 has totals, make these zero: what each of the totals asks of each of the rows' sums.
+    asked: [[u8; TOTALS]; TOTALS],
+}
 
-static ENCODERS: LazyLock<[Encoder; 5]> = LazyLock::new(|| [1, 2, 3, 4, 5].map(encoder));
+impl<W: Word> Encoder<W> {
+    fn new(number: usize) -> Encoder<W> {
+        let plan = Plan::numbered(number).unwrap_or_else(|_| panic!("there is no plan {number}"));
+        let mut solutions = vec![W::default(); plan.rows * SUMS * plan.q];
+        for (row, &word) in plan.check_places[..plan.rows].iter().enumerate() {
+            let count = word.count_ones() as usize;
+            let level = (1..plan.levels).find(|&level| plan.sums_to[level] == count).unwrap_or(plan.levels);
+            for (sum, value) in (0..count * plan.q).map(|n| (n / plan.q, n % plan.q)) {
+                let mut symbols = [0; COLUMNS];
+                fill_row(plan, level, &mut symbols, word, plan.placed::<W>(value as u8, sum));
+                let places = columns_of(word).enumerate();
+                solutions[(row * SUMS + sum) * plan.q + value] =
+                    places.fold(W::default(), |packed, (at, column)| packed | plan.placed(symbols[column], at));
+            }
+        }
+        Encoder { solutions, asked: asked(plan) }
+    }
+}
 
-fn encoder(number: usize) -> Encoder {
-    let mut encoder = [[[0; 16]; SUMS]; ROWS];
-    let Ok(plan) = Plan::numbered(number) else {
-        return encoder;
-    };
-    for (solutions, &word) in encoder.iter_mut().zip(&plan.check_places[..plan.rows]) {
-        let count = word.count_ones() as usize;
-        let level = (1..plan.levels).find(|&level| plan.sums_to[level] == count).unwrap_or(plan.levels);
-        for entry in 0..16 * count {
-            let (sum, value) = (entry / 16, (entry % 16) as u8);
-            let mut row = [0; COLUMNS];
-            fill_row(plan, level, &mut row, word, ((value & (plan.q - 1)) as u32) << (plan.width() * sum));
-            for (at, column) in columns_of(word).enumerate() {
-                solutions[sum][value as usize] |= (row[column] as u32) << (plan.width() * at);
+/// The inverse of the weights of the last rows at level 2: by total and row.
+fn asked(plan: &Plan) -> [[u8; TOTALS]; TOTALS] {
+    let (totals, mut asked) = (plan.totals[2], [[0; TOTALS]; TOTALS]);
+    for (total, of_total) in asked[..totals].iter_mut().enumerate() {
+        let mut system = [[0; TOTALS + 1]; TOTALS];
+        for (n, equation) in system[..totals].iter_mut().enumerate() {
+            equation[..totals].copy_from_slice(&plan.weights[2][n][plan.rows - totals..plan.rows]);
+            equation[totals] = (n == total) as u8;
+        }
+        solve(plan.q, &mut system[..totals], totals);
+        of_total.iter_mut().zip(&system[..totals]).for_each(|(sum, equation)| *sum = equation[totals]);
+    }
+    asked
+}
+
+/// The level 2 sums that the last rows are to have, by the totals of the rows before them.
+fn last_sums<W: Word>(plan: &Plan, asked: &[[u8; TOTALS]; TOTALS], totals: &Totals<W>) -> [W; TOTALS] {
+    let mut wanted = [W::default(); TOTALS];
+    // one total, of weights 1
+    if plan.totals[2] == 1 {
+        wanted[0] = totals.plain & plan.mask(2);
+        return wanted;
+    }
+    let [second, third] = totals.weighted;
+    let all = [totals.plain, second, third];
+    for (of_total, &total) in asked[..plan.totals[2]].iter().zip(&all) {
+        for (row, &factor) in wanted[..plan.totals[2]].iter_mut().zip(of_total) {
+            for sum in plan.sums_to[1]..plan.sums_to[2] {
+                *row ^= plan.placed(plan.times(factor, plan.unpacked(total, sum)), sum);
             }
         }
     }
-    encoder
+    wanted
 }
 
 /// Writes a row's check symbols, such that its sums are the target as far as its check places decide them.
-fn encode_row(plan: &Plan, solutions: &[[u32; 16]; SUMS], word: u64, symbols: &mut [u8], target: u32) -> u32 {
-    let missing = plan.row_sums(symbols, 0) ^ target;
-    let places = word.count_ones() as usize;
-    let checks = (0..places).fold(0, |checks, sum| checks ^ solutions[sum][plan.unpacked(missing, sum) as usize & 15]);
+fn encode_row<W: Word>(plan: &Plan, solutions: &[W], word: u64, symbols: &mut [u8], target: W) -> W {
+    let missing = plan.row_sums::<W>(symbols, 0) ^ target;
+    let found = (0..word.count_ones() as usize).map(|sum| solutions[sum * plan.q + plan.unpacked(missing, sum) as usize]);
+    let checks = found.fold(W::default(), |checks, solution| checks ^ solution);
     for (at, column) in columns_of(word).enumerate() {
         symbols[column] = plan.unpacked(checks, at);
     }
     plan.row_sums(symbols, 0)
 }
 
-/// The packed sums that a row is to have, by the totals of the rows before it.
-fn target(plan: &Plan, row: usize, total: u32, second: u8) -> u32 {
-    if row == plan.rows - 1 {
-        return total;
+pub fn encode(plan: usize, data: &[u8], stripe: &mut [u8]) -> usize {
+    match plan {
+        4 => encode_by::<u128>(plan, data, stripe),
+        _ => encode_by::<u32>(plan, data, stripe),
     }
-    if plan.q == 2 || row < 6 {
-        return 0;
-    }
-    // Rows 6 and 7 share what the totals of level 2 leave: s6 + s7 = x and a^6 s6 + a^7 s7 = y, where a^6 + a^7 = a^10.
-    let x = plan.unpacked(total, 2);
-    (times(times(POWERS[7], x) ^ second, POWERS[5]) as u32) << 8
 }
 
-pub fn encode(plan: usize, data: &[u8], stripe: &mut [u8]) -> usize {
+fn encode_by<W: Word>(plan: usize, data: &[u8], stripe: &mut [u8]) -> usize {
     let plan = match Plan::numbered(plan) {
         Ok(plan) => plan,
         Err(number) => return number,
@@ -428,8 +591,9 @@ pub fn encode(plan: usize, data: &[u8], stripe: &mut [u8]) -> usize {
     if !all_below(plan.q, data) {
         return 13;
     }
-    let encoder = &ENCODERS[plan.number - 1];
-    let (mut next, mut total, mut second) = (data.iter(), 0, 0);
+    let encoder = W::encoder(plan);
+    let (mut next, mut totals, mut wanted) = (data.iter(), Totals::default(), [W::default(); TOTALS]);
+    let first_of_last = plan.rows - plan.totals[2];
     for (row, symbols) in stripe.chunks_exact_mut(plan.columns).enumerate() {
         let word = plan.check_places[row];
         for (column, symbol) in symbols.iter_mut().enumerate() {
@@ -438,9 +602,15 @@ pub fn encode(plan: usize, data: &[u8], stripe: &mut [u8]) -> usize {
                 _ => 0,
             };
         }
-        let sums = encode_row(plan, &encoder[row], word, symbols, target(plan, row, total, second));
-        total ^= sums;
-        second ^= weighted(plan, row, sums);
+        if row == first_of_last {
+            wanted = last_sums(plan, &encoder.asked, &totals);
+        }
+        let mut target = if row < first_of_last { W::default() } else { wanted[row - first_of_last] };
+        if row == plan.rows - 1 {
+            target = target | totals.plain & !plan.mask::<W>(2);
+        }
+        let sums = encode_row(plan, &encoder.solutions[row * SUMS * plan.q..], word, symbols, target);
+        totals.add(plan, row, sums);
     }
     0
 }

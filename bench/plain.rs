@@ -50,14 +50,15 @@ const fn power_checks(plan: usize, width: usize) -> Checks {
     checks
 }
 
-const fn checks_3() -> Checks {
+/// Plans 3 and 4: power sums from 0 on.
+const fn power_sums(plan: usize, columns: usize, sums: usize) -> Checks {
     let mut checks = [[0; COLUMNS]; SUMS];
     let mut column = 0;
-    while column < 15 {
+    while column < columns {
         let (mut power, mut sum) = (1, 0);
-        while sum < 7 {
+        while sum < sums {
             checks[sum][column] = power;
-            power = times16(power, location(3, column));
+            power = times_located(plan, power, location(plan, column));
             sum += 1;
         }
         column += 1;
@@ -67,7 +68,8 @@ const fn checks_3() -> Checks {
 
 static CHECKS_1: Checks = checks_1();
 static CHECKS_2: Checks = power_checks(2, 5);
-static CHECKS_3: Checks = checks_3();
+static CHECKS_3: Checks = power_sums(3, 15, 7);
+static CHECKS_4: Checks = power_sums(4, 24, 9);
 static CHECKS_5: Checks = power_checks(5, 6);
 
 impl Plan {
@@ -77,6 +79,7 @@ impl Plan {
             1 => &CHECKS_1,
             2 => &CHECKS_2,
             3 => &CHECKS_3,
+            4 => &CHECKS_4,
             _ => &CHECKS_5,
         }
     }
@@ -92,10 +95,11 @@ impl Plan {
 }
 
 /// The sum of each symbol times its coefficient.
-fn sum(q: u8, check: &[u8], symbols: &[u8]) -> u8 {
+fn sum(q: usize, check: &[u8], symbols: &[u8]) -> u8 {
     let pairs = check.iter().zip(symbols);
     match q {
         2 => pairs.fold(0, |sum, (x, y)| sum ^ x & y),
+        256 => pairs.fold(0, |sum, (&x, &y)| sum ^ times_bytes(x, y)),
         _ => pairs.fold(0, |sum, (&x, &y)| sum ^ times(x, y)),
     }
 }
@@ -103,7 +107,7 @@ fn sum(q: u8, check: &[u8], symbols: &[u8]) -> u8 {
 /// Fills the marked places of a vector so that its sums under the checks are the target, where one filling alone does so.
 /// An equation has a cell for each marked place, of which there are fewer than CELLS, and one for what the target leaves.
 fn fill<const N: usize, const CELLS: usize>(
-    q: u8,
+    q: usize,
     checks: &[[u8; N]],
     target: &[u8],
     vector: &mut [u8],
@@ -149,7 +153,7 @@ impl Bench {
         let (plan, word) = (self.plan, self.marks[row]);
         let sums = plan.sums_to[self.level];
         // power sums of different locations: with more marks than sums every target is met, in more than one way
-        if plan.q == 16 && word.count_ones() as usize > sums {
+        if plan.q != 2 && word.count_ones() as usize > sums {
             return TIED;
         }
         let symbols = &mut self.symbols[row * plan.columns..][..plan.columns];
@@ -491,7 +495,11 @@ fn shown(plan: &Plan, answer: usize, report: &[u8; 8], stripe: &[u8], marks: &[u
         text.push('\n');
         for (column, &symbol) in symbols.iter().enumerate() {
             let lost = marks[row] >> column & 1 == 1;
-            text.push(if lost { '?' } else { b"0123456789abcdef"[symbol as usize & 15] as char });
+            let digit = |value: u8| if lost { '?' } else { b"0123456789abcdef"[value as usize & 15] as char };
+            if plan.q == 256 {
+                text.push(digit(symbol >> 4));
+            }
+            text.push(digit(symbol));
         }
     }
     text + "\n"

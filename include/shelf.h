@@ -32,9 +32,10 @@ extern "C" {
  *        1     3        7              2            21           3          15          41       2                    3
  *        2     8       32              2           256           8         198         296       3                    7
  *        3     8       15             16           120           8          98         160       3                    7
+ *        4    12       24            256           288          12         253         344       3                    9
  *        5     8       64              2           512           8         444         584       3                    7
  *
- * There is no plan 4: the number is refused by 10, like any other that is not in the table.
+ * In plan 4 every byte is a symbol. A number that is not in the table is refused by 10.
  */
 #define SHELF_PLAN_1_ROWS 3
 #define SHELF_PLAN_1_COLUMNS 7
@@ -62,6 +63,15 @@ extern "C" {
 #define SHELF_PLAN_3_DATA 98
 #define SHELF_PLAN_3_FILE 160
 #define SHELF_PLAN_3_LEVELS 3
+
+#define SHELF_PLAN_4_ROWS 12
+#define SHELF_PLAN_4_COLUMNS 24
+#define SHELF_PLAN_4_BELOW 256
+#define SHELF_PLAN_4_STRIPE 288
+#define SHELF_PLAN_4_MARKS 12
+#define SHELF_PLAN_4_DATA 253
+#define SHELF_PLAN_4_FILE 344
+#define SHELF_PLAN_4_LEVELS 3
 
 #define SHELF_PLAN_5_ROWS 8
 #define SHELF_PLAN_5_COLUMNS 64
@@ -98,7 +108,7 @@ extern "C" {
 #define SHELF_UNKNOWN_PLAN 10    /* there is no plan of this number */
 #define SHELF_WRONG_LENGTH 11    /* a buffer's length is not the plan's */
 #define SHELF_MARK_OUTSIDE 12    /* a mark at a column that the plan does not have: any set bit from its columns on, up to bit 63 */
-#define SHELF_TOO_LARGE 13       /* an unmarked symbol, a data symbol, or a learned sum that is no symbol of the plan */
+#define SHELF_TOO_LARGE 13       /* an unmarked symbol, a data symbol, or a learned sum that is no symbol of the plan; never in plan 4 */
 #define SHELF_NO_SUCH_ROW 14     /* a row step on a row that the plan does not have */
 #define SHELF_NO_SUCH_LEVEL 15   /* a bench at no level of its plan */
 #define SHELF_NO_CODEWORD 16     /* extraction from a stripe that is not a codeword */
@@ -193,9 +203,9 @@ size_t shelf_level_step(uint8_t *bench, size_t bench_length);
  *
  *     0     plan                                4, 5  where the marks start, low byte first: always 8
  *     1, 2  rows, columns                       6, 7  where the symbols start, low byte first
- *     3     0: mark words of 4 bytes (plans 1, 2 and 3); 1: of 8 bytes (plan 5)
+ *     3     0: mark words of 4 bytes (plans 1 to 4); 1: of 8 bytes (plan 5)
  *     8..   a mark word for each row, low byte first; behind them the symbols, row after row, 0 at each marked place
- * The symbols start at 20, 40, 40 and 72 in files of plans 1, 2, 3 and 5. Files of plans 1, 2 and 3 are what they were before mark
+ * The symbols start at 20, 40, 40, 56 and 72 in files of plans 1 to 5. Files of plans 1, 2 and 3 are what they were before mark
  * words in memory had 64 bits: every stored file is read as it was, and written with the same bytes. */
 
 /* Reads a stripe file's stripe and marks: 0; or refused by 10, 11, 12, 13, 20, 21 or 22. The file's first byte is its plan, and
@@ -208,7 +218,8 @@ size_t shelf_write_file(size_t plan, const uint8_t *stripe, size_t stripe_length
                         uint8_t *file, size_t file_length);
 
 /* Writes what the program `mend` prints for a file of any bytes: into text, 640 bytes, with zeros behind it; and how many bytes
- * it is into size, 2 bytes, low byte first. Returns 0, or 11 where one of these two buffers has another length.
+ * it is into size, 2 bytes, low byte first. Returns 0, or 11 where one of these two buffers has another length. A symbol is a hex digit
+ * and a mark `?`; in plan 4 two digits, the high one first, and `??`.
  *
  * WARNING: 0 says that the text was written, and not that the stripe was restored. It is 0 for a file that is Stuck or a Clash,
  * and for one that is refused, whose text is `refused` and the number. What became of the stripe stands in the text alone;

@@ -2,7 +2,7 @@
 
 use crate::chance::Chance;
 use crate::oracle::answers::{BENCH_LENGTH, FILLED};
-use crate::oracle::plan::{marked, share};
+use crate::oracle::plan::marked;
 use crate::oracle::stripe::failing_one_check;
 use crate::oracle::{bench, encode, Plan};
 use std::collections::BTreeMap;
@@ -256,8 +256,7 @@ fn under_marks(plan: &Plan, stripe: &[u8], marks: &[u64], mut new: impl FnMut() 
 pub fn row_sums(plan: &Plan, row: &[u8]) -> Vec<u8> {
     let mut sums = vec![0; plan.sums_to(plan.last())];
     for (column, &symbol) in row.iter().enumerate() {
-        let shares = (1..=plan.last()).flat_map(|level| share(plan.number, level, column, symbol));
-        sums.iter_mut().zip(shares).for_each(|(sum, more)| *sum ^= more);
+        sums.iter_mut().zip(plan.shares(column, symbol)).for_each(|(sum, more)| *sum ^= more);
     }
     sums
 }

@@ -11,6 +11,7 @@ use outside::stored::{Stored, STORED};
 const WRITTEN_FILES: usize = 2500;
 const SPOILT_FILES: usize = 6000;
 const RANDOM_FILES: usize = 6000;
+const LONGEST_TEXTS: usize = 600;
 
 /// What is written is read again, with 0 under marks, and written again as the same bytes.
 pub fn calls(ledger: &mut Ledger) {
@@ -71,6 +72,33 @@ fn as_it_was(ledger: &mut Ledger, stored: &Stored, chance: &mut Chance) {
     let mut expected = text.as_bytes().to_vec();
     expected.resize(TEXT_LENGTH, 0);
     ledger.demand(shown.buffers[1].bytes() == expected, &format!("{name}: printed otherwise"), &printing);
+}
+
+/// The longest text: in plan 4 with more marks than sums in every row. Nothing is mended, so that every symbol is printed as it was, two
+/// digits each, the high one first; the text expected is put together here.
+pub fn two_digits(ledger: &mut Ledger) {
+    let mut chance = Chance::seeded(104);
+    let plan = Plan::numbered(4).expect("a plan");
+    let digit = |value: u8| b"0123456789abcdef"[value as usize] as char;
+    for _ in 0..LONGEST_TEXTS {
+        let count = |chance: &mut Chance| 3 + chance.below(22);
+        let marks: Vec<u64> = (0..plan.rows).map(|_| damage::columns(count(&mut chance), plan, &mut chance)).collect();
+        let stripe = chance.bytes(plan.symbols());
+        let mut expected = "plan 4 answer 1 level 1 left 12 rows 0 0 0\n".to_string();
+        for (word, row) in marks.iter().zip(stripe.chunks(24)) {
+            for (column, &symbol) in row.iter().enumerate() {
+                let lost = word >> column & 1 == 1;
+                expected.extend(if lost { ['?'; 2] } else { [digit(symbol / 16), digit(symbol % 16)] });
+            }
+            expected.push('\n');
+        }
+        let mut file = vec![0; 344];
+        oracle::write_file(4, &stripe, &marks, &mut file);
+        let call = Call::text(&file, &chance.bytes(TEXT_LENGTH), &chance.bytes(COUNT_LENGTH));
+        let outcome = ledger.hold(&call);
+        let same = outcome.buffers[1].bytes()[..631] == *expected.as_bytes() && outcome.buffers[2].bytes() == [119, 2];
+        ledger.demand(same, "a symbol of plan 4 is not printed as two digits", &call);
+    }
 }
 
 /// Files that are spoilt a little, files of every length, and bytes by chance.

@@ -25,7 +25,7 @@ fn count(q: usize, numbers: usize, meets: impl Fn(&[u8]) -> bool) -> Fillings {
             }
         }
         for number in choice.iter_mut() {
-            *number = (*number + 1) % q as u8;
+            *number = ((*number as usize + 1) % q) as u8;
             if *number != 0 {
                 break;
             }

@@ -38,8 +38,10 @@ static void plan_is(struct plan p) {
     hold("encoding, stripe too short", shelf_encode(p.number, data, p.data, stripe, p.stripe - 1), SHELF_WRONG_LENGTH);
     data[0] = (uint8_t)(p.below - 1);
     hold("encoding, the largest symbol", shelf_encode(p.number, data, p.data, stripe, p.stripe), SHELF_DONE);
-    data[0] = (uint8_t)p.below;
-    hold("encoding, a larger one", shelf_encode(p.number, data, p.data, stripe, p.stripe), SHELF_TOO_LARGE);
+    if (p.below < 256) { /* of plan 4 every byte is a symbol */
+        data[0] = (uint8_t)p.below;
+        hold("encoding, a larger one", shelf_encode(p.number, data, p.data, stripe, p.stripe), SHELF_TOO_LARGE);
+    }
     hold("extraction", shelf_extract(p.number, stripe, p.stripe, data, p.data), SHELF_DONE);
     hold("codeword test", shelf_is_codeword(p.number, stripe, p.stripe), SHELF_YES);
     hold("mending", shelf_mend(p.number, stripe, p.stripe, marks, p.marks, report, SHELF_REPORT), SHELF_RESTORED);
@@ -95,7 +97,7 @@ static void answers(void) {
     hold("one wrong symbol", shelf_mend(1, stripe, n, marks, r, report, SHELF_REPORT), SHELF_CLASH);
     hold("no codeword", shelf_is_codeword(1, stripe, n), SHELF_NO);
     hold("its data", shelf_extract(1, stripe, n, data, SHELF_PLAN_1_DATA), SHELF_NO_CODEWORD);
-    hold("no plan", shelf_is_codeword(4, stripe, n), SHELF_UNKNOWN_PLAN);
+    hold("no plan", shelf_is_codeword(0, stripe, n), SHELF_UNKNOWN_PLAN);
     hold("no plan either", shelf_is_codeword(6, stripe, n), SHELF_UNKNOWN_PLAN);
     hold("interleaved form, no codeword", shelf_is_interleaved(stripe, SHELF_PLAN_3_STRIPE), SHELF_NO);
     hold("interleaved form, another length", shelf_is_interleaved(stripe, n), SHELF_WRONG_LENGTH);
@@ -116,6 +118,7 @@ int main(void) {
     plan_is(PLAN(1));
     plan_is(PLAN(2));
     plan_is(PLAN(3));
+    plan_is(PLAN(4));
     plan_is(PLAN(5));
     answers();
     printf("shelf.h: %zu numbers held, %zu wrong\n", calls, wrong);

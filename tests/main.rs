@@ -38,6 +38,7 @@ fn every_group(program: Option<&str>) {
     ledger.group("bench sheet", sheet_cases::calls);
     ledger.group("refusals, every set of flaws", refusals::calls);
     ledger.group("marks at columns that the plan does not have", refusals::outer_marks);
+    ledger.group("plan 4: every byte is a symbol", refusals::bytes_are_symbols);
     ledger.group("plan 1 throughout", throughout::calls);
     ledger.group("codeword test, encoding, extraction", coding::calls);
     ledger.group("interleaved form of plan 3", interleaved::calls);
@@ -47,10 +48,11 @@ fn every_group(program: Option<&str>) {
     ledger.group("steps on fit benches", steps::fit_benches);
     ledger.group("steps on any bytes", steps::any_bytes);
     ledger.group("tied rows that contradict themselves", tied::contradictions);
-    ledger.group("plan 3: more marks than sums", tied::power_sums);
+    ledger.group("plans 3 and 4: more marks than sums", tied::power_sums);
     ledger.group("levels whose totals fail", tied::failing_levels);
     ledger.group("orders of steps", orders::calls);
     ledger.group("files and their text", files::calls);
+    ledger.group("plan 4: two digits a symbol", files::two_digits);
     ledger.group("files stored before mark words had 64 bits", files::stored);
     ledger.group("any bytes as a file", files::any_bytes);
     match program {

@@ -41,7 +41,8 @@ pub fn calls(ledger: &mut Ledger) {
 
 /// Restored at the last level, Stuck at each, Clash in a row at each, and Clash across rows at each from 2 on. Two of these
 /// can't be: in plans 2 and 5, levels 2 and 3 have one total each, so that the step to level 3 is never Blocked; and in plan 3 a
-/// row that is tied at level 1 has three marks or more, for three checks at level 2, so that it always has a filling there.
+/// row that is tied at level 1 has three marks or more, for three checks at level 2, so that it always has a filling there. In plan 4
+/// there are four checks at level 2, and two rows that are tied there block the step to level 3: every end can be.
 fn every_end(plan: &Plan) -> Ends {
     let last = plan.last() as u8;
     let stuck = (1..=last).map(|level| (STUCK, level, 0));

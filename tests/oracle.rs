@@ -2,8 +2,8 @@
 //!
 //! It is written from the requirements and from the paper alone, and shares no line and no table with
 //! the library. The library goes row by row and eliminates over the plan's field. Here everything is
-//! a sum of bits: a symbol of GF(16) is four bits, multiplying by a fixed element is linear in them, and
-//! columns over GF(16) are independent exactly if their bits are. So one small tool, `binary::Span`,
+//! a sum of bits: a symbol of GF(16) is four bits and one of GF(256) eight, multiplying by a fixed element is linear
+//! in them, and columns over such a field are independent exactly if their bits are. So one small tool, `binary::Span`,
 //! which says whether a vector of bits is a sum of given ones, serves every plan:
 //!
 //! - the codeword test, encoding and `stripe::agreeing` take all checks of the stripe at once, as the paper's

@@ -18,6 +18,7 @@ const RANDOM_FILES: usize = 100;
 pub fn runs(ledger: &mut Ledger, path: &str) {
     let mut chance = Chance::seeded(111);
     hold(ledger, path, &sheet::EXAMPLE_FILE, usize::MAX);
+    expect(ledger, path, &sheet::file_of_bytes(), usize::MAX, &sheet::text_of_bytes());
     for stored in &STORED {
         expect(ledger, path, &stored.bytes(), usize::MAX, stored.text);
     }

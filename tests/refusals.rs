@@ -13,7 +13,7 @@ use outside::oracle::{file, Plan};
 const ROUNDS: usize = 8;
 
 /// Numbers that are no plan, among them some that are one in their low bits.
-const UNKNOWN_PLANS: [usize; 12] = [0, 4, 6, 17, 255, 256, 257, 261, 65_537, (1 << 32) + 1, (1 << 32) + 5, usize::MAX];
+const UNKNOWN_PLANS: [usize; 13] = [0, 6, 7, 17, 255, 256, 257, 260, 261, 65_537, (1 << 32) + 1, (1 << 32) + 4, usize::MAX];
 
 /// What can be wrong with a call.
 #[derive(Clone, Copy)]
@@ -88,7 +88,7 @@ pub fn calls(ledger: &mut Ledger) {
         for plan in Plan::all().filter(|plan| function != Function::IsInterleaved || plan.number == 3) {
             for set in 0..1u32 << all.len() {
                 let chosen: Vec<Flaw> = (0..all.len()).filter(|n| set >> n & 1 == 1).map(|n| all[n]).collect();
-                if outer_bits(function, plan) == 0 && chosen.iter().any(|flaw| matches!(flaw, Flaw::MarkOutside)) {
+                if chosen.iter().any(|&flaw| cannot_be(flaw, function, plan)) {
                     continue;
                 }
                 (0..ROUNDS).for_each(|_| one_set(ledger, function, plan, &chosen, &mut chance));
@@ -97,8 +97,17 @@ pub fn calls(ledger: &mut Ledger) {
     }
 }
 
+/// No mark is outside where every bit of a word is a column, and no byte is too large where every byte is a symbol.
+fn cannot_be(flaw: Flaw, function: Function, plan: &Plan) -> bool {
+    match flaw {
+        Flaw::MarkOutside => outer_bits(function, plan) == 0,
+        Flaw::Symbol | Flaw::Sum => plan.q() == 256,
+        _ => false,
+    }
+}
+
 /// Every bit that is no column of the plan, alone in a row's mark word: 12 in memory up to bit 63, in a file up to its word's last.
-/// And number 4, with buffers that fit some plan: 10.
+/// And number 6, with buffers that fit some plan: 10.
 pub fn outer_marks(ledger: &mut Ledger) {
     let mut chance = Chance::seeded(92);
     let marked =
@@ -116,10 +125,37 @@ pub fn outer_marks(ledger: &mut Ledger) {
         let mut call = fit_call(function, plan, &mut chance);
         match function {
             Function::IsInterleaved => continue,
-            _ if in_a_buffer(function) => bytes_of(&mut call, 0)[0] = 4,
-            _ => call.number = 4,
+            _ if in_a_buffer(function) => bytes_of(&mut call, 0)[0] = 6,
+            _ => call.number = 6,
         }
         due(ledger, &call, Flaw::UnknownPlan);
+    }
+}
+
+/// Plan 4: every byte is a symbol, and every byte an element of a sum, so that 13 never comes. Each byte at some place, beside others by
+/// chance, in every call that takes symbols; and each as some sum of a bench.
+pub fn bytes_are_symbols(ledger: &mut Ledger) {
+    let mut chance = Chance::seeded(93);
+    let plan = Plan::numbered(4).expect("a plan");
+    for function in FUNCTIONS.into_iter().filter(|&function| function != Function::IsInterleaved) {
+        for value in (0..ROUNDS).flat_map(|_| 0..=255) {
+            let mut call = fit_call(function, plan, &mut chance);
+            let (buffer, at) = layout(function, plan).symbols;
+            for _ in 0..chance.below(24) {
+                let place = unmarked_place(&call, plan, &mut chance);
+                bytes_of(&mut call, buffer)[at + place] = chance.byte();
+            }
+            let place = unmarked_place(&call, plan, &mut chance);
+            bytes_of(&mut call, buffer)[at + place] = value;
+            if matches!(function, Function::RowStep | Function::LevelStep) {
+                let sums = sums_of(chance.below(plan.rows), plan.sums_to(plan.last()));
+                bytes_of(&mut call, 0)[sums.start + chance.below(sums.len())] = value;
+            }
+            let outcome = ledger.hold(&call);
+            let is_refused = outcome.number >= UNKNOWN_PLAN && outcome.number != NO_CODEWORD
+                || function == Function::Text && outcome.buffers[1].bytes().starts_with(b"refused");
+            ledger.demand(!is_refused, "a byte of plan 4 is refused", &call);
+        }
     }
 }
 
@@ -168,7 +204,7 @@ fn left_by_refusal(call: &Call, first: Flaw) -> Vec<Buffer> {
 
 /// Every step refuses the bench of a refused start with 10.
 fn refused_bench(ledger: &mut Ledger, bench: &[u8], chance: &mut Chance) {
-    for call in [Call::row_step(bench, chance.below(9)), Call::level_step(bench)] {
+    for call in [Call::row_step(bench, chance.below(13)), Call::level_step(bench)] {
         let outcome = ledger.hold(&call);
         ledger.demand(outcome.number == UNKNOWN_PLAN, "a refused bench is not refused with 10", &call);
     }
@@ -296,7 +332,9 @@ fn not_below_q(plan: &Plan, chance: &mut Chance) -> u8 {
 
 fn spoil(call: &mut Call, plan: &Plan, flaw: Flaw, chance: &mut Chance) {
     match flaw {
-        Flaw::UnknownPlan if in_a_buffer(call.function) => bytes_of(call, 0)[0] = chance.pick(&[0, 4, 6, 129, 133, 255]),
+        Flaw::UnknownPlan if in_a_buffer(call.function) => {
+            bytes_of(call, 0)[0] = chance.pick(&[0, 6, 7, 129, 132, 133, 255])
+        }
         Flaw::UnknownPlan => call.number = chance.pick(&UNKNOWN_PLANS),
         Flaw::Length(buffer) => other_length(&mut call.buffers[buffer], chance),
         Flaw::BenchLevel => bytes_of(call, 0)[LEVEL] = chance.pick(&[0, plan.last() as u8 + 1, 4, 255]),
@@ -311,7 +349,7 @@ fn spoil(call: &mut Call, plan: &Plan, flaw: Flaw, chance: &mut Chance) {
             let sums = sums_of(chance.below(plan.rows), plan.sums_to(level));
             bytes_of(call, 0)[sums.start + chance.below(sums.len())] = not_below_q(plan, chance);
         }
-        Flaw::Row => call.number = chance.pick(&[plan.rows, plan.rows + 1, 8, 11, 12, 255, 256, 1 << 32, usize::MAX]),
+        Flaw::Row => call.number = row_outside(plan, chance),
         Flaw::NoCodeword => {
             let place = chance.below(plan.symbols());
             bytes_of(call, 0)[place] ^= 1 + chance.below(plan.q() - 1) as u8;
@@ -327,6 +365,13 @@ fn spoil(call: &mut Call, plan: &Plan, flaw: Flaw, chance: &mut Chance) {
         }
         Flaw::ByteUnderMark => byte_under_mark(call, plan, chance),
     }
+}
+
+/// A number that is no row of the plan, be it one of another's.
+fn row_outside(plan: &Plan, chance: &mut Chance) -> usize {
+    let rows = [plan.rows, plan.rows + 1, 8, 11, 12, 13, 255, 256, 1 << 32, usize::MAX];
+    let outside: Vec<usize> = rows.into_iter().filter(|&row| row >= plan.rows).collect();
+    chance.pick(&outside)
 }
 
 /// Sets a bit that is no column of the plan: the first behind the columns, the last of the word, or any; alone in its word, or beside others.
@@ -350,7 +395,7 @@ fn byte_under_mark(call: &mut Call, plan: &Plan, chance: &mut Chance) {
 /// Gives a buffer another length: none at all, one more, one less, or far off.
 fn other_length(buffer: &mut Buffer, chance: &mut Chance) {
     let choose = |length: usize, chance: &mut Chance| {
-        let lengths = [0, 1, length - 1, length + 1, length + 64, 21, 120, 256, 512, 3, 8, 12];
+        let lengths = [0, 1, length - 1, length + 1, length + 64, 21, 120, 256, 288, 512, 3, 8, 12];
         loop {
             let other = chance.pick(&lengths);
             if other != length {

@@ -14,7 +14,7 @@ use outside::oracle::answers::*;
 use outside::oracle::bench::{sums_of, word_of, LEVEL, SYMBOLS};
 use outside::oracle::binary::Span;
 use outside::oracle::mending::mended;
-use outside::oracle::plan::{marked, power, share, times16, times32, times64};
+use outside::oracle::plan::{marked, power, share, times16, times256, times32, times64};
 use outside::oracle::stripe::{agreeing, holds, rank, Agreeing};
 use outside::oracle::{self, Plan};
 use outside::sheet;
@@ -64,7 +64,7 @@ fn main() {
 }
 
 fn bench_sheet(tally: &mut Tally) {
-    for case in sheet::cases() {
+    for case in sheet::cases().into_iter().chain(sheet::cases_of_bytes()) {
         let (mut stripe, mut marks, mut report) = (case.stripe(), case.mark_words(), [0; REPORT_LENGTH]);
         let answer = oracle::mend(case.plan, &mut stripe, &mut marks, &mut report);
         tally.check(case.is_met_by(answer, &report), || format!("{}: answer {answer}, report {report:?}", case.name));
@@ -74,6 +74,8 @@ fn bench_sheet(tally: &mut Tally) {
     tally.check(answer == DONE && stripe == sheet::ENCODED_STRIPE, || "the encoded stripe".to_string());
     let shown = oracle::text::printed(&sheet::EXAMPLE_FILE);
     tally.check(shown == sheet::EXAMPLE_TEXT, || format!("the example file: {shown:?}"));
+    let shown = oracle::text::printed(&sheet::file_of_bytes());
+    tally.check(shown == sheet::text_of_bytes(), || format!("a file of plan 4: {shown:?}"));
 }
 
 fn fields(tally: &mut Tally) {
@@ -87,6 +89,7 @@ fn fields(tally: &mut Tally) {
     tally.check(times64(32, 2) == 3, || "32 times 2 in GF(64)".to_string());
     tally.check(power(times64, 4, 3) == 3, || "the cube of 4 in GF(64)".to_string());
     tally.check(order(times64) == Some(63), || "the powers of 2 in GF(64)".to_string());
+    field_of_bytes(tally);
     for (number, width) in [(2, 5), (5, 6)] {
         let plan = Plan::numbered(number).expect("a plan");
         let mut locations: Vec<usize> = (0..plan.columns).map(|column| location(plan, column)).collect();
@@ -95,6 +98,25 @@ fn fields(tally: &mut Tally) {
         tally.check(locations == (1..1 << width).collect::<Vec<usize>>(), || {
             format!("plan {number}: locations {locations:?}")
         });
+    }
+}
+
+/// GF(256): products by shift and add, of which the powers of 2 are all elements but 0; each of these has its inverse.
+fn field_of_bytes(tally: &mut Tally) {
+    tally.check(times256(128, 2) == 29, || "128 times 2 in GF(256)".to_string());
+    tally.check(times256(2, 142) == 1, || "2 times 142 in GF(256)".to_string());
+    let doubled = |x: u8| x << 1 ^ if x >= 128 { 29 } else { 0 };
+    for (x, y) in (0..=255u8).flat_map(|x| (0..=255).map(move |y| (x, y))) {
+        let shifted = std::iter::successors(Some(x), |&x| Some(doubled(x)));
+        let sum = shifted.take(8).enumerate().fold(0, |sum, (bit, part)| if y >> bit & 1 == 1 { sum ^ part } else { sum });
+        tally.check(times256(x, y) == sum, || format!("{x} times {y} in GF(256)"));
+    }
+    let mut powers: Vec<u8> = std::iter::successors(Some(1), |&x| Some(doubled(x))).take(255).collect();
+    tally.check(doubled(powers[254]) == 1, || "the 255th power of 2 in GF(256)".to_string());
+    powers.sort();
+    tally.check(powers == (1..=255).collect::<Vec<u8>>(), || "the powers of 2 in GF(256)".to_string());
+    for x in 1..=255 {
+        tally.check(times256(x, power(times256, x, 254)) == 1, || format!("the inverse of {x} in GF(256)"));
     }
 }
 
@@ -108,9 +130,11 @@ fn parameters(tally: &mut Tally) {
         (1, 3, 7, 15, 2, 4, 2, 41),
         (2, 8, 32, 198, 4, 8, 3, 296),
         (3, 8, 15, 98, 3, 8, 3, 160),
+        (4, 12, 24, 253, 3, 10, 3, 344),
         (5, 8, 64, 444, 4, 8, 3, 584),
     ];
-    tally.check(Plan::all().count() == tables.len() && Plan::numbered(4).is_none(), || "the number of plans".to_string());
+    let others = [0, 6].into_iter().filter_map(Plan::numbered).count();
+    tally.check(Plan::all().count() == tables.len() && others == 0, || "the number of plans".to_string());
     for (plan, entry) in Plan::all().zip(tables) {
         let (number, rows, columns, carried, row_distance, distance, levels, file) = entry;
         let sizes = [plan.number, plan.rows, plan.columns, plan.carried(), plan.last(), plan.file_length()];
@@ -123,12 +147,16 @@ fn parameters(tally: &mut Tally) {
     }
     least_row_distances(tally);
     least_sums(tally);
+    independent_sets(tally);
+    independent_weights(tally);
+    light_words(tally);
 }
 
 /// Any d' - 1 columns of a row are independent at a level, and some d' are not.
 fn least_row_distances(tally: &mut Tally) {
-    let distances = [(1, 1, 2), (1, 2, 4), (2, 1, 4), (2, 2, 6), (2, 3, 8), (3, 1, 3), (3, 2, 4), (3, 3, 8)];
-    for (number, level, distance) in distances {
+    let of_first = [(1, 1, 2), (1, 2, 4), (2, 1, 4), (2, 2, 6), (2, 3, 8), (3, 1, 3), (3, 2, 4), (3, 3, 8)];
+    // at level 3 of plan 4 by `independent_sets` alone
+    for (number, level, distance) in of_first.into_iter().chain([(4, 1, 3), (4, 2, 5)]) {
         let plan = Plan::numbered(number).expect("a plan");
         for word in words_with(distance - 1, plan.columns) {
             tally.check(independent(plan, level, word), || format!("plan {number}, level {level}: columns {word:b}"));
@@ -153,6 +181,75 @@ fn least_sums(tally: &mut Tally) {
         let vanishing = vanishing_sums(&columns, 0, distance);
         tally.check(vanishing > 0, || format!("plan {number}, level {level}: no sum of {distance} columns is zero"));
     }
+}
+
+/// The same for plans 3 and 4, by elimination over their fields, a column after another: every set of as many columns as a row has
+/// sums up to a level is independent. One more are not, being more than the sums.
+fn independent_sets(tally: &mut Tally) {
+    let distances =
+        [(3, 1, 3, 105), (3, 2, 4, 455), (3, 3, 8, 6435), (4, 1, 3, 276), (4, 2, 5, 10_626), (4, 3, 10, 1_307_504)];
+    for (number, level, distance, sets) in distances {
+        let plan = Plan::numbered(number).expect("a plan");
+        let sums = plan.sums_to(level);
+        tally.check(sums == distance - 1 && plan.counts[level - 1].0 == distance, || format!("plan {number}: {sums} sums"));
+        let columns: Vec<Vec<u8>> = (0..plan.columns).map(|column| plan.shares(column, 1)[..sums].to_vec()).collect();
+        let found = independent_choices(plan, &columns, &mut Vec::new(), sums);
+        tally.check(found == sets, || format!("plan {number}, level {level}: {found} of {sets} sets are independent"));
+    }
+}
+
+/// Any as many rows' weights as a level has totals are independent, in the same way.
+fn independent_weights(tally: &mut Tally) {
+    for (number, level, sets) in [(3, 2, 28), (4, 2, 220), (4, 3, 12)] {
+        let plan = Plan::numbered(number).expect("a plan");
+        let weights = &plan.levels[level - 1].weights;
+        let rows: Vec<Vec<u8>> = (0..plan.rows).map(|row| weights.iter().map(|of_total| of_total[row]).collect()).collect();
+        let found = independent_choices(plan, &rows, &mut Vec::new(), weights.len());
+        tally.check(found == sets, || format!("plan {number}, level {level}: {found} of {sets} sets of weights"));
+    }
+}
+
+/// A row of plan 3 or 4 with one symbol, and marks as many as the sums of the last level: filled, it is a codeword as light as the
+/// published distance says.
+fn light_words(tally: &mut Tally) {
+    for plan in [3, 4].into_iter().filter_map(Plan::numbered) {
+        for column in plan.distance - 1..plan.columns {
+            let mut row = vec![0; plan.columns];
+            row[column] = 1;
+            let sums = vec![0; plan.sums_to(plan.last())];
+            let mut bench = bench_with(plan, plan.last(), 0, &row, (1 << sums.len()) - 1, &sums);
+            let answer = oracle::row_step(&mut bench, 0);
+            let stripe = &bench[SYMBOLS..][..plan.symbols()];
+            let weight = stripe.iter().filter(|&&symbol| symbol != 0).count();
+            let light = answer == FILLED && weight == plan.distance && holds(plan, stripe);
+            tally.check(light, || format!("plan {}: {answer}, a word of weight {weight}", plan.number));
+        }
+    }
+}
+
+/// How many sets of so many vectors more are independent of each other and of those chosen, which stand reduced: each with the place
+/// at which it has 1 and the later ones 0.
+fn independent_choices(plan: &Plan, vectors: &[Vec<u8>], chosen: &mut Vec<(usize, Vec<u8>)>, count: usize) -> usize {
+    if count == 0 {
+        return 1;
+    }
+    let mut found = 0;
+    for at in 0..vectors.len() {
+        let rest = chosen.iter().fold(vectors[at].clone(), |rest, (place, own)| minus(plan, rest, own, *place));
+        let Some(place) = rest.iter().position(|&part| part != 0) else { continue };
+        let inverse = (1..plan.q()).map(|x| x as u8).find(|&x| plan.times(x, rest[place]) == 1).expect("an inverse");
+        chosen.push((place, rest.iter().map(|&part| plan.times(inverse, part)).collect()));
+        found += independent_choices(plan, &vectors[at + 1..], chosen, count - 1);
+        chosen.pop();
+    }
+    found
+}
+
+/// A vector less the multiple of another that clears one place, where the other has 1.
+fn minus(plan: &Plan, mut vector: Vec<u8>, other: &[u8], place: usize) -> Vec<u8> {
+    let factor = vector[place];
+    vector.iter_mut().zip(other).for_each(|(part, &own)| *part ^= plan.times(factor, own));
+    vector
 }
 
 /// How many sets of so many columns add up to this number. The last column of a set is looked for and not listed.
@@ -364,9 +461,11 @@ fn listed_row(tally: &mut Tally, plan: &Plan, level: usize, row: &[u8], word: u6
 fn listed_rows(tally: &mut Tally) {
     let mut chance = Chance::seeded(19);
     for (plan, level) in Plan::all().flat_map(|plan| (1..=plan.last()).map(move |level| (plan, level))) {
-        for _ in 0..1500 {
+        // in plan 4 up to two marks, whose fillings are 65,536
+        let (most, times) = if plan.width == 8 { (2, 450) } else { (12 / plan.width, 1500) };
+        for _ in 0..times {
             let row = chance.bytes_below(plan.q(), plan.columns);
-            let count = chance.below(12 / plan.width + 1).min(plan.columns);
+            let count = chance.below(most + 1).min(plan.columns);
             let word = damage::columns(count, plan, &mut chance);
             let mut sums = damage::row_sums(plan, &row)[..plan.sums_to(level)].to_vec();
             if chance.one_in(2) {
@@ -408,10 +507,15 @@ fn listed_contradictions(tally: &mut Tally) {
     }
 }
 
-/// Every set of few rows lost, with every kind of stripe.
+/// Every set of few rows lost, with every kind of stripe; in plan 4 one row, and some sets of two.
 fn listed_levels(tally: &mut Tally) {
     let mut chance = Chance::seeded(21);
     for (plan, next) in Plan::all().flat_map(|plan| (2..=plan.last()).map(move |level| (plan, level))) {
+        for content in CONTENTS.into_iter().filter(|_| plan.width == 8) {
+            let set = chance.different(2, plan.rows).into_iter().map(|row| 1 << row).sum();
+            let stripe = damage::stripe(plan, content, &mut chance);
+            listed_level(tally, plan, next, &stripe, set);
+        }
         for set in (0..1usize << plan.rows).filter(|set| set.count_ones() as usize * plan.width <= 12) {
             for content in CONTENTS {
                 let stripe = damage::stripe(plan, content, &mut chance);

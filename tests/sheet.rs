@@ -62,15 +62,18 @@ fn clash(place: u8, row: u8, level: u8) -> Expected {
     Expected { answer: 2, clash: Some((place, row, level)), ..Expected::default() }
 }
 
+fn case(
+    name: &'static str,
+    plan: usize,
+    ones: &[(usize, usize)],
+    marks: &[(usize, Vec<usize>)],
+    expected: Expected,
+) -> Case {
+    Case { name, plan, ones: ones.to_vec(), marks: marks.to_vec(), expected }
+}
+
 /// The cases of mending. Those that name no columns have columns from 0 on; `sheet_cases.rs` tries others too.
 pub fn cases() -> Vec<Case> {
-    let case = |name, plan, ones: &[(usize, usize)], marks: &[(usize, Vec<usize>)], expected| Case {
-        name,
-        plan,
-        ones: ones.to_vec(),
-        marks: marks.to_vec(),
-        expected,
-    };
     let first = |count: usize| (0..count).collect::<Vec<usize>>();
     vec![
         case("plan 1, no marks", 1, &[], &[], restored(Some(2), &[0, 0])),
@@ -95,6 +98,21 @@ pub fn cases() -> Vec<Case> {
     ]
 }
 
+/// Cases of plan 4, zero stripe, with so many marks in the rows from 0 on. They are not on the sheet, and follow from the plan's row
+/// counts as those of plan 3 do.
+pub fn cases_of_bytes() -> Vec<Case> {
+    let of_counts = |name, counts: &[usize], expected| {
+        let marks: Vec<(usize, Vec<usize>)> = counts.iter().map(|&count| (0..count).collect()).enumerate().collect();
+        case(name, 4, &[], &marks, expected)
+    };
+    vec![
+        of_counts("plan 4, 3, 4 and 9 marks", &[3, 4, 9], restored(None, &[0, 2, 1])),
+        of_counts("plan 4, 3, 4 and 10 marks", &[3, 4, 10], stuck(3, 1)),
+        of_counts("plan 4, 5 and 5 marks", &[5, 5], stuck(2, 2)),
+        of_counts("plan 4, four rows of 3 marks", &[3; 4], stuck(1, 4)),
+    ]
+}
+
 /// The example file, and what `mend` prints for it.
 pub const EXAMPLE_FILE: [u8; 41] = [
     0x01, 0x03, 0x07, 0x00, 0x08, 0x00, 0x14, 0x00, // header
@@ -108,3 +126,21 @@ pub const EXAMPLE_TEXT: &str = "plan 1 answer 0 level 2 left 0 rows 2 1\n1100000
 /// Data 1 and then fourteen zeros, and the stripe that carries them in plan 1.
 pub const ENCODED_DATA: [u8; 15] = [1, 0, 0, 0, 0, 0, 0, 0, 0, 0, 0, 0, 0, 0, 0];
 pub const ENCODED_STRIPE: [u8; 21] = [1, 0, 0, 0, 0, 0, 1, 0, 0, 0, 0, 0, 0, 0, 0, 0, 1, 0, 1, 0, 0];
+
+/// A file of plan 4 that is stuck at once: four rows have three marks each, and the first of them holds bytes of its own.
+pub fn file_of_bytes() -> Vec<u8> {
+    let header = [4, 12, 24, 0, 8, 0, 56, 0];
+    let marks = [[7, 0, 0, 0]; 4].concat();
+    let symbols = [0, 0, 0, 0x0f, 0xa0, 0xff];
+    let mut file = [&header[..], &marks, &[0; 32], &symbols].concat();
+    file.resize(344, 0);
+    file
+}
+
+/// What `mend` prints for it.
+pub fn text_of_bytes() -> String {
+    let marked = format!("??????{}\n", "00".repeat(21));
+    let first = format!("??????0fa0ff{}\n", "00".repeat(18));
+    let others = format!("{}\n", "00".repeat(24)).repeat(8);
+    format!("plan 4 answer 1 level 1 left 4 rows 0 0 0\n{first}{}{others}", marked.repeat(3))
+}

@@ -1,4 +1,4 @@
-//! The bench sheet's cases on the library, by name: the proved ones and the others.
+//! The bench sheet's cases on the library, by name: the proved ones and the others. With them some of plan 4.
 
 use crate::calls::{Call, Outcome};
 use crate::ledger::Ledger;
@@ -13,14 +13,15 @@ const OTHER_COLUMNS: usize = 200;
 
 pub fn calls(ledger: &mut Ledger) {
     let mut chance = Chance::seeded(21);
-    for case in sheet::cases() {
+    for case in sheet::cases().into_iter().chain(sheet::cases_of_bytes()) {
         hold_case(ledger, &case, &case.mark_words());
         if names_no_columns(&case) {
             (0..OTHER_COLUMNS).for_each(|_| hold_case(ledger, &case, &other_columns(&case, &mut chance)));
         }
     }
     encoding(ledger);
-    example_file(ledger);
+    printed(ledger, &sheet::EXAMPLE_FILE, sheet::EXAMPLE_TEXT);
+    printed(ledger, &sheet::file_of_bytes(), &sheet::text_of_bytes());
 }
 
 fn hold_case(ledger: &mut Ledger, case: &Case, marks: &[u64]) {
@@ -49,11 +50,11 @@ fn encoding(ledger: &mut Ledger) {
     ledger.demand(met, "bench sheet: data 1 and then fourteen zeros", &call);
 }
 
-fn example_file(ledger: &mut Ledger) {
-    let call = Call::text(&sheet::EXAMPLE_FILE, &[7; TEXT_LENGTH], &[7; COUNT_LENGTH]);
+fn printed(ledger: &mut Ledger, file: &[u8], text: &str) {
+    let call = Call::text(file, &[7; TEXT_LENGTH], &[7; COUNT_LENGTH]);
     let outcome = ledger.hold(&call);
     let [low, high] = outcome.buffers[2].bytes() else { unreachable!("two bytes") };
     let length = *low as usize + 256 * *high as usize;
-    let met = outcome.number == DONE && outcome.buffers[1].bytes()[..length] == *sheet::EXAMPLE_TEXT.as_bytes();
-    ledger.demand(met, "bench sheet: the example file's text", &call);
+    let met = outcome.number == DONE && outcome.buffers[1].bytes()[..length] == *text.as_bytes();
+    ledger.demand(met, "bench sheet: a file's text", &call);
 }

@@ -68,10 +68,10 @@ pub fn any_bytes(ledger: &mut Ledger) {
         let mut bench = chance.bytes(BENCH_LENGTH);
         bench[0] = chance.below(7) as u8;
         bench[1] = chance.below(5) as u8;
-        let limit = chance.pick(&[1, 2, 3, 16, 17]);
+        let limit = chance.pick(&[1, 2, 3, 16, 17, 256]);
         bench[SYMBOLS..MARKS_AT].iter_mut().for_each(|symbol| *symbol = chance.below(limit) as u8);
         bench[SUMS..].iter_mut().for_each(|sum| *sum = chance.below(limit) as u8);
-        let columns = chance.pick(&[7, 15, 32, 64]);
+        let columns = chance.pick(&[7, 15, 24, 32, 64]);
         bench[MARKS_AT..SUMS].chunks_mut(8).for_each(|word| {
             let kept = (chance.word() & chance.word()) & (u64::MAX >> (64 - columns));
             word.copy_from_slice(&kept.to_le_bytes());
@@ -85,7 +85,7 @@ pub fn any_bytes(ledger: &mut Ledger) {
 }
 
 fn both_steps(ledger: &mut Ledger, bench: &[u8], chance: &mut Chance) {
-    let row = if chance.one_in(8) { chance.word() as usize } else { chance.below(9) };
+    let row = if chance.one_in(8) { chance.word() as usize } else { chance.below(13) };
     ledger.hold(&Call::row_step(bench, row));
     ledger.hold(&Call::level_step(bench));
 }

@@ -1,5 +1,5 @@
 //! Tied rows and failing levels, by construction: a row whose columns are dependent and that nothing fills is a Clash, and in
-//! plan 3 there is none; a level is a Clash where its totals fail, and never where the weight columns are dependent. The answers
+//! plans 3 and 4 there is none; a level is a Clash where its totals fail, and never where the weight columns are dependent. The answers
 //! held here are those of the construction, beside the independent decoder's.
 
 use crate::calls::Call;
@@ -18,6 +18,8 @@ const ROWS_OF_A_LEVEL: usize = 1200;
 const STRIPES_OF_A_LEVEL: usize = 600;
 const OVERFULL_STRIPES: usize = 600;
 const ROUNDS_OF_LEVELS: usize = 4;
+/// Rows of plan 4 with each number of marks, at each level.
+const ROWS_OF_A_COUNT: usize = 400;
 
 /// Every plan with each of its levels from one on.
 fn levels(first: usize) -> impl Iterator<Item = (&'static Plan, usize)> {
@@ -171,43 +173,54 @@ fn overfull_row(plan: &Plan, chance: &mut Chance) -> (u64, usize) {
     }
 }
 
-// ---- rows of plan 3
+// ---- rows of plans 3 and 4
 
-/// Every mark word of a row of plan 3 at every level, with any symbols and any learned sums. With more marks than sums a row
-/// is tied and has fillings; with as many it has one; with fewer one or none.
+/// Every mark word of a row of plan 3 at every level, and of plan 4 every number of marks in columns by chance, with any symbols and any
+/// learned sums.
 pub fn power_sums(ledger: &mut Ledger) {
     let mut chance = Chance::seeded(142);
-    let plan = Plan::numbered(3).expect("a plan");
-    for level in 1..=plan.last() {
-        for word in 0..1 << plan.columns {
-            let row = chance.below(plan.rows);
-            let stripe = chance.bytes_below(plan.q(), plan.symbols());
-            let mut marks: Vec<u64> = (0..plan.rows).map(|_| chance.word() & 0x7fff).collect();
-            marks[row] = word;
-            let call = Call::row_step(&any_bench(plan, level, &stripe, &marks, &mut chance), row);
-            let outcome = ledger.make(&call);
-            let unchanged = outcome.buffers == call.buffers;
-            let met = match (word.count_ones() as usize).cmp(&plan.sums_to(level)) {
-                Ordering::Greater => outcome.number == TIED && unchanged,
-                Ordering::Equal => outcome.number == FILLED,
-                Ordering::Less if word == 0 => matches!(outcome.number, WHOLE | CLASH) && unchanged,
-                Ordering::Less => outcome.number == FILLED || outcome.number == CLASH && unchanged,
-            };
-            ledger.demand(met, "a row of plan 3 is not answered by its number of marks", &call);
+    let [third, fourth] = [3, 4].map(|number| Plan::numbered(number).expect("a plan"));
+    for level in 1..=third.last() {
+        (0..1 << third.columns).for_each(|word| marks_against_power_sums(ledger, third, level, word, &mut chance));
+    }
+    for level in 1..=fourth.last() {
+        for count in (0..ROWS_OF_A_COUNT).flat_map(|_| 0..=fourth.columns) {
+            let word = damage::columns(count, fourth, &mut chance);
+            marks_against_power_sums(ledger, fourth, level, word, &mut chance);
         }
     }
-    overfull_stripes(ledger, plan, &mut chance);
+    overfull_stripes(ledger, third, &mut chance);
+    overfull_stripes(ledger, fourth, &mut chance);
+}
+
+/// With more marks than sums a row is tied and has fillings; with as many it has one; with fewer one or none.
+fn marks_against_power_sums(ledger: &mut Ledger, plan: &Plan, level: usize, word: u64, chance: &mut Chance) {
+    let row = chance.below(plan.rows);
+    let stripe = chance.bytes_below(plan.q(), plan.symbols());
+    let mut marks: Vec<u64> = (0..plan.rows).map(|_| chance.word() & ((1 << plan.columns) - 1)).collect();
+    marks[row] = word;
+    let call = Call::row_step(&any_bench(plan, level, &stripe, &marks, chance), row);
+    let outcome = ledger.make(&call);
+    let unchanged = outcome.buffers == call.buffers;
+    let met = match (word.count_ones() as usize).cmp(&plan.sums_to(level)) {
+        Ordering::Greater => outcome.number == TIED && unchanged,
+        Ordering::Equal => outcome.number == FILLED,
+        Ordering::Less if word == 0 => matches!(outcome.number, WHOLE | CLASH) && unchanged,
+        Ordering::Less => outcome.number == FILLED || outcome.number == CLASH && unchanged,
+    };
+    ledger.demand(met, "a row of power sums is not answered by its number of marks", &call);
 }
 
 /// Stripes of any symbols in which every row has more marks than sums at level 1: Stuck there, and nothing changes.
 fn overfull_stripes(ledger: &mut Ledger, plan: &Plan, chance: &mut Chance) {
     for _ in 0..OVERFULL_STRIPES {
-        let marks: Vec<u64> = (0..plan.rows).map(|_| damage::columns(3 + chance.below(13), plan, chance)).collect();
+        let count = |chance: &mut Chance| 3 + chance.below(plan.columns - 2);
+        let marks: Vec<u64> = (0..plan.rows).map(|_| damage::columns(count(chance), plan, chance)).collect();
         let stripe = chance.bytes_below(plan.q(), plan.symbols());
         let call = mend_call(plan, &stripe, &marks, chance);
         let outcome = ledger.hold(&call);
         let met = outcome.number == STUCK && outcome.buffers[..2] == call.buffers[..2];
-        ledger.demand(met, "a stripe of plan 3 with too many marks in every row is not Stuck", &call);
+        ledger.demand(met, "a stripe of power sums with too many marks in every row is not Stuck", &call);
     }
 }
 
@@ -219,8 +232,10 @@ fn overfull_stripes(ledger: &mut Ledger, plan: &Plan, chance: &mut Chance) {
 pub fn failing_levels(ledger: &mut Ledger) {
     let mut chance = Chance::seeded(143);
     for (plan, next) in levels(2) {
+        // plan 4 has sixteen times as many sets
+        let rounds = if plan.rows > 8 { 1 } else { ROUNDS_OF_LEVELS };
         for set in 0..1usize << plan.rows {
-            for _ in 0..ROUNDS_OF_LEVELS {
+            for _ in 0..rounds {
                 let any_word = |chance: &mut Chance| damage::columns(1 + chance.below(plan.columns), plan, chance);
                 let word = |row: usize| if set >> row & 1 == 1 { any_word(&mut chance) } else { 0 };
                 let marks: Vec<u64> = (0..plan.rows).map(word).collect();

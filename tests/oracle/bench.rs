@@ -3,7 +3,7 @@
 //! them, and whether of one choice of them alone.
 
 use super::answers::*;
-use super::binary::{Bits, Span};
+use super::binary::{total, Bits, Span};
 use super::plan::{marked, Plan};
 use std::ops::Range;
 
@@ -110,7 +110,7 @@ fn learned(bench: &[u8], plan: &Plan, level: usize, row: usize) -> Bits {
 /// The sums of all levels that the unmarked symbols of one row have.
 fn known_sums(plan: &Plan, symbols: &[u8], row: usize, word: u64) -> Bits {
     let bits = plan.set_bits(symbols, |at, column| at == row && !marked(word, column));
-    bits.fold(Bits::default(), |sum, (row, column, bit)| sum.plus(plan.row_share(row, column, bit)))
+    total(bits.map(|(row, column, bit)| plan.row_share(row, column, bit)))
 }
 
 pub fn row_step(bench: &mut [u8], row: usize) -> usize {
@@ -152,14 +152,13 @@ pub fn level_step(bench: &mut [u8]) -> usize {
     }
     let next = level + 1;
     let first = plan.sums_to(level);
-    let bits = sum_bits(plan, next);
-    let (unknown, known): (Vec<_>, Vec<_>) = bits.into_iter().partition(|&(row, _, _)| marks[row] != 0);
-    let weights = Span::of(unknown.iter().map(|&(row, sum, bit)| plan.total_share(next, row, sum, bit)));
+    let (unknown, known): (Vec<_>, Vec<_>) = plan.sum_bits(next).partition(|&(row, _, _)| marks[row] != 0);
+    let weights = Span::of(unknown.iter().map(|&(row, sum, bit)| *plan.total_share(next, row, sum, bit)));
     let own: Vec<Bits> = (0..plan.rows).map(|row| known_sums(plan, &symbols, row, 0)).collect();
     let is_set = |row: usize, sum: usize, bit: usize| own[row].has(plan.sum_at(row, first + sum) + bit);
     let ones = known.iter().filter(|&&(row, sum, bit)| is_set(row, sum, bit));
-    let total = ones.fold(Bits::default(), |all, &(row, sum, bit)| all.plus(plan.total_share(next, row, sum, bit)));
-    let Some(found) = weights.reach(total) else { return CLASH };
+    let totals = total(ones.map(|&(row, sum, bit)| plan.total_share(next, row, sum, bit)));
+    let Some(found) = weights.reach(totals) else { return CLASH };
     if !weights.independent() {
         return BLOCKED;
     }
@@ -173,10 +172,4 @@ pub fn level_step(bench: &mut [u8]) -> usize {
     }
     bench[LEVEL] = next as u8;
     RAISED
-}
-
-/// Every bit of every row's sums of one level: row, sum, bit.
-pub fn sum_bits(plan: &Plan, level: usize) -> Vec<(usize, usize, usize)> {
-    let (sums, width) = (plan.levels[level - 1].sums, plan.width);
-    (0..plan.rows * sums * width).map(|n| (n / (sums * width), n / width % sums, n % width)).collect()
 }

@@ -2,8 +2,8 @@
 //! whose unknowns are the bits of all marked places. It does not use the steps of the bench.
 
 use super::answers::*;
-use super::bench::{lent, sum_bits};
-use super::binary::{Bits, Span};
+use super::bench::lent;
+use super::binary::{total, Bits, Span};
 use super::plan::{marked, Plan};
 
 /// What mending comes to.
@@ -71,7 +71,7 @@ impl Work<'_> {
     /// The sums of all rows and levels that the unmarked symbols have.
     fn known_sums(&self) -> Bits {
         let bits = self.plan.set_bits(&self.symbols, |row, column| !marked(self.marks[row], column));
-        bits.fold(Bits::default(), |sum, (row, column, bit)| sum.plus(self.plan.row_share(row, column, bit)))
+        total(bits.map(|(row, column, bit)| self.plan.row_share(row, column, bit)))
     }
 
     /// Fills every row whose marked columns are independent at this level, and says how many had marks;
@@ -83,13 +83,13 @@ impl Work<'_> {
         let system = Span::of(unknown.iter().map(|&(row, column, bit)| plan.row_share(row, column, bit).within(checks)));
         let mut tied = vec![false; plan.rows];
         for (n, &(row, _, _)) in unknown.iter().enumerate() {
-            tied[row] |= system.vanishing.iter().any(|set| set.has(n));
+            tied[row] |= system.tied.has(n);
         }
         let missing = self.known_sums().within(checks).plus(self.sums);
         let block = |row| Bits::range(plan.sum_at(row, 0), plan.sum_at(row + 1, 0));
         let mut ones = Bits::default();
         for row in 0..plan.rows {
-            ones = ones.plus(system.reach(missing.within(block(row))).ok_or(row)?);
+            ones.add(&system.reach(missing.within(&block(row))).ok_or(row)?);
         }
         for (n, &(row, column, bit)) in unknown.iter().enumerate().filter(|(_, place)| !tied[place.0]) {
             let symbol = &mut self.symbols[row * plan.columns + column];
@@ -108,22 +108,20 @@ impl Work<'_> {
         }
         let next = self.level + 1;
         let at = |row, sum| plan.sum_at(row, plan.sums_to(self.level) + sum);
-        let bits = sum_bits(plan, next);
-        let unknown: Vec<_> = bits.iter().filter(|&&(row, _, _)| self.marks[row] != 0).collect();
-        let system = Span::of(unknown.iter().map(|&&(row, sum, bit)| plan.total_share(next, row, sum, bit)));
+        let (unknown, own): (Vec<_>, Vec<_>) = plan.sum_bits(next).partition(|&(row, _, _)| self.marks[row] != 0);
+        let system = Span::of(unknown.iter().map(|&(row, sum, bit)| *plan.total_share(next, row, sum, bit)));
         let known = self.known_sums();
-        let (mut total, mut sums) = (Bits::default(), self.sums);
-        let own = bits.iter().filter(|&&(row, sum, bit)| self.marks[row] == 0 && known.has(at(row, sum) + bit));
-        for &(row, sum, bit) in own {
-            total = total.plus(plan.total_share(next, row, sum, bit));
-            sums = sums.plus(Bits::single(at(row, sum) + bit));
+        let (mut totals, mut sums) = (Bits::default(), self.sums);
+        for (row, sum, bit) in own.into_iter().filter(|&(row, sum, bit)| known.has(at(row, sum) + bit)) {
+            totals.add(plan.total_share(next, row, sum, bit));
+            sums.set(at(row, sum) + bit);
         }
-        let Some(ones) = system.reach(total) else { return CLASH };
+        let Some(ones) = system.reach(totals) else { return CLASH };
         if !system.independent() {
             return BLOCKED;
         }
-        for (_, &&(row, sum, bit)) in unknown.iter().enumerate().filter(|&(n, _)| ones.has(n)) {
-            sums = sums.plus(Bits::single(at(row, sum) + bit));
+        for (_, &(row, sum, bit)) in unknown.iter().enumerate().filter(|&(n, _)| ones.has(n)) {
+            sums.set(at(row, sum) + bit);
         }
         (self.sums, self.level) = (sums, next);
         RAISED

@@ -1,6 +1,7 @@
 //! The plans, in the words of the requirements, and the vectors of bits that stand for their checks.
 
 use super::binary::Bits;
+use std::ops::RangeInclusive;
 use std::sync::OnceLock;
 
 /// A level: how many sums it gives a row, and the weights of each of its totals over the rows.
@@ -24,8 +25,13 @@ pub struct Plan {
     /// Least distances of the row code and of the stripe code.
     pub row_distance: usize,
     pub distance: usize,
+    /// Products x times y, at q x + y.
+    products: Vec<u8>,
+    /// What symbol x in column c adds to its row's sums of all levels, at q c + x.
+    shares: Vec<Vec<u8>>,
     row_shares: Vec<Bits>,
     stripe_shares: Vec<Bits>,
+    total_shares: Vec<Vec<Bits>>,
     up_to_level: Vec<Bits>,
 }
 
@@ -55,6 +61,11 @@ pub fn times64(x: u8, y: u8) -> u8 {
     product(x, y, 0b1000011, 6)
 }
 
+/// GF(256) by x^8 + x^4 + x^3 + x^2 + 1.
+pub fn times256(x: u8, y: u8) -> u8 {
+    product(x, y, 0b100011101, 8)
+}
+
 pub fn power(times: fn(u8, u8) -> u8, x: u8, exponent: usize) -> u8 {
     (0..exponent).fold(1, |sum, _| times(sum, x))
 }
@@ -66,53 +77,47 @@ fn bits(value: u8, width: usize) -> Vec<u8> {
 
 /// What a symbol in a column adds to its row's sums of a level, in the order of the requirements.
 pub fn share(plan: usize, level: usize, column: usize, symbol: u8) -> Vec<u8> {
-    match plan {
-        1 => {
-            let location = column as u8 + 1;
-            match level {
-                1 => vec![symbol],
-                _ => bits(symbol * location, 3),
-            }
-        }
-        2 => {
-            let location = if column == 31 { 0 } else { power(times32, 2, column) };
-            match level {
-                1 => [vec![symbol], bits(symbol * location, 5)].concat(),
-                2 => bits(symbol * power(times32, location, 3), 5),
-                _ => bits(symbol * power(times32, location, 5), 5),
-            }
-        }
-        5 => {
-            let location = if column == 63 { 0 } else { power(times64, 2, column) };
-            match level {
-                1 => [vec![symbol], bits(symbol * location, 6)].concat(),
-                2 => bits(symbol * power(times64, location, 3), 6),
-                _ => bits(symbol * power(times64, location, 5), 6),
-            }
-        }
-        _ => {
-            let location = power(times16, 2, column);
-            let sum = |p| times16(symbol, power(times16, location, p));
-            match level {
-                1 => vec![sum(0), sum(1)],
-                2 => vec![sum(2)],
-                _ => vec![sum(3), sum(4), sum(5), sum(6)],
-            }
-        }
+    match (plan, level) {
+        (1, 1) => vec![symbol],
+        (1, _) => bits(symbol * (column as u8 + 1), 3),
+        (2, _) => located_share(times32, 5, level, column, symbol),
+        (5, _) => located_share(times64, 6, level, column, symbol),
+        (3, 1) => power_share(times16, 0..=1, column, symbol),
+        (3, 2) => power_share(times16, 2..=2, column, symbol),
+        (3, _) => power_share(times16, 3..=6, column, symbol),
+        (_, 1) => power_share(times256, 0..=1, column, symbol),
+        (_, 2) => power_share(times256, 2..=3, column, symbol),
+        _ => power_share(times256, 4..=8, column, symbol),
     }
+}
+
+/// Plans 2 and 5: location a^c, and 0 in the last column; parity and location, its cube, its fifth power.
+fn located_share(times: fn(u8, u8) -> u8, width: usize, level: usize, column: usize, symbol: u8) -> Vec<u8> {
+    let location = if column + 1 == 1 << width { 0 } else { power(times, 2, column) };
+    match level {
+        1 => [vec![symbol], bits(symbol * location, width)].concat(),
+        2 => bits(symbol * power(times, location, 3), width),
+        _ => bits(symbol * power(times, location, 5), width),
+    }
+}
+
+/// Plans 3 and 4: location a^c; these power sums.
+fn power_share(times: fn(u8, u8) -> u8, sums: RangeInclusive<usize>, column: usize, symbol: u8) -> Vec<u8> {
+    let location = power(times, 2, column);
+    sums.map(|p| times(symbol, power(times, location, p))).collect()
 }
 
 impl Plan {
     /// The plan of a number, if there is one.
     pub fn numbered(number: usize) -> Option<&'static Plan> {
         static PLANS: OnceLock<Vec<Plan>> = OnceLock::new();
-        let plans = PLANS.get_or_init(|| vec![Plan::first(), Plan::second(), Plan::third(), Plan::fifth()]);
+        let plans = PLANS.get_or_init(|| vec![Plan::first(), Plan::second(), Plan::third(), Plan::fourth(), Plan::fifth()]);
         plans.iter().find(|plan| plan.number == number)
     }
 
-    /// Every plan. None has number 4.
+    /// Every plan.
     pub fn all() -> impl Iterator<Item = &'static Plan> {
-        [1, 2, 3, 5].into_iter().filter_map(Plan::numbered)
+        (1..=5).filter_map(Plan::numbered)
     }
 
     fn first() -> Plan {
@@ -138,6 +143,18 @@ impl Plan {
         let weights = vec![vec![vec![1; 8], powers], vec![vec![1; 8]]];
         let counts = vec![(3, 2), (4, 1), (8, 0)];
         Plan::built(3, 4, (8, 15), weights, |row| (first_check(row)..15).collect(), counts, 3)
+    }
+
+    fn fourth() -> Plan {
+        let first_check = |row| match row {
+            0..=8 => 22,
+            9 | 10 => 20,
+            _ => 15,
+        };
+        let powers = |step: usize| (0..12).map(|row| power(times256, 2, step * row)).collect();
+        let weights = vec![vec![vec![1; 12], powers(1), powers(2)], vec![vec![1; 12]]];
+        let counts = vec![(3, 3), (5, 1), (10, 0)];
+        Plan::built(4, 8, (12, 24), weights, |row| (first_check(row)..24).collect(), counts, 3)
     }
 
     fn fifth() -> Plan {
@@ -171,20 +188,41 @@ impl Plan {
             distance: counts.last().map_or(0, |&(marks, _)| marks),
             counts,
             row_distance,
+            products: Vec::new(),
+            shares: Vec::new(),
             row_shares: Vec::new(),
             stripe_shares: Vec::new(),
+            total_shares: Vec::new(),
             up_to_level: Vec::new(),
         };
+        let q = plan.q();
+        plan.products = (0..q * q).map(|n| plan.product_of((n / q) as u8, (n % q) as u8)).collect();
+        plan.shares = (0..columns * q).map(|n| plan.share_of(n / q, (n % q) as u8)).collect();
         plan.row_shares = plan.places().map(|place| plan.row_share_of(place)).collect();
         plan.stripe_shares = plan.places().map(|place| plan.stripe_share_of(place)).collect();
+        plan.total_shares = (1..=plan.last()).map(|level| plan.total_shares_of(level)).collect();
         plan.up_to_level = (0..=plan.last()).map(|level| plan.bits_up_to(level)).collect();
         plan
+    }
+
+    /// The product in the plan's field.
+    fn product_of(&self, x: u8, y: u8) -> u8 {
+        match self.width {
+            1 => x & y,
+            4 => times16(x, y),
+            _ => times256(x, y),
+        }
+    }
+
+    fn share_of(&self, column: usize, symbol: u8) -> Vec<u8> {
+        (1..=self.last()).flat_map(|level| share(self.number, level, column, symbol)).collect()
     }
 
     /// Every bit of every place: row, column, bit.
     fn places(&self) -> impl Iterator<Item = (usize, usize, usize)> + use<> {
         let (columns, width) = (self.columns, self.width);
-        (0..self.rows * columns * width).map(move |n| (n / (columns * width), n / width % columns, n % width))
+        let of_row = move |row| (0..columns).flat_map(move |column| (0..width).map(move |bit| (row, column, bit)));
+        (0..self.rows).flat_map(of_row)
     }
 
     fn place(&self, row: usize, column: usize, bit: usize) -> usize {
@@ -193,8 +231,8 @@ impl Plan {
 
     /// The sums that one bit of a place adds to, in the block of its row.
     fn row_share_of(&self, (row, column, bit): (usize, usize, usize)) -> Bits {
-        let shares = (1..=self.last()).flat_map(|level| share(self.number, level, column, 1 << bit));
-        shares.enumerate().fold(Bits::default(), |sum, (j, value)| sum.plus(Bits::number(self.sum_at(row, j), value)))
+        let shares = self.shares(column, 1 << bit).iter().enumerate();
+        shares.fold(Bits::default(), |sum, (j, &value)| sum.plus(Bits::number(self.sum_at(row, j), value)))
     }
 
     /// The totals that one bit of a place adds to: its column of the paper's matrix H.
@@ -260,13 +298,13 @@ impl Plan {
         self.levels[..level].iter().map(|level| level.sums).sum()
     }
 
-    /// The product in the plan's field.
     pub fn times(&self, x: u8, y: u8) -> u8 {
-        if self.width == 1 {
-            x & y
-        } else {
-            times16(x, y)
-        }
+        self.products[x as usize * self.q() + y as usize]
+    }
+
+    /// What a symbol in a column adds to its row's sums of all levels.
+    pub fn shares(&self, column: usize, symbol: u8) -> &[u8] {
+        &self.shares[column * self.q() + symbol as usize]
     }
 
     /// Where the bits of a row's sum stand among those of all rows.
@@ -275,22 +313,30 @@ impl Plan {
     }
 
     /// What one bit of a place adds to the sums of all rows.
-    pub fn row_share(&self, row: usize, column: usize, bit: usize) -> Bits {
-        self.row_shares[self.place(row, column, bit)]
+    pub fn row_share(&self, row: usize, column: usize, bit: usize) -> &Bits {
+        &self.row_shares[self.place(row, column, bit)]
     }
 
     /// What one bit of a place adds to the totals of all levels.
-    pub fn stripe_share(&self, row: usize, column: usize, bit: usize) -> Bits {
-        self.stripe_shares[self.place(row, column, bit)]
+    pub fn stripe_share(&self, row: usize, column: usize, bit: usize) -> &Bits {
+        &self.stripe_shares[self.place(row, column, bit)]
     }
 
     /// The bits of the sums of all rows at the levels from 1 to this one.
-    pub fn up_to(&self, level: usize) -> Bits {
-        self.up_to_level[level]
+    pub fn up_to(&self, level: usize) -> &Bits {
+        &self.up_to_level[level]
     }
 
     /// What one bit of a row's sum of a level adds to the totals of that level.
-    pub fn total_share(&self, level: usize, row: usize, sum: usize, bit: usize) -> Bits {
+    pub fn total_share(&self, level: usize, row: usize, sum: usize, bit: usize) -> &Bits {
+        &self.total_shares[level - 1][(row * self.levels[level - 1].sums + sum) * self.width + bit]
+    }
+
+    fn total_shares_of(&self, level: usize) -> Vec<Bits> {
+        self.sum_bits(level).map(|bit| self.total_share_of(level, bit)).collect()
+    }
+
+    fn total_share_of(&self, level: usize, (row, sum, bit): (usize, usize, usize)) -> Bits {
         let level = &self.levels[level - 1];
         let totals = level.weights.iter().enumerate();
         totals.fold(Bits::default(), |all, (total, weights)| {
@@ -299,8 +345,15 @@ impl Plan {
         })
     }
 
+    /// Every bit of every row's sums of one level: row, sum, bit.
+    pub fn sum_bits(&self, level: usize) -> impl Iterator<Item = (usize, usize, usize)> + use<> {
+        let (sums, width) = (self.levels[level - 1].sums, self.width);
+        let of_row = move |row| (0..sums).flat_map(move |sum| (0..width).map(move |bit| (row, sum, bit)));
+        (0..self.rows).flat_map(of_row)
+    }
+
     pub fn is_check(&self, row: usize, column: usize) -> bool {
-        self.check_places.contains(&(row, column))
+        self.check_places.binary_search(&(row, column)).is_ok()
     }
 
     /// The set bits of the symbols of a stripe, those at places for which the test holds.
@@ -309,8 +362,12 @@ impl Plan {
         symbols: &'a [u8],
         test: impl Fn(usize, usize) -> bool + 'a,
     ) -> impl Iterator<Item = (usize, usize, usize)> + 'a {
-        self.places()
-            .filter(move |&(row, column, bit)| test(row, column) && symbols[row * self.columns + column] >> bit & 1 == 1)
+        let shown = move |place: usize| if test(place / self.columns, place % self.columns) { symbols[place] } else { 0 };
+        let places = (0..self.symbols()).map(move |place| (place, shown(place))).filter(|&(_, symbol)| symbol != 0);
+        places.flat_map(move |(place, symbol)| {
+            let bits = (0..self.width).filter(move |bit| symbol >> bit & 1 == 1);
+            bits.map(move |bit| (place / self.columns, place % self.columns, bit))
+        })
     }
 
     /// The bits of the places for which the test holds.

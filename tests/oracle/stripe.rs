@@ -2,13 +2,20 @@
 //! All checks of the stripe are taken at once.
 
 use super::answers::*;
-use super::binary::{Bits, Span};
+use super::binary::{total, Bits, Span};
 use super::plan::{marked, Plan};
+use std::collections::BTreeMap;
+use std::sync::OnceLock;
 
 /// The totals of all levels, over the places for which the test holds.
 fn totals(plan: &Plan, stripe: &[u8], test: impl Fn(usize, usize) -> bool) -> Bits {
     let bits = plan.set_bits(stripe, test);
-    bits.fold(Bits::default(), |sum, (row, column, bit)| sum.plus(plan.stripe_share(row, column, bit)))
+    total(bits.map(|(row, column, bit)| plan.stripe_share(row, column, bit)))
+}
+
+/// What the bits of some places add to the totals of all levels.
+fn span(plan: &Plan, bits: &[(usize, usize, usize)]) -> Span {
+    Span::of(bits.iter().map(|&(row, column, bit)| *plan.stripe_share(row, column, bit)))
 }
 
 /// Which codewords hold given symbols at the places that are not open.
@@ -21,10 +28,13 @@ pub enum Agreeing {
     },
 }
 
-/// The codewords that have the stripe's symbols at every place that is not open.
-fn holding(plan: &Plan, stripe: &[u8], open: impl Fn(usize, usize) -> bool) -> Agreeing {
-    let unknown = plan.bits_of(&open);
-    let span = Span::of(unknown.iter().map(|&(row, column, bit)| plan.stripe_share(row, column, bit)));
+/// The codewords that have the stripe's symbols at every place that is not open. The bits of the open places are given, and their span.
+fn holding(
+    plan: &Plan,
+    stripe: &[u8],
+    open: impl Fn(usize, usize) -> bool,
+    (unknown, span): (&[(usize, usize, usize)], &Span),
+) -> Agreeing {
     let Some(ones) = span.reach(totals(plan, stripe, |row, column| !open(row, column))) else {
         return Agreeing::None;
     };
@@ -33,20 +43,22 @@ fn holding(plan: &Plan, stripe: &[u8], open: impl Fn(usize, usize) -> bool) -> A
     for (n, &(row, column, bit)) in unknown.iter().enumerate() {
         let place = row * plan.columns + column;
         one[place] = if bit == 0 { 0 } else { one[place] } | (ones.has(n) as u8) << bit;
-        settled[place] &= !span.vanishing.iter().any(|set| set.has(n));
+        settled[place] &= !span.tied.has(n);
     }
     Agreeing::Some { one, settled }
 }
 
 /// The codewords that agree with the unmarked symbols.
 pub fn agreeing(plan: &Plan, stripe: &[u8], marks: &[u64]) -> Agreeing {
-    holding(plan, stripe, |row, column| marked(marks[row], column))
+    let open = |row: usize, column: usize| marked(marks[row], column);
+    let unknown = plan.bits_of(open);
+    holding(plan, stripe, open, (&unknown, &span(plan, &unknown)))
 }
 
 /// For each bit of the totals of all levels a stripe of which that bit alone is not zero.
 pub fn failing_one_check(plan: &Plan) -> Vec<Vec<u8>> {
     let places = plan.bits_of(|_, _| true);
-    let span = Span::of(places.iter().map(|&(row, column, bit)| plan.stripe_share(row, column, bit)));
+    let span = span(plan, &places);
     let stripe = |check: usize| {
         let ones = span.reach(Bits::single(check)).expect("the checks are independent of each other");
         let mut stripe = vec![0; plan.symbols()];
@@ -60,8 +72,7 @@ pub fn failing_one_check(plan: &Plan) -> Vec<Vec<u8>> {
 
 /// The number of checks of the stripe that are independent of each other.
 pub fn rank(plan: &Plan) -> usize {
-    let bits = plan.bits_of(|_, _| true);
-    Span::of(bits.iter().map(|&(row, column, bit)| plan.stripe_share(row, column, bit))).rank() / plan.width
+    span(plan, &plan.bits_of(|_, _| true)).rank() / plan.width
 }
 
 fn all_below_q(plan: &Plan, symbols: &[u8]) -> bool {
@@ -92,6 +103,18 @@ fn data_places(plan: &Plan) -> impl Iterator<Item = usize> + '_ {
     (0..plan.symbols()).filter(|place| !plan.is_check(place / plan.columns, place % plan.columns))
 }
 
+/// The bits of a plan's check places, and their span: found once, since every encoding asks for them.
+fn check_bits(plan: &Plan) -> (&'static [(usize, usize, usize)], &'static Span) {
+    static SPANS: OnceLock<BTreeMap<usize, (Vec<(usize, usize, usize)>, Span)>> = OnceLock::new();
+    let of_plan = |plan: &Plan| {
+        let bits = plan.bits_of(|row, column| plan.is_check(row, column));
+        let span = span(plan, &bits);
+        (plan.number, (bits, span))
+    };
+    let (bits, span) = &SPANS.get_or_init(|| Plan::all().map(of_plan).collect())[&plan.number];
+    (bits, span)
+}
+
 pub fn encode(plan: usize, data: &[u8], stripe: &mut [u8]) -> usize {
     let Some(plan) = Plan::numbered(plan) else { return UNKNOWN_PLAN };
     if data.len() != plan.carried() || stripe.len() != plan.symbols() {
@@ -102,7 +125,8 @@ pub fn encode(plan: usize, data: &[u8], stripe: &mut [u8]) -> usize {
     }
     let mut placed = vec![0; plan.symbols()];
     data_places(plan).zip(data).for_each(|(place, &symbol)| placed[place] = symbol);
-    let Agreeing::Some { one, settled } = holding(plan, &placed, |row, column| plan.is_check(row, column)) else {
+    let is_check = |row: usize, column: usize| plan.is_check(row, column);
+    let Agreeing::Some { one, settled } = holding(plan, &placed, is_check, check_bits(plan)) else {
         panic!("the check places can't be filled");
     };
     assert!(settled.iter().all(|&settled| settled), "the check places can be filled in two ways");

@@ -33,10 +33,12 @@ fn grid(plan: &Plan, end: &Mended) -> String {
     (0..plan.rows).fold(first, |text, row| text + &row_line(plan, end, row) + "\n")
 }
 
+/// A symbol is as many hex digits as its bits ask for, the high digit first.
 fn row_line(plan: &Plan, end: &Mended, row: usize) -> String {
+    let digits = plan.width.div_ceil(4);
     let shown = |column: usize| match marked(end.marks[row], column) {
-        true => "?".to_string(),
-        false => format!("{:x}", end.stripe[row * plan.columns + column]),
+        true => "?".repeat(digits),
+        false => format!("{:0digits$x}", end.stripe[row * plan.columns + column]),
     };
     (0..plan.columns).map(shown).collect()
 }

@@ -1,5 +1,6 @@
 -- The rows' weighted total: the loops that add it up, and its sums. Assumes nothing.
 use mathlib.Core.Path.{_≡_, refl, sym, ap, ap₂, _∙_, subst}
+use mathlib.Core.Logic.{_≢_}
 use mathlib.Core.List.{List, [], _∷_, map}
 use Prim.Native.Nat.{ℕ, zero, suc, _+_, _*_, _≤_, _<_}
 use native.Mathlib.Nat.{zero-mul, suc-mul, zero-add, add-zero, le-of-eq}
@@ -10,11 +11,11 @@ use lib.Dec.{lit<}
 use lib.ListN.{length, getD, set, take, drop, replicate, length-map, List·getD-map, drop-of-length-le}
 use lib.Seq.{take-all, drop-cons, drop-drop, drop-paste, getD-drop}
 use Rattle.field.specs.Lists.{if_then_else_}
-use Rattle.field.specs.Field.{_⊕_, Field, size, mul, dot, gf2, gf16}
+use Rattle.field.specs.Field.{_⊕_, Field, size, mul, dot, gf2, gf16, gf256}
 use Rattle.field.specs.Ours.{fieldOf}
 use Rattle.field.proofs.Sum.{⊕-assoc, ⊕-zero, zero-⊕}
 use Rattle.field.proofs.Ring.{one-low}
-use Rattle.field.proofs.Fields.{field-16}
+use Rattle.field.proofs.Fields.{field-256}
 use Rattle.field.proofs.Laws.{IsField, mul-zero}
 use Rattle.fills.specs.Marks.{rowsOf}
 use Rattle.fills.specs.Lists.{plus}
@@ -33,9 +34,13 @@ pub bits-2 : {q bits : ℕ} → q ≡ 2 → bits ≡ 1 → Bits q bits
 unfolding if_then_else_ size gf2 fieldOf
 bits-2 e b = record { plain = λ x. rw (e, b) (and-mask x 1 ∙ sym (one-low gf2 (lit< tt) x)) }
 
-pub bits-16 : {q bits : ℕ} → (q ≡ 2 → ⊥) → bits ≡ 15 → Bits q bits
-unfolding size gf16
-bits-16 {q} ne b = record { plain = λ x. rw (field-16 q ne, b) (and-mask x 4 ∙ sym (one-low gf16 (lit< tt) x)) }
+pub bits-16 : {q bits : ℕ} → q ≡ 16 → bits ≡ 15 → Bits q bits
+unfolding if_then_else_ size gf16 fieldOf
+bits-16 e b = record { plain = λ x. rw (e, b) (and-mask x 4 ∙ sym (one-low gf16 (lit< tt) x)) }
+
+pub bits-256 : {q bits : ℕ} → q ≢ 2 → q ≢ 16 → bits ≡ 255 → Bits q bits
+unfolding size gf256
+bits-256 {q} two sixteen b = record { plain = λ x. rw (field-256 q two sixteen, b) (and-mask x 8 ∙ sym (one-low gf256 (lit< tt) x)) }
 
 module _ (F : Field) (w : ℕ) (row total₀ : List ℕ) (same : length row ≡ length total₀) where
   abbrev added : List ℕ

@@ -55,7 +55,11 @@ pub fn add_plain(q: usize, row: &[u8], total: &mut [u8])
     requires { ⌜ length (now row) ≡ length (now total) ⌝ }
     ensures { λ _. ⌜ now (total .exit) ≡ plus (now (total .entry)) (map (mul (fieldOf q) 1) (now (row .entry))) ⌝ }
 {
-    let bits = if q == 2 { 1 } else { 15 };
+    let bits = match q {
+        2 => 1,
+        16 => 15,
+        _ => 255,
+    };
     for c in 0..row.len() {
         total[c] = total[c] ^ row[c] & bits;
     }
@@ -140,9 +144,9 @@ pub fn holds(plan: usize, stripe: &[u8]) -> bool
     ensures { λ r. ⌜ r ≡ isCodeword (planOf plan) (now (stripe .entry)) ⌝ }
 {
     let facts = tables::facts_of(plan);
-    let table = field::products();
-    let entries = field::entries(facts.field);
-    let mut checks = [0u8; CHECKS];
-    let size = tables::put_checks(plan, &mut checks[..]);
-    holds_by(plan, &table[..entries], &checks[..size], stripe)
+    let mut room = [0u8; CHECKS];
+    let size = tables::put_checks(plan, &mut room);
+    let end = tables::put_table(facts.field, &mut room, size);
+    let lent = &room[..end];
+    holds_by(plan, &lent[size..], &lent[..size], stripe)
 }

@@ -15,7 +15,7 @@ use Rattle.demands.specs.Parameters.{RowWord}
 use Rattle.demands.proofs.Square.{Square, columnsAt, by-inverse}
 -- and what a plan's file says it with
 pub use lib.ListN.{replicate}
-unfoldable pub use Rattle.plans.proofs.Known.{flatMap, upFrom, _⊕_, size, double, times, mul, gf2, gf16, gf32, gf64, power, all, allOnes, bitChecks, checksTo}
+unfoldable pub use Rattle.plans.proofs.Known.{flatMap, upFrom, _⊕_, size, double, times, mul, gf2, gf16, gf32, gf64, gf256, power, all, allOnes, bitChecks, checksTo}
 pub use Rattle.plans.proofs.Known.{ℕ, suc, arith, refl, List, [], _∷_, _++_, map, T, lit<, _&_}
 unfoldable pub use Rattle.field.specs.Lists.{if_then_else_, weight}
 unfoldable pub use Rattle.field.specs.Field.{dot}

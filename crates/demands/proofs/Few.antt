@@ -27,18 +27,19 @@ use Rattle.demands.proofs.Backed.{count, Backed, RowSquare, waiting}
 use Rattle.demands.proofs.Plan1.{backed-1}
 use Rattle.demands.proofs.Plan2.{backed-2}
 use Rattle.demands.proofs.Plan3.{backed-3}
+use Rattle.demands.proofs.Plan4.{backed-4}
 use Rattle.demands.proofs.Plan5.{backed-5}
 use Rattle.demands.proofs.Square.{Square}
 
 pub backed : (p : ℕ) → T (known p) → Backed p
 unfolding upFrom
-backed = of-known Backed (backed-1 & backed-2 & backed-3 & backed-5 & tt)
+backed = of-known Backed (backed-1 & backed-2 & backed-3 & backed-4 & backed-5 & tt)
 
 -- a count is a known plan's and a level's, or there is none
 counted : (p i : ℕ) → (count p i ≡ (0, 0)) ⊎ (T (known p) × (i < length (counts p)))
 unfolding counts
 counted p i = elim (either (ltb i (length (counts p)))) [
-  | inl l ↦ elim (known-or-past nothing published refl refl p) [
+  | inl l ↦ elim (known-or-past nothing published refl p) [
     | inl kn ↦ inr (kn, ltb→lt i (length (counts p)) l)
     | inr e ↦ inl (ap (λ (B : Published). getD (B .counts) i (0, 0)) e)
   ]

@@ -8,6 +8,7 @@ pub mod Backed
 pub mod Plan1
 pub mod Plan2
 pub mod Plan3
+pub mod Plan4
 pub mod Plan5
 pub mod Few
 -- a bench and a codeword that agrees with it
@@ -31,6 +32,7 @@ pub mod Encoding
 pub mod Third
 pub mod Fewer
 pub mod Refused
+pub mod Bytes
 pub mod Blind
 pub mod Silence
 pub mod Reading

@@ -35,7 +35,7 @@ distance-met p kn = backed p kn .light-word
 pub known-by-distance : (p : ℕ) → 0 < rowDistance p + distance p → T (known p)
 unfolding rowDistance distance
 known-by-distance p h =
-    elim (known-or-past nothing published refl refl p) [
+    elim (known-or-past nothing published refl p) [
       | inl k ↦ k
       | inr e ↦ absurd (not-suc-le-zero (subst (λ (B : Published). 0 < B .d0 + B .d) e h))
     ]

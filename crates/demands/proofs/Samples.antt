@@ -13,7 +13,7 @@ use Rattle.fills.specs.Lists.{any, all, only, same, zeros, vanish, first, rest,
 use Rattle.fills.specs.Marks.{bitsOf}
 use Rattle.fills.specs.Fill.{sumsOf, options, before, oneOfEach, choices, loose, dependent, fillings, fillBy, fill, isNone, vectorIn}
 use Rattle.fills.proofs.Choices.{alike-at}
-use Rattle.plans.specs.Plan.{allOnes, bitChecks, wordOf, locations1, binaryPlan, plan1, plan2, plan3, plan5, known, noPlan, planOf, noLevel, levelOf, checksTo, rowAt, marksAt, marksOf, across, checkPlacesOf, carried, marksOffset, wideMarks, wordBytes, symbolsOffset, fileLength}
+use Rattle.plans.specs.Plan.{allOnes, bitChecks, wordOf, locations1, binaryPlan, plan1, plan2, plan3, plan4, plan5, known, noPlan, planOf, noLevel, levelOf, checksTo, rowAt, marksAt, marksOf, across, checkPlacesOf, carried, marksOffset, wideMarks, wordBytes, symbolsOffset, fileLength}
 use Rattle.plans.specs.Rooms.{rowRoom, symbolRoom, sumRoom, learnedRoom}
 use Rattle.plans.specs.Refusal.{firstFailed, unasked, stripeFits, wordsFit, marksFit, allBelow, unmarkedBelow, symbolsFit, sumsAt, sumsFit, levelFits, lentRefusal, benchRefusal, lentTests, benchTests}
 use Rattle.steps.specs.Steps.{fresh, empty, stepped, unlessRefused, rowFill, putRow, rowStepBy, rowStep, lossy, checkFill, levelFill, keepSums, raise, levelStepBy, levelStep}
@@ -49,9 +49,9 @@ use Rattle.demands.proofs.Silence.{fresh-same}
 use Rattle.demands.proofs.Distance.{blankOf, blank-codeword}
 
 -- the plans' numbers
-pub plans-known : T (known 1) × T (known 2) × T (known 3) × T (known 5)
-unfolding binaryPlan plan1 plan2 plan3 plan5 planOf known
-plans-known = (tt, tt, tt, tt)
+pub plans-known : T (known 1) × T (known 2) × T (known 3) × T (known 4) × T (known 5)
+unfolding binaryPlan plan1 plan2 plan3 plan4 plan5 planOf known
+plans-known = (tt, tt, tt, tt, tt)
 
 -- stripes agree where their unmarked symbols are the same
 pub agree : (p : ℕ) (marks X Y : List ℕ) → let ms = marksOf (planOf p) marks in taken ms X ≡ taken ms Y → Agree p marks X Y
@@ -244,7 +244,7 @@ same-read = record { plan = refl; level = refl; symbols = refl; marks = refl; su
 
 pub refusals :
     -- start and mending; encoding; extraction; reading; writing
-    (lentRefusal 4 blank [] ≡ 10) × (encodeRefusal 1 [] blank ≡ 11) × (extractRefusal 1 (set blank 0 1) (replicate 15 0) ≡ 16)
+    (lentRefusal 6 blank [] ≡ 10) × (encodeRefusal 1 [] blank ≡ 11) × (extractRefusal 1 (set blank 0 1) (replicate 15 0) ≡ 16)
     × (readRefusal [] blank [] ≡ 20) × (writeRefusal 1 blank (128 ∷ 0 ∷ 0 ∷ []) (replicate 41 0) ≡ 12)
     -- a row step; a level step
     × (benchRefusal otherRoom (ltb 3 (planOf (otherRoom .plan) .rows)) ≡ 14) × (benchRefusal empty unasked ≡ 10)

@@ -10,4 +10,5 @@ pub mod Fewer
 pub mod Silence
 pub mod Room
 pub mod Refused
+pub mod Bytes
 pub mod Parameters

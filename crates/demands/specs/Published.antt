@@ -15,13 +15,13 @@ pub record Published : Type 0 where
 abbrev pub nothing : Published
 nothing = record { k = 0; d0 = 0; d = 0; counts = [] }
 
--- plans 1, 2, 3 and 5; number 4 has none
+-- plans 1 to 5
 abbrev pub published : List Published
 published =
     record { k = 15; d0 = 2; d = 4; counts = (2, 1) ∷ (4, 0) ∷ [] }
     ∷ record { k = 198; d0 = 4; d = 8; counts = (4, 1) ∷ (6, 1) ∷ (8, 0) ∷ [] }
     ∷ record { k = 98; d0 = 3; d = 8; counts = (3, 2) ∷ (4, 1) ∷ (8, 0) ∷ [] }
-    ∷ nothing
+    ∷ record { k = 253; d0 = 3; d = 10; counts = (3, 3) ∷ (5, 1) ∷ (10, 0) ∷ [] }
     ∷ record { k = 444; d0 = 4; d = 8; counts = (4, 1) ∷ (6, 1) ∷ (8, 0) ∷ [] }
     ∷ []
 

@@ -10,7 +10,7 @@ use lib.ListN.{length, take, replicate, length-append}
 use lib.Seq.{take-at}
 use Rattle.field.specs.Lists.{if_then_else_}
 use Rattle.fills.specs.Lists.{all}
-use Rattle.plans.specs.Plan.{Plan, binaryPlan, plan1, plan2, plan3, plan5, noPlan, known, planOf, marksOf, checkPlacesOf, carried}
+use Rattle.plans.specs.Plan.{Plan, binaryPlan, plan1, plan2, plan3, plan4, plan5, noPlan, known, planOf, marksOf, checkPlacesOf, carried}
 use Rattle.plans.specs.Refusal.{stripeFits, allBelow}
 use Rattle.plans.specs.Rooms.{rowRoom}
 use Rattle.plans.specs.Tables.{padded, placeTable, unmarked}
@@ -32,7 +32,7 @@ module _ (p : ℕ) where
   P = planOf p
 
   pub words-count : length (P .checkPlaces) ≡ P .rows
-  unfolding all binaryPlan plan1 plan2 plan3 plan5 noPlan
+  unfolding all binaryPlan plan1 plan2 plan3 plan4 plan5 noPlan
   words-count = eqb→eq _ _ (all-plans (λ P. eqb (length (P .checkPlaces)) (P .rows)) tt p)
 
   -- the first words of the code's table are the plan's check places

@@ -1,11 +1,13 @@
--- Lists over ascending numbers. Assumes nothing.
+-- Lists over ascending numbers, and places in a list. Assumes nothing.
 use mathlib.Core.Path.{_≡_, refl, sym, ap, ap₂, _∙_}
-use mathlib.Core.List.{_∷_, map}
-use Prim.Native.Nat.{ℕ, zero, suc, _+_, _<_}
+use mathlib.Core.Bool.{Bool, true, false}
+use mathlib.Core.List.{List, [], _∷_, map}
+use Prim.Native.Nat.{ℕ, zero, suc, _+_, _≤_, _<_}
 use native.Mathlib.Nat.{add-zero, zero-add, add-suc, suc-add, not-suc-le-zero, le-of-suc-le-suc}
 use native.Mathlib.Omega.{arith}
+use lib.Dec.{eqb}
 use lib.ListN.{length, getD}
-use Rattle.field.specs.Lists.{upFrom}
+use Rattle.field.specs.Lists.{if_then_else_, upFrom, placeFrom}
 
 pub length-up : (k n : ℕ) → length (upFrom k n) ≡ n
 unfolding upFrom
@@ -36,3 +38,13 @@ pub map-up-suc : {A : Type 0} (f : ℕ → A) (k n : ℕ) → map f (upFrom (suc
 unfolding upFrom
 map-up-suc f k zero = refl
 map-up-suc f k (suc n) = ap (λ l. f (suc k) ∷ l) (map-up-suc f (suc k) n)
+
+-- a place in a list is below its length, and so is 0 where nothing is found
+pub place-lt : (k : ℕ) (l : List ℕ) (x n : ℕ) → 0 < n → k + length l ≤ n → placeFrom k l x < n
+unfolding if_then_else_ placeFrom
+place-lt k [] x n pos h = pos
+place-lt k (y ∷ l) x n pos h = go (eqb y x) (placeFrom (suc k) l x) (place-lt (suc k) l x n pos (omega arith))
+  where
+    go : (b : Bool) (r : ℕ) → r < n → (if b then k else r) < n
+    go true r l = omega arith
+    go false r l = l

@@ -3,13 +3,13 @@ use mathlib.Core.Path.{_≡_, refl, sym, ap, ap₂, _∙_}
 use mathlib.Core.Logic.{_≢_}
 use mathlib.Core.List.{List, [], _∷_}
 use Prim.Native.Nat.{ℕ, zero, suc, _+_, _<_, _≤_}
-use native.Mathlib.Nat.{zero-add, suc-add}
 use native.Mathlib.Omega.{arith}
 use lib.ListN.{length}
 use Rattle.field.specs.Lists.{weight}
 use Rattle.field.specs.Field.{_⊕_, Field, size, mul, dot}
 use Rattle.field.specs.Power.{power, powerSum}
 use Rattle.field.proofs.Sum.{of-bits, ⊕-comm, ⊕-self, ⊕-zero, zero-⊕, ⊕-four, ⊕-cancel}
+use Rattle.field.proofs.Exponents as exponents
 use Rattle.field.proofs.Laws.{IsField, zero-mul, mul-zero, mul-one, mul-⊕, mul-left-comm, domain}
 use Rattle.field.proofs.Words.{EachBelow, Apart, Distinct}
 
@@ -25,14 +25,10 @@ module _ (F : Field) (K : IsField F) where
   -- ---- powers
 
   pub power-lt : (x p : ℕ) → power F x p < size F
-  unfolding power
-  power-lt x zero = one-lt
-  power-lt x (suc p) = product-lt x (power F x p)
+  power-lt = exponents.power-lt F one-lt product-lt comm assoc unit
 
   pub power-add : (x p r : ℕ) → power F x (p + r) ≡ mul F (power F x p) (power F x r)
-  unfolding power
-  power-add x zero r = ap (power F x) (zero-add r) ∙ sym (unit (power F x r) (power-lt x r))
-  power-add x (suc p) r = ap (power F x) (suc-add p r) ∙ ap (mul F x) (power-add x p r) ∙ sym (assoc x (power F x p) (power F x r))
+  power-add = exponents.power-add F one-lt product-lt comm assoc unit
 
   -- ---- squares
 

@@ -63,3 +63,7 @@ gf32 = record { width = 5; polynomial = 0b100101 }
 -- x ^ 6 + x + 1
 unfoldable pub gf64 : Field
 gf64 = record { width = 6; polynomial = 0b1000011 }
+
+-- x ^ 8 + x ^ 4 + x ^ 3 + x ^ 2 + 1
+unfoldable pub gf256 : Field
+gf256 = record { width = 8; polynomial = 0b100011101 }

@@ -2,6 +2,7 @@
 use Prim.Native.Nat.{ℕ, zero, suc, _-_}
 use mathlib.Core.Bool.{Bool, true, false}
 use mathlib.Core.List.{List, [], _∷_}
+use lib.Dec.{eqb}
 
 -- the first where the test passes, else the second
 infix 10 if_then_else_
@@ -24,3 +25,8 @@ unfoldable pub weight : List ℕ → ℕ
 weight [] = 0
 weight (zero ∷ w) = weight w
 weight (suc c ∷ w) = suc (weight w)
+
+-- where a number first stands in a list, counted from k; 0 where it does not
+unfoldable pub placeFrom : ℕ → List ℕ → ℕ → ℕ
+placeFrom k [] x = 0
+placeFrom k (y ∷ ys) x = if eqb y x then k else placeFrom (suc k) ys x

@@ -1,6 +1,5 @@
--- A file of any plan but 5 is as it was: its plan is, its mark words have four bytes, and byte 3 is 0; so the definitions agree, part by part. Assumes nothing.
+-- A file of any plan but 4 and 5 is as it was: its plan is, its mark words have four bytes, and byte 3 is 0; so the definitions agree, part by part. Assumes nothing.
 use mathlib.Core.Path.{_≡_, refl, sym, ap, ap₂, _∙_, fun-ext}
-use mathlib.Core.Logic.{_≢_}
 use mathlib.Core.Bool.{false, _&&_, and-false}
 use mathlib.Core.List.{List, [], _∷_, _++_, map, flatMap}
 use Prim.Native.Nat.{ℕ, zero, suc, _+_, _*_, _/_, _%_, _^_, _<_}
@@ -14,7 +13,7 @@ use Rattle.field.specs.Field.{size, gf32}
 use Rattle.plans.specs.Plan.{Plan, plan1, plan2, plan3, binaryPlan, noPlan, planOf, known, marksOf, marksOffset, wideMarks, wordBytes, symbolsOffset, fileLength}
 use Rattle.words.specs.Words.{bytesOf, numberAt, wordsAt}
 use Rattle.files.specs.File.{headerOf, blanked, fileOf, writeRefusal, writeFile, planIn, marksIn, symbolsIn, fileRefusal, readRefusal, readStripe, readMarks}
-use Rattle.files.specs.Before.{planBefore, knownBefore, bytes2, bytes4, wordAt, offsetBefore, lengthBefore, headerBefore, fileBefore, writeRefusalBefore, writeFileBefore, marksBefore, symbolsBefore, readRefusalBefore, readStripeBefore, readMarksBefore, AsBefore}
+use Rattle.files.specs.Before.{planBefore, knownBefore, bytes2, bytes4, wordAt, offsetBefore, lengthBefore, headerBefore, fileBefore, writeRefusalBefore, writeFileBefore, marksBefore, symbolsBefore, readRefusalBefore, readStripeBefore, readMarksBefore, Older, AsBefore}
 
 -- ---- numbers as bytes
 
@@ -40,7 +39,7 @@ word-as bytes i =
     joined : (a b c d : ℕ) → a + 256 * (b + 256 * (c + 256 * (d + 256 * 0))) ≡ a + b * 256 + c * 2 ^ 16 + d * 2 ^ 24
     joined a b c d = omega arith
 
--- ---- what is kept of a number that is not 5
+-- ---- what is kept of a number that is neither 4 nor 5
 
 record Kept (p : ℕ) : Type 0 where
   plan : planOf p ≡ planBefore p
@@ -51,14 +50,14 @@ past : (p : ℕ) → 3 < p → knownBefore p ≡ false
 unfolding knownBefore
 past p h = ap (λ b. ltb 0 p && b) (lt-leb p 3 h) ∙ and-false (ltb 0 p)
 
-kept : (p : ℕ) → p ≢ 5 → Kept p
+kept : (p : ℕ) → Older p → Kept p
 unfolding size gf32 binaryPlan plan1 plan2 plan3 noPlan planOf known wideMarks planBefore knownBefore
 kept zero h = record { plan = refl; is-known = refl; narrow = refl }
 kept (suc zero) h = record { plan = refl; is-known = refl; narrow = refl }
 kept (suc (suc zero)) h = record { plan = refl; is-known = refl; narrow = refl }
 kept (suc (suc (suc zero))) h = record { plan = refl; is-known = refl; narrow = refl }
-kept (suc (suc (suc (suc zero)))) h = record { plan = refl; is-known = refl; narrow = refl }
-kept (suc (suc (suc (suc (suc zero))))) h = absurd (h refl)
+kept (suc (suc (suc (suc zero)))) h = absurd (h .0 refl)
+kept (suc (suc (suc (suc (suc zero))))) h = absurd (h .1 refl)
 kept (suc (suc (suc (suc (suc (suc p)))))) h = record { plan = refl; is-known = sym (past (suc (suc (suc (suc (suc (suc p)))))) (omega arith)); narrow = refl }
 
 -- ---- the parts of a file

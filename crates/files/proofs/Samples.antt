@@ -57,7 +57,7 @@ file-order = (refl, refl, refl, refl, refl, refl, refl, refl, refl, refl)
 -- writing: 10, 11, 12, 13
 pub write-order :
     -- an unknown plan, its lengths; no room for the file, a mark bit at column 7; the mark bit, a symbol 2; the symbol alone
-    (writeRefusal 4 stripe marks file ≡ 10) × (writeRefusal 1 stripe (set marks 0 128) [] ≡ 11)
+    (writeRefusal 6 stripe marks file ≡ 10) × (writeRefusal 1 stripe (set marks 0 128) [] ≡ 11)
     × (writeRefusal 1 (set stripe 0 2) (set marks 0 128) file ≡ 12) × (writeRefusal 1 (set stripe 0 2) marks file ≡ 13)
 unfolding if_then_else_ upFrom size gf2 all first rest beside bitsOf plan1 known noPlan planOf rowAt marksAt
     firstFailed unasked stripeFits wordsFit marksFit unmarkedBelow symbolsFit marksOffset wideMarks wordBytes symbolsOffset fileLength writeRefusal

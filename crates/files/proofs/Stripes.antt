@@ -32,7 +32,8 @@ use Rattle.steps.proofs.Fit.{symbols-fit, fit-symbols}
 
 -- a number of a plan is a byte
 pub known-below : (p : ℕ) → T (known p) → p < byteRange
-known-below = of-known (λ p. p < byteRange) (omega arith & omega arith & omega arith & omega arith & tt)
+unfolding upFrom
+known-below = of-known (λ p. p < byteRange) (omega arith & omega arith & omega arith & omega arith & omega arith & tt)
 
 pub length-header : (p : ℕ) → length (headerOf p) ≡ headerSize
 unfolding bytesOf headerOf

@@ -1,4 +1,4 @@
--- Stripe files as they were before there was a plan 5, and what is kept: a file of any other plan is written and read as it was then.
+-- Stripe files as they were before there were plans 4 and 5, and what is kept: a file of any other plan is written and read as it was then.
 use Prim.Native.Nat.{ℕ, _+_, _*_, _/_, _%_, _^_}
 use mathlib.Core.Path.{_≡_}
 use mathlib.Core.Logic.{_≢_}
@@ -84,10 +84,14 @@ readMarksBefore file stripe marks = if eqb (readRefusalBefore file stripe marks)
 
 -- ---- what is kept
 
--- for every number but 5, whatever is lent
+-- any number but 4 and 5
+abbrev pub Older : ℕ → Type 0
+Older p = (p ≢ 4) × (p ≢ 5)
+
+-- for every such number, whatever is lent
 pub record AsBefore : Type 0 where
-  pub writes-refused : (p : ℕ) (stripe marks file : List ℕ) → p ≢ 5 → writeRefusal p stripe marks file ≡ writeRefusalBefore p stripe marks file
-  pub writes : (p : ℕ) (stripe marks file : List ℕ) → p ≢ 5 → writeFile p stripe marks file ≡ writeFileBefore p stripe marks file
-  pub reads-refused : (file stripe marks : List ℕ) → planIn file ≢ 5 → readRefusal file stripe marks ≡ readRefusalBefore file stripe marks
-  pub reads-stripe : (file stripe marks : List ℕ) → planIn file ≢ 5 → readStripe file stripe marks ≡ readStripeBefore file stripe marks
-  pub reads-marks : (file stripe marks : List ℕ) → planIn file ≢ 5 → readMarks file stripe marks ≡ readMarksBefore file stripe marks
+  pub writes-refused : (p : ℕ) (stripe marks file : List ℕ) → Older p → writeRefusal p stripe marks file ≡ writeRefusalBefore p stripe marks file
+  pub writes : (p : ℕ) (stripe marks file : List ℕ) → Older p → writeFile p stripe marks file ≡ writeFileBefore p stripe marks file
+  pub reads-refused : (file stripe marks : List ℕ) → Older (planIn file) → readRefusal file stripe marks ≡ readRefusalBefore file stripe marks
+  pub reads-stripe : (file stripe marks : List ℕ) → Older (planIn file) → readStripe file stripe marks ≡ readStripeBefore file stripe marks
+  pub reads-marks : (file stripe marks : List ℕ) → Older (planIn file) → readMarks file stripe marks ≡ readMarksBefore file stripe marks

@@ -128,12 +128,12 @@ pub fn level_step(bench: Bench) -> Stepped
         let answer = Step::Top;
         return Stepped { bench, answer };
     }
-    let products = field::products();
-    let entries = field::entries(facts.field);
     let mut room = [0u8; CHECKS];
     let size = tables::put_checks(plan, &mut room);
-    let table = &products[..entries];
-    let checks = &room[..size];
+    let end = tables::put_table(facts.field, &mut room, size);
+    let lent = &room[..end];
+    let checks = &lent[..size];
+    let table = &lent[size..];
     let answer = match learn(plan, level, table, checks, &symbols, &marks, &mut sums) {
         Learning::Failing => Step::Clash,
         Learning::Blocked => Step::Blocked,

@@ -1,4 +1,4 @@
-// Sums of rows under checks, and which rows have marks. The field is given by its number `q`, and the table of products is lent.
+// Sums of rows under checks, and which rows have marks. The field is given by its number `q`, and its table is lent.
 ghost use mathlib.Core.Path.{_≡_};
 ghost use mathlib.Core.Bool.{not};
 ghost use mathlib.Core.List.{map};

@@ -4,15 +4,16 @@ use mathlib.Core.Bool.{Bool, true, false, _&&_}
 use mathlib.Core.List.{List, [], _∷_}
 use lib.Dec.{T, ltb, eqb}
 
--- the size of GF(2), and of GF(16)
-abbrev pub sizeBy : Bool → ℕ
-sizeBy true = 2
-sizeBy false = 16
+-- the size of GF(2), of GF(16), and of GF(256)
+abbrev pub sizeBy : (two sixteen : Bool) → ℕ
+sizeBy true s = 2
+sizeBy false true = 16
+sizeBy false false = 256
 
 -- every number is a symbol of field q
 abbrev pub symbols : ℕ → List ℕ → Bool
 symbols q [] = true
-symbols q (x ∷ xs) = ltb x (sizeBy (eqb q 2)) && symbols q xs
+symbols q (x ∷ xs) = ltb x (sizeBy (eqb q 2) (eqb q 16)) && symbols q xs
 
 -- m equations in k unknowns, of symbols, with room for the pivots and for what is written
 pub record Answerable (q : ℕ) (system : List ℕ) (m k : ℕ) : Type 0 where

@@ -1,4 +1,5 @@
-// Systems and vectors with known answers, over both fields. What the compiled code answers is held to the file `stdout`.
+// Systems and vectors with known answers, over GF(2) and GF(16). What the compiled code answers is held to the file `stdout`.
+use field::TABLE;
 use gathering::COLUMNS;
 ghost use Rattle.gathering.specs.Most.{mostColumns};
 ghost use Rattle.linear_cases.specs.Symbols.{Answerable, Marked};
@@ -26,15 +27,15 @@ fn flag(b: bool) -> u8 {
 fn answer(q: usize, system: [u8; 12], m: usize, k: usize)
     requires { ⌜ Answerable q system m k ⌝ }
 {
-    let table = field::products();
-    let size = field::entries(q);
+    let mut room = [0u8; TABLE];
+    let size = tables::put_table(q, &mut room, 0);
     let mut a = system;
     let mut pivots: [usize; 5] = [0; 5];
     let mut x: [u8; 5] = [0; 5];
     let mut z: [u8; 5] = [0; 5];
     let s = systems::solve(
         q,
-        &table[..size],
+        &room[..size],
         &mut a[..],
         m,
         k,
@@ -73,12 +74,12 @@ fn outcome(o: linear::FillAnswer) -> u8 {
 fn filling(q: usize, checks: [u8; 15], target: [u8; 3], v: [u8; 5], marks: u64)
     requires { ⌜ Marked q 5 checks target marks ⌝ }
 {
-    let table = field::products();
-    let size = field::entries(q);
+    let mut room = [0u8; TABLE];
+    let size = tables::put_table(q, &mut room, 0);
     let mut w = v;
     let o = linear::fill(
         q,
-        &table[..size],
+        &room[..size],
         &checks[..],
         &target[..],
         &mut w[..],
@@ -93,12 +94,12 @@ fn filling(q: usize, checks: [u8; 15], target: [u8; 3], v: [u8; 5], marks: u64)
 fn filling_wide(q: usize, checks: [u8; COLUMNS], target: [u8; 1], v: [u8; COLUMNS], marks: u64)
     requires { ⌜ Marked q mostColumns checks target marks ⌝ }
 {
-    let table = field::products();
-    let size = field::entries(q);
+    let mut room = [0u8; TABLE];
+    let size = tables::put_table(q, &mut room, 0);
     let mut w = v;
     let o = linear::fill(
         q,
-        &table[..size],
+        &room[..size],
         &checks[..],
         &target[..],
         &mut w[..],

@@ -12,7 +12,7 @@ use Rattle.field.specs.Lists.{if_then_else_}
 use Rattle.field.specs.Field.{size, gf32, gf64}
 use Rattle.fills.specs.Lists.{all, same}
 use Rattle.fills.proofs.Tests.{either}
-use Rattle.plans.specs.Plan.{binaryPlan, plan1, plan2, plan3, plan5, noPlan, planOf, known, marksOffset, wideMarks, wordBytes, symbolsOffset, fileLength}
+use Rattle.plans.specs.Plan.{binaryPlan, plan1, plan2, plan3, plan4, plan5, noPlan, planOf, known, marksOffset, wideMarks, wordBytes, symbolsOffset, fileLength}
 use Rattle.plans.specs.Refusal.{firstFailed, unasked}
 use Rattle.plans.proofs.Plans.{all-plans}
 use Rattle.files.specs.File.{headerSize, headerOf, planIn, fileRefusal}
@@ -22,7 +22,7 @@ use Rattle.printing.proofs.Printing.{text-refused}
 use Rattle.mend.specs.Input.{longest, NoneLonger, EnoughIsRead}
 
 pub none-longer : NoneLonger
-unfolding if_then_else_ size gf32 gf64 all binaryPlan plan1 plan2 plan3 plan5 noPlan marksOffset wideMarks wordBytes symbolsOffset fileLength
+unfolding if_then_else_ size gf32 gf64 all binaryPlan plan1 plan2 plan3 plan4 plan5 noPlan marksOffset wideMarks wordBytes symbolsOffset fileLength
 none-longer p = leb→le _ longest (all-plans (λ P. leb (fileLength P) longest) tt p)
 
 -- what a file that is too long for every plan is refused by: its plan, then its header, then its length

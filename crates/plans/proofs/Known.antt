@@ -15,9 +15,9 @@ unfoldable pub use mathlib.Core.List.{flatMap}
 pub use native.Mathlib.Omega.{arith}
 pub use lib.Dec.{T, lit<}
 unfoldable pub use Rattle.field.specs.Lists.{upFrom}
-unfoldable pub use Rattle.field.specs.Field.{_⊕_, size, double, times, mul, gf2, gf8, gf16, gf32, gf64}
+unfoldable pub use Rattle.field.specs.Field.{_⊕_, size, double, times, mul, gf2, gf8, gf16, gf32, gf64, gf256}
 unfoldable pub use Rattle.field.specs.Power.{power}
-pub use Rattle.field.proofs.Fields.{gf2-field, gf8-field, gf16-field, gf32-field, gf64-field}
+pub use Rattle.field.proofs.Fields.{gf2-field, gf8-field, gf16-field, gf32-field, gf64-field, gf256-field}
 pub use Rattle.field.proofs.Words.{_&_}
 unfoldable pub use Rattle.fills.specs.Lists.{all}
 unfoldable pub use Rattle.plans.specs.Plan.{allOnes, bitChecks, levelOf, checksTo}

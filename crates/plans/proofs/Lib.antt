@@ -8,6 +8,7 @@ pub mod BinaryPlan
 pub mod Plan1
 pub mod Plan2
 pub mod Plan3
+pub mod Plan4
 pub mod Plan5
 pub mod Plans
 -- the code's facts and tables of a plan

@@ -6,17 +6,16 @@ use mathlib.Core.List.{List, [], _∷_, flatMap}
 use Prim.Native.Nat.{ℕ, zero, suc, _*_, _≤_, _<_, zero-le}
 use native.Mathlib.Nat.{not-suc-le-zero}
 use native.Mathlib.Omega.{arith}
-use lib.Dec.{T, leb, ltb, leb→le, ltb→lt, lt→ltb, nleb→lt}
+use lib.Dec.{T, leb, ltb, leb→le, ltb→lt, nleb→lt, nltb→le}
 use lib.ListN.{length, getD, List·getD-eq-default}
 use lib.Seq.{take-all}
 use Rattle.field.specs.Lists.{upFrom}
-use Rattle.field.specs.Field.{size, gf32, gf64}
 use Rattle.field.proofs.Test.{both-left, both-right, both}
 use Rattle.field.proofs.Words.{Each, _&_, each-getD}
 use Rattle.fills.specs.Lists.{all}
 use Rattle.fills.proofs.Tests.{either}
 use Rattle.plans.specs.Rooms.{rowRoom, columnRoom, symbolRoom}
-use Rattle.plans.specs.Plan.{Plan, Level, binaryPlan, plan1, plan2, plan3, plan5, plans, known, noPlan, planOf, noLevel, levelOf, checksTo}
+use Rattle.plans.specs.Plan.{Plan, Level, binaryPlan, plan1, plan2, plan3, plan4, plan5, plans, known, noPlan, planOf, noLevel, levelOf, checksTo}
 use Rattle.plans.proofs.Flat.{all-getD, all-at, each-up}
 use Rattle.plans.proofs.Columns.{Columns}
 pub use Rattle.plans.proofs.Known.{Shape, Known}
@@ -24,6 +23,7 @@ use Rattle.plans.proofs.Plan1.{distances-1, plan-1}
 use Rattle.plans.proofs.BinaryPlan.{binaryDistances}
 use Rattle.plans.proofs.Plan2.{plan-2}
 use Rattle.plans.proofs.Plan3.{distances-3, plan-3}
+use Rattle.plans.proofs.Plan4.{distances-4, plan-4}
 use Rattle.plans.proofs.Plan5.{plan-5}
 
 -- ---- every plan
@@ -40,36 +40,42 @@ all-plans f t = all-getD f noPlan (both-left (f noPlan) (all f plans) t) (noPlan
 
 -- ---- known numbers
 
+-- the numbers of the plans
 abbrev pub numbers : List ℕ
-numbers = 1 ∷ 2 ∷ 3 ∷ 5 ∷ []
+numbers = upFrom 1 (length plans)
+
+-- each of them has rows
+have-rows : T (all (λ (P : Plan). ltb 0 (P .rows)) plans)
+unfolding all binaryPlan plan1 plan2 plan3 plan4 plan5
+have-rows = tt
+
+-- a number reads nothing in a table with an entry for each plan, or is known
+pub known-or-past : {A : Type 0} (none : A) (table : List A) → length table ≡ length plans → (p : ℕ) → T (known p) ⊎ (getD (none ∷ table) p none ≡ none)
+unfolding planOf known
+known-or-past none table e zero = inr refl
+known-or-past none table e (suc i) =
+    elim (either (ltb i (length plans))) [
+      | inl t ↦ inl (all-at (λ (P : Plan). ltb 0 (P .rows)) noPlan plans have-rows i (ltb→lt i (length plans) t))
+      | inr n ↦
+          let past : suc (length table) ≤ suc i = omega (arith, e, nltb→le i (length plans) n) in
+          inr (List·getD-eq-default (none ∷ table) none past)
+    ]
+
+pub known-or-none : (p : ℕ) → T (known p) ⊎ (planOf p ≡ noPlan)
+unfolding planOf
+known-or-none = known-or-past noPlan plans refl
 
 -- what holds of the number of each plan holds of every known number
 pub of-known : (Q : ℕ → Type 0) → Each Q numbers → (p : ℕ) → T (known p) → Q p
 unfolding noPlan planOf known
 of-known Q each zero t = absurd t
-of-known Q each (suc zero) t = each .0
-of-known Q each (suc (suc zero)) t = each .1 .0
-of-known Q each (suc (suc (suc zero))) t = each .1 .1 .0
-of-known Q each (suc (suc (suc (suc zero)))) t = absurd t
-of-known Q each (suc (suc (suc (suc (suc zero))))) t = each .1 .1 .1 .0
-of-known Q each (suc (suc (suc (suc (suc (suc p)))))) t = absurd t
-
--- any other reads nothing in a table with an entry for each plan, and none at 4
-pub known-or-past : {A : Type 0} (none : A) (table : List A) → length table ≡ length plans → getD (none ∷ table) 4 none ≡ none
-    → (p : ℕ) → T (known p) ⊎ (getD (none ∷ table) p none ≡ none)
-unfolding size gf32 gf64 binaryPlan plan1 plan2 plan3 plan5 planOf known
-known-or-past none table e gap zero = inr refl
-known-or-past none table e gap (suc zero) = inl tt
-known-or-past none table e gap (suc (suc zero)) = inl tt
-known-or-past none table e gap (suc (suc (suc zero))) = inl tt
-known-or-past none table e gap (suc (suc (suc (suc zero)))) = inr gap
-known-or-past none table e gap (suc (suc (suc (suc (suc zero))))) = inl tt
-known-or-past none table e gap (suc (suc (suc (suc (suc (suc i)))))) =
-    let past : suc (length table) ≤ suc (suc (suc (suc (suc (suc i))))) = omega (arith, e) in inr (List·getD-eq-default (none ∷ table) none past)
-
-pub known-or-none : (p : ℕ) → T (known p) ⊎ (planOf p ≡ noPlan)
-unfolding planOf
-known-or-none = known-or-past noPlan plans refl refl
+of-known Q each (suc i) t =
+    elim (either (ltb i (length plans))) [
+      | inl l ↦ each-up Q 1 (length plans) each (suc i) (omega arith) (omega (arith, ltb→lt i (length plans) l))
+      | inr n ↦
+          let past : length plans ≤ i = nltb→le i (length plans) n in
+          absurd (subst (λ (P : Plan). T (ltb 0 (P .rows))) (List·getD-eq-default plans noPlan past) t)
+    ]
 
 pub unknown : (p : ℕ) → Each (λ k. p ≢ k) numbers → planOf p ≡ noPlan
 unknown p others = elim (known-or-none p) [ inl t ↦ absurd (of-known (λ k. p ≢ k) others p t refl) | inr e ↦ e ]
@@ -78,11 +84,11 @@ unknown p others = elim (known-or-none p) [ inl t ↦ absurd (of-known (λ k. p 
 
 -- the distances of its row code
 abbrev pub distancesOf : ℕ → List ℕ
-distancesOf p = getD ([] ∷ distances-1 ∷ binaryDistances ∷ distances-3 ∷ [] ∷ binaryDistances ∷ []) p []
+distancesOf p = getD ([] ∷ distances-1 ∷ binaryDistances ∷ distances-3 ∷ distances-4 ∷ binaryDistances ∷ []) p []
 
 pub known-of : (p : ℕ) → T (known p) → Known (planOf p) (distancesOf p)
-unfolding planOf
-known-of = of-known (λ p. Known (planOf p) (distancesOf p)) (plan-1 & plan-2 & plan-3 & plan-5 & tt)
+unfolding upFrom planOf
+known-of = of-known (λ p. Known (planOf p) (distancesOf p)) (plan-1 & plan-2 & plan-3 & plan-4 & plan-5 & tt)
 
 pub shape : (p : ℕ) → T (known p) → Shape (planOf p)
 shape p k = known-of p k .shape
@@ -152,7 +158,7 @@ by-level P Q none each t =
 
 -- level 1 has no weights
 first-none : (p : ℕ) → levelOf (planOf p) 1 .weights ≡ []
-unfolding binaryPlan plan1 plan2 plan3 plan5 noPlan noLevel levelOf
+unfolding binaryPlan plan1 plan2 plan3 plan4 plan5 noPlan noLevel levelOf
 first-none = of-plans (λ P. levelOf P 1 .weights ≡ []) refl (refl & refl & refl & refl & refl & tt)
 
 -- only levels 2 and 3 have weights

@@ -5,7 +5,7 @@ use mathlib.Core.List.{List, [], _∷_, _++_, map, flatMap}
 use lib.Dec.{ltb, leb}
 use lib.ListN.{length, take, drop, getD, replicate}
 use Rattle.field.specs.Lists.{if_then_else_, upFrom, _to_}
-use Rattle.field.specs.Field.{Field, size, dot, gf2, gf16, gf32, gf64}
+use Rattle.field.specs.Field.{Field, size, dot, gf2, gf16, gf32, gf64, gf256}
 use Rattle.field.specs.Power.{power}
 use Rattle.fills.specs.Lists.{only}
 use Rattle.fills.specs.Marks.{bitsOf}
@@ -109,15 +109,40 @@ plan3 = record {
   checkPlaces = replicate 6 (wordOf (13 to 14)) ++ (wordOf (12 to 14) ∷ wordOf (8 to 14) ∷ []);
 }
 
+-- ---- plan 4: symbols are bytes; column c has location a ^ c
+
+unfoldable pub locations4 : List ℕ
+locations4 = map (power gf256 2) (0 to 23)
+
+unfoldable pub powers4 : ℕ → List ℕ
+powers4 p = map (λ x. power gf256 x p) locations4
+
+-- a ^ (k r) for row r
+unfoldable pub weights4 : ℕ → List ℕ
+weights4 k = map (λ r. power gf256 2 (k * r)) (0 to 11)
+
+unfoldable pub plan4 : Plan
+plan4 = record {
+  field = gf256;
+  rows = 12;
+  columns = 24;
+  levels =
+      record { checks = map powers4 (0 to 1); weights = [] }
+      ∷ record { checks = map powers4 (2 to 3); weights = map weights4 (0 to 2) }
+      ∷ record { checks = map powers4 (4 to 8); weights = allOnes 12 ∷ [] }
+      ∷ [];
+  checkPlaces = replicate 9 (wordOf (22 to 23)) ++ replicate 2 (wordOf (20 to 23)) ++ (wordOf (15 to 23) ∷ []);
+}
+
 -- ---- a plan by its number
 
 -- an unknown number has the plan with nothing in it
 unfoldable pub noPlan : Plan
 noPlan = record { field = gf2; rows = 0; columns = 0; levels = []; checkPlaces = [] }
 
--- the plans in the order of their numbers, from 1 on. No plan has number 4
+-- the plans in the order of their numbers, from 1 on
 abbrev pub plans : List Plan
-plans = plan1 ∷ plan2 ∷ plan3 ∷ noPlan ∷ plan5 ∷ []
+plans = plan1 ∷ plan2 ∷ plan3 ∷ plan4 ∷ plan5 ∷ []
 
 unfoldable pub planOf : ℕ → Plan
 planOf p = getD (noPlan ∷ plans) p noPlan

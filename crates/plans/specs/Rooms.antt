@@ -22,7 +22,7 @@ learnedRoom = 228
 abbrev pub totalRoom : ℕ
 totalRoom = 3
 
--- numbers in a table of row checks, and in one of weights
+-- numbers in a table of row checks with the table of the plan's field behind it, and in one of weights
 abbrev pub checkRoom : ℕ
 checkRoom = 1216
 

@@ -1,5 +1,5 @@
--- What mending leaves can be printed: its numbers are below 100, and its unmarked symbols are below q. Assumes nothing.
-use mathlib.Core.Path.{_≡_, refl, sym, ap, _∙_, subst}
+-- What mending leaves can be printed: its numbers are below 100. Assumes nothing.
+use mathlib.Core.Path.{_≡_, refl, _∙_, subst}
 use mathlib.Core.Bool.{Bool, true, false, not}
 use mathlib.Core.List.{List, [], _∷_, _++_, map}
 use Prim.Native.Nat.{ℕ, zero, suc, suc-le-suc, pred, _+_, _*_, _<_, _≤_}
@@ -7,20 +7,19 @@ use native.Mathlib.Nat.{mul-le-mul}
 use native.Mathlib.Omega.{arith}
 use borrow.Author.Tests.{ltb-true, ne-eqb}
 use lib.Dec.{T, eqb, leb, ltb, leb→le, lt→ltb}
-use lib.ListN.{length, take, drop, getD, set, replicate, length-set, length-map, take-append-drop}
-use lib.Seq.{length-take-le, getD-take}
+use lib.ListN.{length, take, getD, set, replicate, length-set, length-map}
+use lib.Seq.{length-take-le}
 use Rattle.field.specs.Lists.{if_then_else_, upFrom}
 use Rattle.field.specs.Field.{size}
 use Rattle.field.proofs.Lists.{length-up}
 use Rattle.field.proofs.Test.{both}
 use Rattle.field.proofs.Words.{_&_}
 use Rattle.fills.specs.Lists.{all, only}
-use Rattle.fills.specs.Marks.{bitsOf}
 use Rattle.fills.specs.Fill.{none}
-use Rattle.plans.specs.Plan.{Plan, planOf, known, rowAt, marksAt}
+use Rattle.plans.specs.Plan.{Plan, planOf, known}
 use Rattle.plans.specs.Rooms.{rowRoom}
 use Rattle.plans.specs.Answers.{answerNumber, placeValues, endValues, answerValues, reportValues}
-use Rattle.plans.specs.Refusal.{unasked, allBelow, unmarkedBelow, symbolsFit, lentRefusal}
+use Rattle.plans.specs.Refusal.{unasked, allBelow, lentRefusal}
 use Rattle.steps.specs.Steps.{fresh, rowStep, lossy, levelStep}
 use Rattle.steps.specs.Rounds.{Standing, Turn, on, end, clash, more as moreRows, nextRow, afterRow, afterLevel, takeTurn, goOn, turns}
 use Rattle.repair.specs.Mending.{mended, turnReport, turnStripe, turnMarks, mendReport, mendStripe, mendMarks}
@@ -34,14 +33,14 @@ use Rattle.plans.specs.declared.Step.the-variants.{Whole, Filled, Tied, Raised,
 use Rattle.plans.specs.declared.Answer.the-variants.{Restored, Stuck}
 use Rattle.plans.specs.declared.Report.{Report}
 use Rattle.plans.proofs.Flat.{all-getD}
-use Rattle.plans.proofs.Rows.{row-end, row-append}
 use Rattle.plans.proofs.Plans.{of-known, Shape, shape}
-use Rattle.steps.proofs.Fit.{RowFits, LentFit, fit-symbols, lent-fit, all-take}
+use Rattle.steps.proofs.Fit.{LentFit, lent-fit, all-take}
 use Rattle.steps.proofs.Sound.{Sound, sound-fresh, row-keeps, level-plan, sound-row, sound-level}
 
 -- the number of a plan is small
 pub plan-small : (p : ℕ) → T (known p) → p < numbers
-plan-small = of-known (λ p. p < numbers) (omega arith & omega arith & omega arith & omega arith & tt)
+unfolding upFrom
+plan-small = of-known (λ p. p < numbers) (omega arith & omega arith & omega arith & omega arith & omega arith & tt)
 
 only-length : (f : Bool → Bool) (l : List Bool) → length (only f l) ≤ length l
 unfolding if_then_else_ only
@@ -199,24 +198,6 @@ module _ (p : ℕ) (stripe marks : List ℕ) (e : lentRefusal p stripe marks ≡
   marks-room : (m : Standing) → After p mostTurns m → length marks ≤ length (m .bench .marks)
   marks-room m a = rw (f .words) (subst (λ q. planOf q .rows ≤ length (m .bench .marks)) (a .plan) (a .sound .room .stripe .rows))
 
-  -- the rows of a bench's symbols, under its marks
-  rows-fit : (m : Standing) → After p mostTurns m → T (symbolsFit P (take (length marks) (m .bench .marks)) (take (length stripe) (m .bench .symbols)))
-  unfolding marksAt
-  rows-fit m a =
-      fit-symbols P (take (length marks) (m .bench .marks)) (take (length stripe) (m .bench .symbols)) (λ r h.
-      subst (λ row. T (unmarkedBelow (size (P .field)) (marksAt P (take (length marks) (m .bench .marks)) r) row)) (sym (row r h))
-      (subst (λ w. T (unmarkedBelow (size (P .field)) (bitsOf (P .columns) w) (rowAt P (m .bench .symbols) r))) (sym (word r h))
-      (subst (λ k. RowFits (planOf k) (m .bench .marks) (m .bench .symbols) r) (a .plan) (a .sound .fit .row-fits r (subst (λ k. r < planOf k .rows) (sym (a .plan)) h)))))
-    where
-      word : (r : ℕ) → r < P .rows → getD (take (length marks) (m .bench .marks)) r 0 ≡ getD (m .bench .marks) r 0
-      word r h = getD-take (length marks) (m .bench .marks) r 0 (omega (arith, f .words))
-
-      row : (r : ℕ) → r < P .rows → rowAt P (take (length stripe) (m .bench .symbols)) r ≡ rowAt P (m .bench .symbols) r
-      row r h =
-          sym (row-append P (take (length stripe) (m .bench .symbols)) (drop (length stripe) (m .bench .symbols)) r
-          (omega (arith, length-take-le (length stripe) (m .bench .symbols) (stripe-room m a), f .long, row-end (P .columns) h)))
-          ∙ ap (λ l. rowAt P l r) (take-append-drop (length stripe) (m .bench .symbols))
-
   -- ---- numbers
 
   left-low : (m : Standing) → After p mostTurns m → rowsLeft (m .bench) < numbers
@@ -252,7 +233,6 @@ module _ (p : ℕ) (stripe marks : List ℕ) (e : lentRefusal p stripe marks ≡
           words = length-take-le (length marks) (m .bench .marks) (marks-room m a) ∙ f .words;
           long = length-take-le (length stripe) (m .bench .symbols) (stripe-room m a) ∙ f .long;
         };
-        fit = rows-fit m a;
         answer = below .0;
         values = below .1;
       }
@@ -263,7 +243,6 @@ module _ (p : ℕ) (stripe marks : List ℕ) (e : lentRefusal p stripe marks ≡
   turn-printable (end m) a = end-printable m a
   turn-printable (clash place) a = record {
     sized = record { plan-known = f .plan-known; words = f .words; long = f .long };
-    fit = fit-symbols P marks stripe (f .row-fits);
     answer = omega arith;
     values = a;
   }

@@ -6,7 +6,7 @@ use lib.Dec.{T}
 use lib.ListN.{length}
 use Rattle.plans.specs.Plan.{planOf}
 use Rattle.plans.specs.Answers.{answerNumber, endValues, reportValues}
-use Rattle.plans.specs.Refusal.{unasked, allBelow, symbolsFit}
+use Rattle.plans.specs.Refusal.{unasked, allBelow}
 use Rattle.plans.specs.declared.Report.{Report}
 use Rattle.files.specs.File.{planIn, fileRefusal}
 use Rattle.files.specs.Parts.{Symbols, Loading}
@@ -16,14 +16,12 @@ use Rattle.texts.specs.Parts.{numbers, summaryRoom, gridRoom}
 -- the values of Restored and of Stuck, and the rows behind them
 pub record Ending (p : ℕ) (report : Report) (stripe marks out : List ℕ) (at : ℕ) : Type 0 where
   pub sized : Symbols p stripe marks
-  pub fit : T (symbolsFit (planOf p) marks stripe)
   pub values : T (allBelow numbers (endValues (planOf p) report))
   pub room : at + (summaryRoom + gridRoom) ≤ length out
 
 -- a report, a stripe and marks that can be printed
 pub record Printable (p : ℕ) (report : Report) (stripe marks : List ℕ) : Type 0 where
   pub sized : Symbols p stripe marks
-  pub fit : T (symbolsFit (planOf p) marks stripe)
   pub answer : answerNumber (report .answer) < numbers
   pub values : T (allBelow numbers (reportValues (planOf p) report))
 

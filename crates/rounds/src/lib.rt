@@ -78,12 +78,12 @@ pub fn rounds(plan: usize, symbols: &mut [u8], marks: &mut [u64]) -> Report
     let facts = tables::facts_of(plan);
     let rows = facts.rows;
     let levels = facts.levels;
-    let products = field::products();
-    let entries = field::entries(facts.field);
     let mut room = [0u8; CHECKS];
     let size = tables::put_checks(plan, &mut room);
-    let table = &products[..entries];
-    let checks = &room[..size];
+    let end = tables::put_table(facts.field, &mut room, size);
+    let lent = &room[..end];
+    let checks = &lent[..size];
+    let table = &lent[size..];
     let mut sums = [0u8; LEARNED];
     let mut restored = [0usize; 3];
     let mut level = 1;

@@ -80,12 +80,12 @@ pub fn step_row(
         return Step::Refused(number);
     }
     let word = marks[row];
-    let products = field::products();
-    let entries = field::entries(facts.field);
     let mut room = [0u8; CHECKS];
     let size = tables::put_checks(plan, &mut room);
-    let table = &products[..entries];
-    let checks = &room[..size];
+    let end = tables::put_table(facts.field, &mut room, size);
+    let lent = &room[..end];
+    let checks = &lent[..size];
+    let table = &lent[size..];
     match fill_row(plan, level, table, checks, symbols, word, sums, row) {
         linear::FillAnswer::None => Step::Clash,
         linear::FillAnswer::Tied => Step::Tied,

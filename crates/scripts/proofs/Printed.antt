@@ -1,7 +1,7 @@
 -- What is printed does not look under marks. Assumes nothing.
 use mathlib.Core.Path.{_≡_, refl, ap, ap₂, _∙_}
 use mathlib.Core.Logic.{inl, inr}
-use mathlib.Core.List.{List, _++_}
+use mathlib.Core.List.{List, _++_, flatMap}
 use Prim.Native.Nat.{ℕ}
 use native.Mathlib.Omega.{arith}
 use lib.Dec.{eqb}
@@ -13,7 +13,7 @@ use Rattle.plans.specs.Refusal.{unasked}
 use Rattle.plans.specs.declared.Report.{Report}
 use Rattle.repair.specs.Mending.{mendStripe, mendMarks}
 use Rattle.files.specs.File.{planIn, marksIn, symbolsIn, fileRefusal}
-use Rattle.texts.specs.Text.{item, lineEnd, shown, grid, answerText, mendText, printed}
+use Rattle.texts.specs.Text.{item, lineEnd, symbolDigits, symbolText, shown, grid, answerText, mendText, printed}
 use Rattle.demands.specs.Silence.{SameUnmarked}
 use Rattle.demands.proofs.Blind.{flat-same, rows-alike}
 use Rattle.demands.proofs.Silence.{silent-mending}
@@ -21,12 +21,14 @@ use Rattle.demands.proofs.Reading.{plan-same, marks-in-same, symbols-alike, ref
 use Rattle.scripts.specs.Printed.{SilentText, SilentPrinting}
 
 grid-same : (p : ℕ) (marks s t : List ℕ) → SameUnmarked p marks s t → grid (planOf p) s marks ≡ grid (planOf p) t marks
-unfolding if_then_else_ grid shown
+unfolding if_then_else_ grid symbolText shown
 grid-same p marks s t h =
     let Q = planOf p in
-    flat-same (λ r. shown (marksAt Q marks r) (rowAt Q s r) ++ lineEnd) (λ r. shown (marksAt Q marks r) (rowAt Q t r) ++ lineEnd) 0 (Q .rows)
+    let n = symbolDigits Q in
+    flat-same (λ r. shown n (marksAt Q marks r) (rowAt Q s r) ++ lineEnd) (λ r. shown n (marksAt Q marks r) (rowAt Q t r) ++ lineEnd) 0 (Q .rows)
     (λ r l.
-    ap (λ z. z ++ lineEnd) (beside-alike _ (λ x y. refl) (marksAt Q marks r) (rowAt Q s r) (rowAt Q t r) (rows-alike p marks s t h r (omega arith))))
+    ap (λ z. flatMap (λ l. l) z ++ lineEnd)
+    (beside-alike (symbolText n) (λ x y. refl) (marksAt Q marks r) (rowAt Q s r) (rowAt Q t r) (rows-alike p marks s t h r (omega arith))))
 
 pub silent-text : SilentText
 unfolding mendText

@@ -1,5 +1,6 @@
 -- The bench sheet's file is read and printed as the sheet says, by computation. Assumes nothing.
 use mathlib.Core.Path.{_≡_, refl}
+use mathlib.Core.Bool.{true, false}
 use mathlib.Core.List.{[], _∷_, _++_, flatMap}
 use lib.ListN.{replicate}
 use Rattle.field.specs.Lists.{if_then_else_, upFrom}
@@ -19,7 +20,7 @@ use Rattle.repair.proofs.Sheet.{sheet}
 use Rattle.words.specs.Words.{bytesOf, numberAt}
 use Rattle.files.specs.File.{headerOf, blanked, planIn, marksIn, symbolsIn, fileRefusal}
 use Rattle.files.specs.Example.{exampleFile}
-use Rattle.texts.specs.Text.{bytes, digitsIn, decimal, hex, item, lineEnd, shown, grid, captioned, endText, placeText, answerText, mendText, printed}
+use Rattle.texts.specs.Text.{bytes, digitsIn, decimal, hex, hexes, item, lineEnd, symbolDigits, symbolText, shown, grid, captioned, endText, placeText, answerText, mendText, printed}
 use Rattle.scripts.specs.Sheet.{FileSheet}
 use Rattle.plans.specs.declared.Place.the-variants.{Row, Across}
 use Rattle.plans.specs.declared.Answer.the-variants.{Clash}
@@ -33,7 +34,7 @@ unfolding if_then_else_ upFrom _⊕_ size double times mul dot gf2 flatMap
     fresh stepped unlessRefused rowFill putRow rowStepBy rowStep lossy across checkFill isNone vectorIn levelFill keepSums raise levelStepBy levelStep
     more afterRow afterLevel takeTurn goOn turns mended rowsLeft endReport turnReport turnStripe turnMarks mendReport mendStripe mendMarks
     bytesOf marksOffset wideMarks wordBytes symbolsOffset fileLength headerOf blanked planIn numberAt marksIn symbolsIn fileRefusal
-    bytes digitsIn decimal hex item lineEnd shown grid captioned endText answerText mendText printed
+    bytes digitsIn decimal hex hexes item lineEnd symbolDigits symbolText shown grid captioned endText answerText mendText printed
     exampleStripe exampleMarks exampleFile
 file-sheet = record { library = sheet; fileStripe = refl; fileMarks = refl; filePrinted = refl }
 
@@ -45,6 +46,11 @@ unfolding if_then_else_ placeValues bytes digitsIn decimal item lineEnd captione
 clash-lines = (refl, refl)
 
 -- a row of plan 5 that has a mark at its last column: a character for each of its 64 columns
-pub wide-line : shown (marksAt plan5 (wordOf (63 ∷ []) ∷ []) 0) (rowAt plan5 (replicate 64 1) 0) ++ lineEnd ≡ bytes "111111111111111111111111111111111111111111111111111111111111111?\n"
-unfolding if_then_else_ upFrom size gf64 first rest beside bitsOf wordOf binaryPlan plan5 rowAt marksAt bytes hex lineEnd shown
+pub wide-line : shown (symbolDigits plan5) (marksAt plan5 (wordOf (63 ∷ []) ∷ []) 0) (rowAt plan5 (replicate 64 1) 0) ++ lineEnd ≡ bytes "111111111111111111111111111111111111111111111111111111111111111?\n"
+unfolding if_then_else_ upFrom size gf2 gf64 flatMap first rest beside bitsOf wordOf binaryPlan plan5 rowAt marksAt bytes hex hexes lineEnd symbolDigits symbolText shown
 wide-line = refl
+
+-- symbols of two digits, the second of them marked
+pub two-digit-line : shown 2 (false ∷ true ∷ false ∷ []) (0xa5 ∷ 0x5a ∷ 0x0f ∷ []) ≡ bytes "a5??0f"
+unfolding if_then_else_ flatMap first rest beside bytes hex hexes symbolText shown
+two-digit-line = refl

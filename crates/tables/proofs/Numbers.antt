@@ -1,18 +1,25 @@
 -- A plan's numbers and its tables as the code has and lends them, and what its rows, checks and weights are by them. Assumes nothing.
 use mathlib.Core.Path.{_≡_, sym, ap, ap₂, _∙_, subst}
-use mathlib.Core.List.{List}
-use Prim.Native.Nat.{ℕ, suc, _+_, _*_, _≤_, _<_}
+use mathlib.Core.Bool.{Bool}
+use mathlib.Core.List.{List, _∷_, _++_, flatMap}
+use Prim.Native.Nat.{ℕ, suc, _+_, _*_, _-_, _≤_, _<_}
 use native.Mathlib.Nat.{le-trans, zero-add}
 use native.Mathlib.Numerals.{add-one}
 use native.Mathlib.Omega.{arith}
 use lib.ListN.{length, take, drop}
-use lib.Seq.{take-all, take-at, length-take-le, length-sets, sets-eq}
-use Rattle.field.specs.Field.{size}
-use Rattle.field.specs.Ours.{fieldOf, products, tableOf}
-use Rattle.field.proofs.Table.{lent}
+use lib.Dec.{T, leb, leb→le}
+use lib.Seq.{take-all, take-at, drop-at, length-take-le, sets-eq}
+use Rattle.field.specs.Field.{size, gf2, gf16, gf32, gf64, gf256}
+use Rattle.field.specs.Lists.{if_then_else_, upFrom}
+use Rattle.field.specs.Power.{orbit}
+use Rattle.field.specs.Ours.{fieldOf, products, powers, logarithms, tableOf}
 use Rattle.fills.specs.Marks.{rowsOf}
-use Rattle.plans.specs.Plan.{Plan, planOf, levelOf, checksTo}
+use Rattle.plans.specs.Plan.{Plan, allOnes, bitChecks, locations1, elements, powerBits, binaryPlan, plan1, plan2, plan5, locations3, powers3, plan3, locations4, powers4, plan4, noPlan, plans, planOf, levelOf, checksTo}
 use Rattle.words.specs.Written.{Put}
+use Rattle.words.proofs.Writing.{put-length, put-then}
+use Rattle.plans.specs.Rooms.{checkRoom}
+use Rattle.plans.proofs.Plans.{all-plans}
+use Rattle.fills.specs.Lists.{all}
 use Rattle.plans.specs.Tables.{checkTable, weightTable}
 use Rattle.tables.specs.Tables.{FactsOf, Lent}
 use Rattle.tables.specs.declared.Facts.{Facts}
@@ -20,7 +27,7 @@ use Rattle.plans.proofs.Rows.{row-end}
 use Rattle.plans.proofs.Sizes.{checks-room, weights-room, weights-length}
 use Rattle.plans.proofs.Flat.{rowIn}
 use Rattle.plans.proofs.Tables.{weights-in}
-use Rattle.plans.proofs.Parts.{part, part-of, part-length, rows-of}
+use Rattle.plans.proofs.Parts.{part, part-of, part-length, rest-of, rows-of}
 
 pub record Numbers (p q rows n : ℕ) : Type 0 where
   pub field : fieldOf q ≡ planOf p .field
@@ -33,7 +40,7 @@ numbers p is = record { field = is .field .names; high = is .rows; wide = is .co
 -- what is lent of the room that row checks are written to is these checks
 module _ {checks room after : List ℕ} {size : ℕ} (put : Put room 0 checks size after) where
   pub checks-fit : size ≤ length after
-  checks-fit = rw (put .written, length-sets room 0 checks) (put .inside)
+  checks-fit = rw (put-length put) (put .inside)
 
   pub checks-lent : take size after ≡ checks
   checks-lent =
@@ -45,12 +52,44 @@ module _ {checks room after : List ℕ} {size : ℕ} (put : Put room 0 checks si
 
   -- where there is no more room, all of it is
   pub checks-whole : length room ≤ length checks → after ≡ checks
-  checks-whole full = sym (take-all size after (omega (arith, put .reached, ap length (put .written) ∙ length-sets room 0 checks))) ∙ checks-lent
+  checks-whole full = sym (take-all size after (omega (arith, put .reached, put-length put))) ∙ checks-lent
 
--- the front of the products, and of that room, are a plan's tables
-pub tables-lent : {P : Plan} {f : Facts} {n size : ℕ} {t room after : List ℕ} → FactsOf P f → t ≡ products → n ≡ length (tableOf (f .field))
-    → Put room 0 (checkTable P) size after → Lent P (take n t) (take size after)
-tables-lent {f = f} is all count put = record { products = lent (f .field) all count ∙ ap tableOf (is .field .its-size); checks = checks-lent put }
+-- row checks and the field's table have room for every plan, one behind the other: one test
+abbrev fitTables : Plan → Bool
+fitTables P = leb (length (checkTable P) + length (tableOf (size (P .field)))) checkRoom
+
+all-fit : T (all fitTables (noPlan ∷ plans))
+unfolding if_then_else_ upFrom flatMap orbit size gf2 gf16 gf32 gf64 gf256 products powers logarithms tableOf all allOnes bitChecks locations1 elements powerBits binaryPlan plan1 plan2 plan5 locations3
+    powers3 plan3 locations4 powers4 plan4 noPlan checksTo checkTable
+all-fit = tt
+
+pub tables-length : (p : ℕ) → length (checkTable (planOf p)) + length (tableOf (size (planOf p .field))) ≤ checkRoom
+tables-length p = leb→le _ checkRoom (all-plans fitTables all-fit p)
+
+module _ {P : Plan} {f : Facts} (is : FactsOf P f) {room mid : List ℕ} {n : ℕ} (put : Put room 0 (checkTable P) n mid) where
+  pub table-fits : length (checkTable P) + length (tableOf (size (P .field))) ≤ length room → n + length (tableOf (f .field)) ≤ length mid
+  table-fits h = rw (put-length put, is .field .its-size, put .reached, zero-add) h
+
+  -- what is lent of that room
+  module _ {end : ℕ} {after : List ℕ} (behind : Put mid n (tableOf (f .field)) end after) where
+    pub lent-long : end ≡ length (take end after)
+    lent-long = checks-long (put-then put behind)
+
+    pub lent-within : n ≤ length (take end after)
+    lent-within = omega (arith, lent-long, behind .reached)
+
+    pub lent-front : n ≡ length (take n (take end after))
+    lent-front = sym (length-take-le n (take end after) lent-within)
+
+    pub tables-lent : Lent P (take (length (take end after) - n) (drop n (take end after))) (take n (take end after))
+    tables-lent =
+        let both : take end after ≡ checkTable P ++ tableOf (f .field) = checks-lent (put-then put behind) in
+        let front : length (checkTable P) ≡ n = sym (put .reached ∙ zero-add _) in
+        record {
+          products = rest-of n (take end after) ∙ ap (drop n) both ∙ drop-at (checkTable P) _ n front
+              ∙ ap tableOf (is .field .its-size);
+          checks = ap (take n) both ∙ take-at (checkTable P) _ n front;
+        }
 
 -- the products lent for a plan are those of its field's number
 pub own-products : {P : Plan} {q : ℕ} {table checks : List ℕ} → Lent P table checks → q ≡ size (P .field) → table ≡ tableOf q

@@ -3,13 +3,15 @@
 mod plan_1;
 mod plan_2;
 mod plan_3;
+mod plan_4;
 mod plan_5;
 
 use plans::ROWS;
 use plans::WEIGHTS;
 ghost use mathlib.Core.Path.{_≡_};
 ghost use lib.ListN.{length};
-ghost use Prim.Native.Nat.{_≤_};
+ghost use Prim.Native.Nat.{_+_, _≤_};
+ghost use Rattle.field.specs.Ours.{tableOf};
 ghost use Rattle.plans.specs.Plan.{planOf, known, levelOf, checksTo};
 ghost use Rattle.plans.specs.Tables.{checkTable, weightTable, placeTable};
 ghost use Rattle.words.specs.Written.{Put};
@@ -53,6 +55,7 @@ pub fn facts_of(plan: usize) -> Facts
         1 => plan_1::FACTS,
         2 => plan_2::FACTS,
         3 => plan_3::FACTS,
+        4 => plan_4::FACTS,
         5 => plan_5::FACTS,
         _ => NO_PLAN,
     }
@@ -102,6 +105,10 @@ pub fn put_checks(plan: usize, checks: &mut [u8]) -> usize
             let table = plan_3::CHECKS;
             words::put(&table, checks, 0)
         }
+        4 => {
+            let table = plan_4::CHECKS;
+            words::put(&table, checks, 0)
+        }
         5 => {
             let table = plan_5::CHECKS;
             words::put(&table, checks, 0)
@@ -110,7 +117,26 @@ pub fn put_checks(plan: usize, checks: &mut [u8]) -> usize
     }
 }
 
-// Weights, one total behind the other, and zeros behind them: the plain total of 3 rows and of 8, and with it that of weights a ^ r.
+// Writes the table that field `q` is computed with into `room` from `at` on, and gives the place behind it. The rest of `room` is unchanged.
+pub fn put_table(q: usize, room: &mut [u8], at: usize) -> usize
+    requires { ⌜ at + length (tableOf q) ≤ length (now room) ⌝ }
+    ensures { λ r. ⌜ Put (now (room .entry)) at (tableOf q) r (now (room .exit)) ⌝ }
+{
+    if q == 2 {
+        return at;
+    }
+    if q == 16 {
+        let products = field::products();
+        return words::put(&products, room, at);
+    }
+    let powers = field::powers_of_a();
+    let logarithms = field::logarithms();
+    let next = words::put(&powers, room, at);
+    words::put(&logarithms, room, next)
+}
+
+// Weights, one total behind the other, and zeros behind them: the plain total of 3, 8 and 12 rows; and of 8 rows and of 12 with it that of
+// weights a ^ r, of 12 also that of a ^ (2 r).
 const PLAIN_3: [u8; WEIGHTS] = *b"\
     \x01\x01\x01\x00\x00\x00\x00\x00\x00\x00\x00\x00\x00\x00\x00\x00\x00\x00\x00\x00\x00\x00\x00\x00\x00\x00\x00\x00\x00\x00\x00\x00\x00\x00\x00\x00";
 
@@ -119,6 +145,14 @@ const PLAIN_8: [u8; WEIGHTS] = *b"\
 
 const LOCATED_8: [u8; WEIGHTS] = *b"\
     \x01\x01\x01\x01\x01\x01\x01\x01\x01\x02\x04\x08\x03\x06\x0c\x0b\x00\x00\x00\x00\x00\x00\x00\x00\x00\x00\x00\x00\x00\x00\x00\x00\x00\x00\x00\x00";
+
+const PLAIN_12: [u8; WEIGHTS] = *b"\
+    \x01\x01\x01\x01\x01\x01\x01\x01\x01\x01\x01\x01\x00\x00\x00\x00\x00\x00\x00\x00\x00\x00\x00\x00\x00\x00\x00\x00\x00\x00\x00\x00\x00\x00\x00\x00";
+
+const LOCATED_12: [u8; WEIGHTS] = *b"\
+    \x01\x01\x01\x01\x01\x01\x01\x01\x01\x01\x01\x01\
+    \x01\x02\x04\x08\x10\x20\x40\x80\x1d\x3a\x74\xe8\
+    \x01\x04\x10\x40\x1d\x74\xcd\x13\x4c\x2d\xb4\xea";
 
 // The weights of a level, one total behind the other, and zeros behind them.
 pub fn weights(plan: usize, level: usize) -> [u8; WEIGHTS]
@@ -129,6 +163,7 @@ pub fn weights(plan: usize, level: usize) -> [u8; WEIGHTS]
             1 => PLAIN_3,
             2 => PLAIN_8,
             3 => LOCATED_8,
+            4 => LOCATED_12,
             5 => PLAIN_8,
             _ => [0; WEIGHTS],
         };
@@ -137,6 +172,7 @@ pub fn weights(plan: usize, level: usize) -> [u8; WEIGHTS]
         return match plan {
             2 => PLAIN_8,
             3 => PLAIN_8,
+            4 => PLAIN_12,
             5 => PLAIN_8,
             _ => [0; WEIGHTS],
         };
@@ -152,6 +188,7 @@ pub fn check_places(plan: usize) -> [u64; ROWS]
         1 => plan_1::PLACES,
         2 => plan_2::PLACES,
         3 => plan_3::PLACES,
+        4 => plan_4::PLACES,
         5 => plan_5::PLACES,
         _ => [0; ROWS],
     }

@@ -1,15 +1,12 @@
 -- What the functions that print ask of their callers, and the room that they need.
-use Prim.Native.Nat.{ℕ, _+_, _*_, _/_, _%_, _^_, _≤_, _<_}
-use mathlib.Core.Path.{_≡_}
-use mathlib.Core.Bool.{false}
+use Prim.Native.Nat.{ℕ, _+_, _*_, _≤_, _<_}
 use mathlib.Core.List.{List}
-use lib.Dec.{T, eqb}
+use lib.Dec.{T}
 use lib.ListN.{length, take}
-use Rattle.fills.specs.Marks.{bitsOf}
 use Rattle.plans.specs.Plan.{planOf, known}
-use Rattle.plans.specs.Rooms.{rowRoom, symbolRoom}
+use Rattle.plans.specs.Rooms.{rowRoom}
 use Rattle.plans.specs.Answers.{placeValues, endValues}
-use Rattle.plans.specs.Refusal.{allBelow, unmarkedBelow, symbolsFit}
+use Rattle.plans.specs.Refusal.{allBelow}
 use Rattle.plans.specs.declared.Place.{Place}
 use Rattle.plans.specs.declared.Report.{Report}
 use Rattle.words.specs.Words.{wordBits}
@@ -18,14 +15,15 @@ use Rattle.files.specs.Parts.{Symbols}
 
 -- ---- rooms
 
--- numbers that are printed are below 100, and symbols that are shown have a hex digit
+-- numbers that are printed are below 100, and a symbol is a byte: it has no more than two hex digits
 abbrev pub numbers : ℕ
 numbers = 100
 
-abbrev pub digits : ℕ
-digits = 16
+abbrev pub digitRoom : ℕ
+digitRoom = 2
 
--- the most bytes of a number, of three counts, of level, rows left and counts, of a Clash's place, and of all rows: its symbols, a line feed a row
+-- the most bytes of a number, of three counts, of level, rows left and counts, of a Clash's place, and of all rows: 24 symbols of two digits
+-- and a line feed for each of 12
 abbrev pub numberRoom : ℕ
 numberRoom = 2
 
@@ -39,7 +37,7 @@ abbrev pub placeRoom : ℕ
 placeRoom = 22
 
 abbrev pub gridRoom : ℕ
-gridRoom = symbolRoom + rowRoom
+gridRoom = rowRoom * (24 * digitRoom + 1)
 
 -- the bytes xs were written, no more than there is room for
 pub record Within (room : ℕ) (old : List ℕ) (at : ℕ) (xs : List ℕ) (next : ℕ) (new : List ℕ) : Type 0 where
@@ -53,21 +51,26 @@ pub record Item (k n : ℕ) (out : List ℕ) (at : ℕ) : Type 0 where
   pub small : n < numbers
   pub room : at + k + numberRoom ≤ length out
 
--- a symbol that has a digit where it is not marked
-pub record Digit (word column symbol : ℕ) : Type 0 where
+-- a symbol has a digit, or two
+pub record Digits (n : ℕ) : Type 0 where
+  pub some : 0 < n
+  pub few : n ≤ digitRoom
+
+-- a symbol of so many digits
+pub record SymbolPut (n column : ℕ) (out : List ℕ) (at : ℕ) : Type 0 where
+  pub digits : Digits n
   pub inside : column < wordBits
-  pub small : eqb (word / 2 ^ column % 2) 1 ≡ false → symbol < digits
+  pub room : at + n ≤ length out
 
 -- a row of such symbols
-pub record Line (word : ℕ) (row out : List ℕ) (at : ℕ) : Type 0 where
+pub record Line (n : ℕ) (row out : List ℕ) (at : ℕ) : Type 0 where
+  pub digits : Digits n
   pub narrow : length row ≤ wordBits
-  pub small : T (unmarkedBelow digits (bitsOf (length row) word) row)
-  pub room : at + length row + 1 ≤ length out
+  pub room : at + length row * n + 1 ≤ length out
 
--- a stripe and marks that are not refused
+-- a stripe and marks
 pub record Grid (p : ℕ) (stripe marks out : List ℕ) (at : ℕ) : Type 0 where
   pub sized : Symbols p stripe marks
-  pub fit : T (symbolsFit (planOf p) marks stripe)
   pub room : at + gridRoom ≤ length out
 
 -- the counts of up to 3 levels

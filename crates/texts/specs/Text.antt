@@ -4,8 +4,10 @@ use Prim.Native.Char.{code}
 use Prim.Native.String.{String, [] as ε, _∷_ as _∶_}
 use mathlib.Core.Bool.{Bool}
 use mathlib.Core.List.{List, [], _∷_, _++_, flatMap}
-use lib.Dec.{eqb, ltb}
+use lib.Dec.{eqb, leb, ltb}
+use lib.ListN.{replicate}
 use Rattle.field.specs.Lists.{if_then_else_, upFrom}
+use Rattle.field.specs.Field.{size}
 use Rattle.fills.specs.Lists.{beside}
 use Rattle.plans.specs.Plan.{Plan, planOf, rowAt, marksAt}
 use Rattle.plans.specs.Answers.{answerNumber, reportValues}
@@ -32,9 +34,13 @@ digitsIn (suc k) n = let high = digitsIn k (n / 10) in (if ltb n 10 then [] else
 unfoldable pub decimal : ℕ → List ℕ
 decimal n = digitsIn (suc n) n
 
--- a lowercase hex digit
+-- a lowercase hex digit, and the n low ones of a number, the high one first
 unfoldable pub hex : ℕ → ℕ
 hex x = if ltb x 10 then 48 + x else 87 + x
+
+unfoldable pub hexes : ℕ → ℕ → List ℕ
+hexes zero x = []
+hexes (suc n) x = hexes n (x / 16) ++ (hex (x % 16) ∷ [])
 
 -- a word and a number
 unfoldable pub item : String → ℕ → List ℕ
@@ -45,12 +51,21 @@ lineEnd = 10 ∷ []
 
 -- ---- lines
 
--- a row's symbols, `?` at a place still marked
-unfoldable pub shown : List Bool → List ℕ → List ℕ
-shown ms xs = beside (λ m x. if m then 63 else hex x) ms xs
+-- how many hex digits a symbol has
+unfoldable pub symbolDigits : Plan → ℕ
+symbolDigits P = if leb (size (P .field)) 16 then 1 else 2
+
+-- a symbol by its n digits, each `?` at a place still marked
+unfoldable pub symbolText : ℕ → Bool → ℕ → List ℕ
+symbolText n m x = if m then replicate n 63 else hexes n x
+
+-- a row's symbols
+unfoldable pub shown : ℕ → List Bool → List ℕ → List ℕ
+shown n ms xs = flatMap (λ l. l) (beside (symbolText n) ms xs)
 
 unfoldable pub grid : Plan → List ℕ → List ℕ → List ℕ
-grid P stripe marks = flatMap (λ r. shown (marksAt P marks r) (rowAt P stripe r) ++ lineEnd) (upFrom 0 (P .rows))
+grid P stripe marks =
+    flatMap (λ r. shown (symbolDigits P) (marksAt P marks r) (rowAt P stripe r) ++ lineEnd) (upFrom 0 (P .rows))
 
 -- each value behind its words, as far as there are values
 unfoldable pub captioned : List String → List ℕ → List ℕ

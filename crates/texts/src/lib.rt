@@ -12,8 +12,8 @@ ghost use Rattle.fills.specs.Marks.{bitsOf};
 ghost use Rattle.plans.specs.Plan.{planOf};
 ghost use Rattle.plans.specs.Answers.{placeValues, endValues};
 ghost use Rattle.words.specs.Written.{Put};
-ghost use Rattle.texts.specs.Text.{decimal, hex, «item» as itemOf, lineEnd, shown, «grid» as gridOf, endText, placeText};
-ghost use Rattle.texts.specs.Parts.{numberRoom, countsRoom, summaryRoom, placeRoom, Within, Item, Digit, Line, Grid, Counts, Summary, PlacePut};
+ghost use Rattle.texts.specs.Text.{decimal, hex, «item» as itemOf, lineEnd, symbolDigits, symbolText, shown, «grid» as gridOf, endText, placeText};
+ghost use Rattle.texts.specs.Parts.{numberRoom, countsRoom, summaryRoom, placeRoom, Within, Item, SymbolPut, Line, Grid, Counts, Summary, PlacePut};
 
 // How many bytes a text has room for.
 pub const ROOM: usize = 640;
@@ -46,31 +46,64 @@ pub fn put_item(word: &[u8], n: usize, out: &mut [u8], at: usize) -> usize
 
 // ---- rows
 
-// What is shown for a symbol: a lowercase hex digit, or `?` where its column is marked.
-fn digit(word: u64, column: usize, symbol: u8) -> u8
-    requires { ⌜ Digit word column symbol ⌝ }
-    ensures { λ r. ⌜ r ≡ (if eqb (word / 2 ^ column % 2) 1 then 63 else hex symbol) ⌝ }
+// How many hex digits a symbol of the plan has.
+fn symbol_digits(plan: usize) -> usize
+    ensures { λ r. ⌜ r ≡ symbolDigits (planOf plan) ⌝ }
 {
-    if words::is_marked(word, column) {
-        return b'?';
+    if tables::facts_of(plan).field <= 16 {
+        1
+    } else {
+        2
     }
-    if symbol < 10 {
-        return 48 + symbol;
-    }
-    87 + symbol
 }
 
-// A row, and a line feed.
-fn put_line(word: u64, row: &[u8], out: &mut [u8], at: usize) -> usize
-    requires { ⌜ Line word (now row) (now out) at ⌝ }
-    ensures { λ r. ⌜ Put (now (out .entry)) at (shown (bitsOf (length (now (row .entry))) word) (now (row .entry)) ++ lineEnd) r (now (out .exit)) ⌝ }
+// What is shown for the low hex digit of a number: the digit, lowercase, or `?` where it is marked.
+fn digit(marked: bool, number: u8) -> u8
+    ensures { λ r. ⌜ r ≡ (if marked then 63 else hex (number % 16)) ⌝ }
 {
-    for c in 0..row.len() {
-        out[at + c] = digit(word, c, row[c]);
+    let low = number % 16;
+    if marked {
+        return b'?';
     }
-    let end = at + row.len();
-    out[end] = b'\n';
-    end + 1
+    if low < 10 {
+        return 48 + low;
+    }
+    87 + low
+}
+
+// A symbol of one digit, or of two, the high one first.
+fn put_symbol(
+    digits: usize,
+    word: u64,
+    column: usize,
+    symbol: u8,
+    out: &mut [u8],
+    at: usize,
+) -> usize
+    requires { ⌜ SymbolPut digits column (now out) at ⌝ }
+    ensures { λ r. ⌜ Put (now (out .entry)) at (symbolText digits (eqb (word / 2 ^ column % 2) 1) symbol) r (now (out .exit)) ⌝ }
+{
+    let marked = words::is_marked(word, column);
+    if digits == 1 {
+        out[at] = digit(marked, symbol);
+        return at + 1;
+    }
+    out[at] = digit(marked, symbol / 16);
+    out[at + 1] = digit(marked, symbol);
+    at + 2
+}
+
+// A row, its symbols of so many digits, and a line feed.
+fn put_line(digits: usize, word: u64, row: &[u8], out: &mut [u8], at: usize) -> usize
+    requires { ⌜ Line digits (now row) (now out) at ⌝ }
+    ensures { λ r. ⌜ Put (now (out .entry)) at (shown digits (bitsOf (length (now (row .entry))) word) (now (row .entry)) ++ lineEnd) r (now (out .exit)) ⌝ }
+{
+    let mut next = at;
+    for c in 0..row.len() {
+        next = put_symbol(digits, word, c, row[c], out, next);
+    }
+    out[next] = b'\n';
+    next + 1
 }
 
 // All rows, a line each.
@@ -79,11 +112,12 @@ pub fn put_grid(plan: usize, stripe: &[u8], marks: &[u64], out: &mut [u8], at: u
     ensures { λ r. ⌜ Put (now (out .entry)) at (gridOf (planOf plan) (now (stripe .entry)) (now (marks .entry))) r (now (out .exit)) ⌝ }
 {
     let columns = tables::facts_of(plan).columns;
+    let digits = symbol_digits(plan);
     let mut next = at;
     for r in 0..marks.len() {
         let start = r * columns;
         let end = start + columns;
-        next = put_line(marks[r], &stripe[start..end], out, next);
+        next = put_line(digits, marks[r], &stripe[start..end], out, next);
     }
     next
 }

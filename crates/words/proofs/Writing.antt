@@ -14,11 +14,15 @@ use Rattle.words.proofs.Stores.{take-sets, sets-append, sets-whole, fla
 
 -- ---- what was put
 
+-- the buffer stays as long as it was
+pub put-length : {old new : List ℕ} {at i : ℕ} {xs : List ℕ} → Put old at xs i new → length new ≡ length old
+put-length {old} {at = at} {xs = xs} p = ap length (p .written) ∙ length-sets old at xs
+
 -- what was put behind what was put
 pub put-then : {old l k : List ℕ} {at i j : ℕ} {xs ys : List ℕ} → Put old at xs i l → Put l i ys j k → Put old at (xs ++ ys) j k
 put-then {old} {at} {xs} {ys} p q = record {
   reached = q .reached ∙ ap (λ n. n + length ys) (p .reached) ∙ add-assoc at (length xs) (length ys) ∙ ap (λ n. at + n) (sym (length-append xs ys));
-  inside = omega (arith, q .inside, ap length (p .written), length-sets old at xs);
+  inside = omega (arith, q .inside, put-length p);
   written = q .written ∙ ap₂ (λ l i. sets l i ys) (p .written) (p .reached) ∙ sym (sets-append xs ys old at);
 }
 

@@ -1,24 +1,25 @@
 -- `answer`: what is lent is the field's table and a system of its symbols. Assumes nothing.
-use mathlib.Core.Path.{_≡_, sym}
+use mathlib.Core.Path.{_≡_}
 use native.Mathlib.Omega.{arith}
 use borrow.Author.Needs.{needs}
 use lib.ListN.{length}
-use Rattle.field.proofs.Table.{lent, lent-length}
+use Rattle.field.proofs.Bytes.{table-most}
+use Rattle.tables.proofs.Numbers.{checks-long, checks-lent}
 use Rattle.linear_cases.proofs.Symbols.{symbols-elements}
 use Rattle.linear_cases.proofs.answer.Statement.{statement}
 use Rattle.linear_cases.proofs.answer.Tie as tie
 
-products-requires : tie.Need-products-requires
-products-requires c κs = search needs
+slice-aggregate-put-table : tie.Need-slice-aggregate-put-table
+slice-aggregate-put-table c = search needs
 
-entries-requires : tie.Need-entries-requires
-entries-requires c κs = search needs
+put-table-requires : tie.Need-put-table-requires
+put-table-requires c κs = omega (arith, table-most (c .before .args .q))
 
-array-share-prefix-table : tie.Need-array-share-prefix-table
-array-share-prefix-table c = search needs
+array-share-prefix-room : tie.Need-array-share-prefix-room
+array-share-prefix-room c = search needs
 
 slice-aggregate-solve : tie.Need-slice-aggregate-solve
-slice-aggregate-solve c = sym (lent-length (c .before .before .products .ensures) (c .before .entries .ensures .0))
+slice-aggregate-solve c = checks-long (c .before .before .put-table .ensures)
 
 slice-aggregate-solve-2 : tie.Need-slice-aggregate-solve-2
 slice-aggregate-solve-2 c = search needs
@@ -34,11 +35,11 @@ slice-aggregate-solve-5 c = search needs
 
 solve-requires : tie.Need-solve-requires
 solve-requires c κs =
-    let lending = c .before .before .before .before .before in
+    let lending = c .before .before .before .before .before .before in
     let s = lending .before .before in
     let size : length (s .args .system) ≡ 12 = search needs in
     record {
-      products = lent (s .args .q) (lending .before .products .ensures) (lending .entries .ensures .1);
+      products = checks-lent (lending .put-table .ensures);
       rows = omega arith;
       pivots = s .pre .pivots;
       solution = s .pre .unknowns;
@@ -71,9 +72,9 @@ pub answer-spec : {M : Type 1} → statement M
 answer-spec =
     tie.close
     (tie.spec
-    products-requires
-    entries-requires
-    array-share-prefix-table
+    slice-aggregate-put-table
+    put-table-requires
+    array-share-prefix-room
     slice-aggregate-solve
     slice-aggregate-solve-2
     slice-aggregate-solve-3

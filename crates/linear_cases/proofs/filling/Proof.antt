@@ -1,24 +1,25 @@
 -- `filling`: what is lent is the field's table and three checks of its symbols. Assumes nothing.
-use mathlib.Core.Path.{_≡_, sym}
+use mathlib.Core.Path.{_≡_}
 use native.Mathlib.Omega.{arith}
 use borrow.Author.Needs.{needs}
 use lib.ListN.{length}
-use Rattle.field.proofs.Table.{lent, lent-length}
+use Rattle.field.proofs.Bytes.{table-most}
+use Rattle.tables.proofs.Numbers.{checks-long, checks-lent}
 use Rattle.linear_cases.proofs.Symbols.{symbols-elements}
 use Rattle.linear_cases.proofs.filling.Statement.{statement}
 use Rattle.linear_cases.proofs.filling.Tie as tie
 
-products-requires : tie.Need-products-requires
-products-requires c κs = search needs
+slice-aggregate-put-table : tie.Need-slice-aggregate-put-table
+slice-aggregate-put-table c = search needs
 
-entries-requires : tie.Need-entries-requires
-entries-requires c κs = search needs
+put-table-requires : tie.Need-put-table-requires
+put-table-requires c κs = omega (arith, table-most (c .before .args .q))
 
-array-share-prefix-table : tie.Need-array-share-prefix-table
-array-share-prefix-table c = search needs
+array-share-prefix-room : tie.Need-array-share-prefix-room
+array-share-prefix-room c = search needs
 
 slice-aggregate-fill : tie.Need-slice-aggregate-fill
-slice-aggregate-fill c = sym (lent-length (c .before .before .products .ensures) (c .before .entries .ensures .0))
+slice-aggregate-fill c = checks-long (c .before .before .put-table .ensures)
 
 slice-aggregate-fill-2 : tie.Need-slice-aggregate-fill-2
 slice-aggregate-fill-2 c = search needs
@@ -31,13 +32,13 @@ slice-aggregate-fill-4 c = search needs
 
 fill-requires : tie.Need-fill-requires
 fill-requires c κs =
-    let lending = c .before .before .before .before in
+    let lending = c .before .before .before .before .before in
     let s = lending .before .before in
     let width : length (s .args .v) ≡ 5 = search needs in
     let rows : length (s .args .t3) ≡ 3 = search needs in
     let size : length (s .args .t2) ≡ 15 = search needs in
     record {
-      products = lent (s .args .q) (lending .before .products .ensures) (lending .entries .ensures .1);
+      products = checks-lent (lending .put-table .ensures);
       few = omega arith;
       narrow = omega arith;
       shape = rw (width, rows) size;
@@ -65,9 +66,9 @@ pub filling-spec : {M : Type 1} → statement M
 filling-spec =
     tie.close
     (tie.spec
-    products-requires
-    entries-requires
-    array-share-prefix-table
+    slice-aggregate-put-table
+    put-table-requires
+    array-share-prefix-room
     slice-aggregate-fill
     slice-aggregate-fill-2
     slice-aggregate-fill-3

@@ -17,7 +17,7 @@ put-grid-requires : tie.Need-put-grid-requires
 put-grid-requires c κs =
     let summary = c .before .before .before in
     let ask = start summary .pre in
-    record { sized = ask .sized; fit = ask .fit; room = omega arith }
+    record { sized = ask .sized; room = omega arith }
 
 same-length : tie.Need-same-length
 same-length c = search needs

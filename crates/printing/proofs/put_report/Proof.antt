@@ -53,7 +53,7 @@ unfolding values answerValues
 put-end-requires c κs =
     let s = start1 (c .before) in
     let ask = s .pre in
-    record { sized = ask .printable .sized; fit = ask .printable .fit; values = small s (c .before .enum-told .given .1); room = ask .room }
+    record { sized = ask .printable .sized; values = small s (c .before .enum-told .given .1); room = ask .room }
 
 enum-told-2 : tie.Need-enum-told-2
 enum-told-2 c = search needs
@@ -63,7 +63,7 @@ unfolding values answerValues
 put-end-requires-2 c κs =
     let s = start2 (c .before) in
     let ask = s .pre in
-    record { sized = ask .printable .sized; fit = ask .printable .fit; values = small s (c .before .enum-told2 .given .1); room = ask .room }
+    record { sized = ask .printable .sized; values = small s (c .before .enum-told2 .given .1); room = ask .room }
 
 enum-known-answer : tie.Need-enum-known-answer
 enum-known-answer c = search needs

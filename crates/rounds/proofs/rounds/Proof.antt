@@ -5,24 +5,23 @@ use mathlib.Core.Path.{_≡_, sym, _∙_}
 use mathlib.Core.Logic.{⊎-elim}
 use native.Mathlib.Omega.{arith}
 use borrow.Author.Needs.{needs}
-use lib.ListN.{length, take}
-use Rattle.field.proofs.Table.{lent-length}
+use lib.ListN.{length, take, drop}
 use Rattle.plans.specs.Plan.{planOf}
 use Rattle.plans.proofs.Plans.{levels-most}
 use Rattle.plans.proofs.Sizes.{checks-length}
 use Rattle.tables.specs.Tables.{Lent}
-use Rattle.tables.proofs.Numbers.{checks-long, tables-lent}
+use Rattle.tables.proofs.Numbers.{tables-length, table-fits, lent-long, lent-within, lent-front, tables-lent}
 use Rattle.steps.proofs.Sound.{sound-of, ready-of}
 use Rattle.rounds.proofs.Rounding.{Rounding, rounding-starts, rounded-clash, rounded-top, rounded-blocked, rounded-failing, rounding-turns}
 use Rattle.rounds.proofs.rounds.Statement.{statement}
 use Rattle.rounds.proofs.rounds.Tie as tie
 
 abbrev Inv-loop : tie.InvT-loop
-Inv-loop plan symbols₀ marks₀ rows levels entries size table checks sums₀ restored₀ level₀ symbols marks sums restored level =
+Inv-loop plan symbols₀ marks₀ rows levels size end checks table sums₀ restored₀ level₀ symbols marks sums restored level =
     Rounding plan symbols₀ marks₀ symbols marks sums restored level
 
 abbrev μ-loop : tie.MeasureT-loop
-μ-loop plan symbols₀ marks₀ rows levels entries size table checks sums₀ restored₀ level₀ symbols marks sums restored level =
+μ-loop plan symbols₀ marks₀ rows levels size end checks table sums₀ restored₀ level₀ symbols marks sums restored level =
     suc (length (planOf plan .levels)) - level
 
 -- the places before: a round's rows are walked; its level is looked at; it is learned
@@ -35,11 +34,17 @@ walk-at c = c .before .before .before .before
 abbrev head : Walked → tie.At-loop Inv-loop μ-loop
 head c = walk-at c .before .before .before .before
 
-abbrev checks-at : tie.At-loop Inv-loop μ-loop → tie.After-put-checks Inv-loop μ-loop
-checks-at c = c .before .before .before .before
+abbrev tables-at : tie.At-loop Inv-loop μ-loop → tie.After-put-table Inv-loop μ-loop
+tables-at c = c .before .before .before .before .before
+
+abbrev checks-at : tie.After-put-table Inv-loop μ-loop → tie.After-put-checks Inv-loop μ-loop
+checks-at c = c .before .before .before
+
+abbrev read-at : tie.After-put-table Inv-loop μ-loop → tie.After-facts-of Inv-loop μ-loop
+read-at c = checks-at c .before .before
 
 abbrev facts-at : tie.At-loop Inv-loop μ-loop → tie.After-facts-of Inv-loop μ-loop
-facts-at c = checks-at c .before .before .before .before
+facts-at c = read-at (tables-at c)
 
 abbrev start : tie.At-loop Inv-loop μ-loop → tie.Start Inv-loop μ-loop
 start c = facts-at c .before .before .before
@@ -48,12 +53,11 @@ abbrev level-of : tie.After-sums3 Inv-loop μ-loop → tie.Else2 Inv-loop μ-loo
 level-of c = c .before .before .before .before .before
 
 -- the tables as they are lent
-lending : (c : tie.At-loop Inv-loop μ-loop) → let put = checks-at c in
-    Lent (planOf (start c .args .plan)) (take (put .before .before .entries .result) (put .before .before .before .products .result))
-    (take (put .put-checks .result) (put .put-checks .last .1 .0))
-lending c =
-    let put = checks-at c in
-    tables-lent (facts-at c .facts-of .ensures) (put .before .before .before .products .ensures) (put .before .before .entries .ensures .1) (put .put-checks .ensures)
+lending : (c : tie.At-loop Inv-loop μ-loop) → let at = tables-at c in
+    let both = take (at .put-table .result) (at .put-table .last .1 .0) in
+    let n = checks-at at .put-checks .result in
+    Lent (planOf (start c .args .plan)) (take (length both - n) (drop n both)) (take n both)
+lending c = let at = tables-at c in tables-lent (read-at at .facts-of .ensures) (checks-at at .put-checks .ensures) (at .put-table .ensures)
 
 -- the lists are as long as they were
 long : (c : Walked) → length (walk-at c .walk-rows .last .1 .1 .1 .1 .0) ≡ length (start (head c) .args .symbols .now)
@@ -81,32 +85,41 @@ counted c = omega (arith, head (c .before) .loop .inv .low, few (c .before))
 facts-of-requires : tie.Need-facts-of-requires Inv-loop μ-loop
 facts-of-requires c κs = search needs
 
-products-requires : tie.Need-products-requires Inv-loop μ-loop
-products-requires c κs = search needs
-
-entries-requires : tie.Need-entries-requires Inv-loop μ-loop
-entries-requires c κs = search needs
-
 slice-aggregate-put-checks : tie.Need-slice-aggregate-put-checks Inv-loop μ-loop
 slice-aggregate-put-checks c = search needs
 
 put-checks-requires : tie.Need-put-checks-requires Inv-loop μ-loop
 put-checks-requires c κs = checks-length _
 
-array-share-prefix-products : tie.Need-array-share-prefix-products Inv-loop μ-loop
-array-share-prefix-products c = search needs
+slice-aggregate-put-table : tie.Need-slice-aggregate-put-table Inv-loop μ-loop
+slice-aggregate-put-table c = search needs
 
-slice-aggregate-table : tie.Need-slice-aggregate-table Inv-loop μ-loop
-slice-aggregate-table c = let at = c .before .before .before .before in sym (lent-length (at .before .products .ensures) (at .entries .ensures .0))
+put-table-requires : tie.Need-put-table-requires Inv-loop μ-loop
+put-table-requires c κs =
+    let put = c .before .before in table-fits (put .before .before .facts-of .ensures) (put .put-checks .ensures) (tables-length _)
 
 array-share-prefix-room : tie.Need-array-share-prefix-room Inv-loop μ-loop
 array-share-prefix-room c = search needs
 
+slice-aggregate-lent : tie.Need-slice-aggregate-lent Inv-loop μ-loop
+slice-aggregate-lent c = let at = c .before .before in lent-long (read-at at .facts-of .ensures) (checks-at at .put-checks .ensures) (at .put-table .ensures)
+
 slice-aggregate-checks : tie.Need-slice-aggregate-checks Inv-loop μ-loop
-slice-aggregate-checks c = checks-long (c .before .before .before .put-checks .ensures)
+slice-aggregate-checks c =
+    let at = c .before .before .before in lent-front (read-at at .facts-of .ensures) (checks-at at .put-checks .ensures) (at .put-table .ensures)
+
+sub-table : tie.Need-sub-table Inv-loop μ-loop
+sub-table c = let at = c .before .before .before in lent-within (read-at at .facts-of .ensures) (checks-at at .put-checks .ensures) (at .put-table .ensures)
+
+part-table-start : tie.Need-part-table-start Inv-loop μ-loop
+part-table-start c =
+    let at = c .before .before .before in lent-within (read-at at .facts-of .ensures) (checks-at at .put-checks .ensures) (at .put-table .ensures)
+
+part-table-end : tie.Need-part-table-end Inv-loop μ-loop
+part-table-end c = search needs
 
 loop-holds : tie.Need-loop-holds Inv-loop μ-loop
-loop-holds c = rounding-starts _ _ _ (sound-of (c .before .before .before .before .before .before .before .before .before .before .pre))
+loop-holds c = rounding-starts _ _ _ (sound-of (c .before .before .before .before .before .before .before .before .before .before .before .before .pre))
 
 slice-aggregate-walk-rows : tie.Need-slice-aggregate-walk-rows Inv-loop μ-loop
 slice-aggregate-walk-rows c = sym (c .before .before .before .loop .inv .places)
@@ -156,8 +169,8 @@ learn-requires c κs =
 enum-told : tie.Need-enum-told Inv-loop μ-loop
 enum-told c = search needs
 
-add-t43 : tie.Need-add-t43 Inv-loop μ-loop
-add-t43 c = record { fits = omega (arith, few (level-of (c .before .before) .before .before)) }
+add-t47 : tie.Need-add-t47 Inv-loop μ-loop
+add-t47 c = record { fits = omega (arith, few (level-of (c .before .before) .before .before)) }
 
 bare-report-requires-2 : tie.Need-bare-report-requires-2 Inv-loop μ-loop
 bare-report-requires-2 c κs = search needs
@@ -224,14 +237,16 @@ rounds-spec =
     Inv-loop
     μ-loop
     facts-of-requires
-    products-requires
-    entries-requires
     slice-aggregate-put-checks
     put-checks-requires
-    array-share-prefix-products
-    slice-aggregate-table
+    slice-aggregate-put-table
+    put-table-requires
     array-share-prefix-room
+    slice-aggregate-lent
     slice-aggregate-checks
+    sub-table
+    part-table-start
+    part-table-end
     loop-holds
     slice-aggregate-walk-rows
     walk-rows-requires
@@ -245,7 +260,7 @@ rounds-spec =
     slice-aggregate-learn
     learn-requires
     enum-told
-    add-t43
+    add-t47
     bare-report-requires-2
     same-length-3
     same-length-4

@@ -7,7 +7,6 @@ use native.Mathlib.Omega.{arith}
 use borrow.Author.Needs.{needs}
 use denote.Ref.{now}
 use lib.ListN.{length}
-use Rattle.field.proofs.Table.{lent-length}
 use Rattle.plans.specs.Plan.{planOf, marksAt}
 use Rattle.plans.specs.declared.Bench.{Bench}
 use Rattle.plans.proofs.Plans.{rows-most}
@@ -16,7 +15,8 @@ use Rattle.plans.proofs.Sizes.{checks-length}
 use Rattle.steps.specs.Steps.{stepped, rowFill}
 use Rattle.steps.specs.Parts.{benchOf}
 use Rattle.steps.proofs.Fit.{BenchFit, fit-sums}
-use Rattle.tables.proofs.Numbers.{checks-long, tables-lent}
+use Rattle.tables.specs.Tables.{FactsOf}
+use Rattle.tables.proofs.Numbers.{tables-length, table-fits, lent-long, lent-within, lent-front, tables-lent}
 use Rattle.rows.proofs.Stepping.{row-refused, row-fits, step-tied, step-none, step-whole, step-filled}
 use Rattle.rows.proofs.step_row.Statement.{statement}
 use Rattle.rows.proofs.step_row.Tie as tie
@@ -29,10 +29,13 @@ abbrev start : tie.After-bench-refusal → tie.Start
 start c = facts-at c .before .before .before .before
 
 abbrev unrefused : tie.After-put-checks → tie.Else1
-unrefused c = c .before .before .before .before .before
+unrefused c = c .before .before .before
 
-abbrev checks-at : tie.After-fill-row-arg → tie.After-put-checks
-checks-at c = c .before .before .before .before
+abbrev checks-at : tie.After-put-table → tie.After-put-checks
+checks-at c = c .before .before .before
+
+abbrev tables-at : tie.After-fill-row-arg → tie.After-put-table
+tables-at c = c .before .before .before .before .before
 
 abbrev filled-at : tie.After-slice-known4 → tie.After-fill-row
 filled-at c = c .before .before
@@ -73,39 +76,50 @@ mul-word c = record { fits = omega (arith, fits c .1, rows-most (start (c .befor
 slice-read-word : tie.Need-slice-read-word
 slice-read-word c = within (c .before)
 
-products-requires : tie.Need-products-requires
-products-requires c κs = search needs
-
-entries-requires : tie.Need-entries-requires
-entries-requires c κs = search needs
-
 slice-aggregate-put-checks : tie.Need-slice-aggregate-put-checks
 slice-aggregate-put-checks c = search needs
 
 put-checks-requires : tie.Need-put-checks-requires
 put-checks-requires c κs = checks-length _
 
-array-share-prefix-products : tie.Need-array-share-prefix-products
-array-share-prefix-products c = search needs
+slice-aggregate-put-table : tie.Need-slice-aggregate-put-table
+slice-aggregate-put-table c = search needs
 
-slice-aggregate-table : tie.Need-slice-aggregate-table
-slice-aggregate-table c = let at = c .before .before .before .before in sym (lent-length (at .before .products .ensures) (at .entries .ensures .0))
+put-table-requires : tie.Need-put-table-requires
+put-table-requires c κs =
+    let put = c .before .before in
+    table-fits (facts-at (unrefused put .before) .facts-of .ensures) (put .put-checks .ensures) (tables-length _)
+
+-- the facts are the plan's
+its-facts : (c : tie.After-put-table) → let at = facts-at (unrefused (checks-at c) .before) in FactsOf (planOf (at .before .before .before .before .args .plan)) (at .facts-of .result)
+its-facts c = facts-at (unrefused (checks-at c) .before) .facts-of .ensures
 
 array-share-prefix-room : tie.Need-array-share-prefix-room
 array-share-prefix-room c = search needs
 
+slice-aggregate-lent : tie.Need-slice-aggregate-lent
+slice-aggregate-lent c = let at = c .before .before in lent-long (its-facts at) (checks-at at .put-checks .ensures) (at .put-table .ensures)
+
 slice-aggregate-checks : tie.Need-slice-aggregate-checks
-slice-aggregate-checks c = checks-long (c .before .before .before .put-checks .ensures)
+slice-aggregate-checks c = let at = c .before .before .before in lent-front (its-facts at) (checks-at at .put-checks .ensures) (at .put-table .ensures)
+
+sub-table : tie.Need-sub-table
+sub-table c = let at = c .before .before .before in lent-within (its-facts at) (checks-at at .put-checks .ensures) (at .put-table .ensures)
+
+part-table-start : tie.Need-part-table-start
+part-table-start c = let at = c .before .before .before in lent-within (its-facts at) (checks-at at .put-checks .ensures) (at .put-table .ensures)
+
+part-table-end : tie.Need-part-table-end
+part-table-end c = search needs
 
 fill-row-requires : tie.Need-fill-row-requires
 fill-row-requires c κs =
-    let put = checks-at c in
-    let at = unrefused put in
+    let tables = tables-at c in
+    let at = unrefused (checks-at tables) in
     let f = fits at in
     let s = start (at .before) in
     record {
-      lent = tables-lent (facts-at (at .before) .facts-of .ensures) (put .before .before .before .products .ensures) (put .before .before .entries .ensures .1)
-          (put .put-checks .ensures);
+      lent = tables-lent (its-facts tables) (checks-at tables .put-checks .ensures) (tables .put-table .ensures);
       inside = f .1;
       marks = f .0 .mark-lt _ (f .1);
       small = fit-sums _ _ _ (f .0 .sums-fits);
@@ -124,11 +138,11 @@ enum-told-3 c = search needs
 
 mul-marks : tie.Need-mul-marks
 mul-marks c =
-    let at = unrefused (checks-at (filled-at (c .before .before) .before)) in
+    let at = unrefused (checks-at (tables-at (filled-at (c .before .before) .before))) in
     record { fits = omega (arith, fits at .1, rows-most (start (at .before) .args .plan)) }
 
 slice-write-marks : tie.Need-slice-write-marks
-slice-write-marks c = within (unrefused (checks-at (filled-at (c .before .before) .before)))
+slice-write-marks c = within (unrefused (checks-at (tables-at (filled-at (c .before .before) .before))))
 
 same-length-3 : tie.Need-same-length-3
 same-length-3 c = search needs
@@ -140,7 +154,7 @@ returns-2 : tie.Need-returns-2
 unfolding rowFill marksAt
 returns-2 c =
     let filled = filled-at (c .before .before) in
-    let at = unrefused (checks-at (filled .before)) in
+    let at = unrefused (checks-at (tables-at (filled .before))) in
     step-none _ _ (facts-at (at .before) .facts-of .ensures .rows) (at .before .bench-refusal .ensures) (at .if1 .left) (filled .fill-row .ensures .0)
     (filled .fill-row .ensures .1) (place at) (c .enum-told .given .1)
 
@@ -154,7 +168,7 @@ returns-3 : tie.Need-returns-3
 unfolding rowFill marksAt
 returns-3 c =
     let filled = filled-at (c .before .before) in
-    let at = unrefused (checks-at (filled .before)) in
+    let at = unrefused (checks-at (tables-at (filled .before))) in
     step-tied _ _ (facts-at (at .before) .facts-of .ensures .rows) (at .before .bench-refusal .ensures) (at .if1 .left) (filled .fill-row .ensures .0)
     (filled .fill-row .ensures .1) (place at) (c .enum-told2 .given .1)
 
@@ -168,7 +182,7 @@ returns-4 : tie.Need-returns-4
 unfolding rowFill marksAt
 returns-4 c =
     let filled = filled-at (c .before .before .before) in
-    let at = unrefused (checks-at (filled .before)) in
+    let at = unrefused (checks-at (tables-at (filled .before))) in
     step-whole _ _ (facts-at (at .before) .facts-of .ensures .rows) (at .before .bench-refusal .ensures) (at .if1 .left) (filled .fill-row .ensures .0)
     (filled .fill-row .ensures .1) (c .before .enum-told3 .given .1) (c .if2 .taken)
 
@@ -182,7 +196,7 @@ returns-5 : tie.Need-returns-5
 unfolding rowFill marksAt
 returns-5 c =
     let filled = filled-at (c .before .before .before) in
-    let at = unrefused (checks-at (filled .before)) in
+    let at = unrefused (checks-at (tables-at (filled .before))) in
     step-filled _ _ (facts-at (at .before) .facts-of .ensures .rows) (at .before .bench-refusal .ensures) (at .if1 .left) (filled .fill-row .ensures .0)
     (filled .fill-row .ensures .1) (c .before .enum-told3 .given .1) (c .if2 .left)
 
@@ -197,14 +211,16 @@ step-row-spec =
     returns
     mul-word
     slice-read-word
-    products-requires
-    entries-requires
     slice-aggregate-put-checks
     put-checks-requires
-    array-share-prefix-products
-    slice-aggregate-table
+    slice-aggregate-put-table
+    put-table-requires
     array-share-prefix-room
+    slice-aggregate-lent
     slice-aggregate-checks
+    sub-table
+    part-table-start
+    part-table-end
     fill-row-requires
     enum-told
     enum-told-2

@@ -5,11 +5,11 @@ use Prim.Native.Nat.{ℕ, _≤_, zero-le}
 use borrow.Author.Needs.{needs}
 use lib.ListN.{length}
 use Rattle.field.specs.Lists.{upFrom}
-use Rattle.field.specs.Field.{_⊕_, size, double, times, mul, gf16, gf32, gf64}
+use Rattle.field.specs.Field.{_⊕_, size, double, times, mul, gf16, gf32, gf64, gf256}
 use Rattle.field.specs.Power.{power}
 use Rattle.field.proofs.Words.{_&_}
 use Rattle.words.specs.Written.{Put}
-use Rattle.plans.specs.Plan.{Plan, allOnes, bitChecks, locations1, elements, powerBits, binaryPlan, plan1, plan2, plan5, locations3, powers3, plan3, noPlan, planOf, checksTo}
+use Rattle.plans.specs.Plan.{Plan, allOnes, bitChecks, locations1, elements, powerBits, binaryPlan, plan1, plan2, plan5, locations3, powers3, plan3, locations4, powers4, plan4, noPlan, planOf, checksTo}
 use Rattle.plans.specs.Tables.{checkTable}
 use Rattle.plans.proofs.Plans.{unknown}
 use Rattle.tables.proofs.put_checks.Statement.{statement}
@@ -53,8 +53,15 @@ slice-aggregate-put-4 : tie.Need-slice-aggregate-put-4
 slice-aggregate-put-4 c = search needs
 
 put-requires-4 : tie.Need-put-requires-4
-unfolding upFrom flatMap size gf64 allOnes bitChecks elements powerBits binaryPlan plan5 planOf checksTo checkTable
+unfolding upFrom flatMap locations4 powers4 plan4 planOf checksTo checkTable
 put-requires-4 c κs = fits-at (c .before .before .match .keys4) (c .before .before .before .before .pre)
+
+slice-aggregate-put-5 : tie.Need-slice-aggregate-put-5
+slice-aggregate-put-5 c = search needs
+
+put-requires-5 : tie.Need-put-requires-5
+unfolding upFrom flatMap size gf64 allOnes bitChecks elements powerBits binaryPlan plan5 planOf checksTo checkTable
+put-requires-5 c κs = fits-at (c .before .before .match .keys5) (c .before .before .before .before .pre)
 
 same-length : tie.Need-same-length
 same-length c = search needs
@@ -81,11 +88,19 @@ same-length-4 : tie.Need-same-length-4
 same-length-4 c = search needs
 
 returns-4 : tie.Need-returns-4
-unfolding upFrom flatMap _⊕_ size double times mul gf64 power allOnes bitChecks elements powerBits binaryPlan plan5 planOf checksTo checkTable
+unfolding upFrom flatMap _⊕_ size double times mul gf256 power locations4 powers4 plan4 planOf checksTo checkTable
 returns-4 c = puts-at (c .before .before .before .before .before .match .keys4) (c .before .before .put4 .ensures)
 
+same-length-5 : tie.Need-same-length-5
+same-length-5 c = search needs
+
 returns-5 : tie.Need-returns-5
-returns-5 c = puts-none (unknown _ (c .match .rest .0 .0 .0 .1 & c .match .rest .0 .0 .1 & c .match .rest .0 .1 & c .match .rest .1 & tt))
+unfolding upFrom flatMap _⊕_ size double times mul gf64 power allOnes bitChecks elements powerBits binaryPlan plan5 planOf checksTo checkTable
+returns-5 c = puts-at (c .before .before .before .before .before .match .keys5) (c .before .before .put5 .ensures)
+
+returns-6 : tie.Need-returns-6
+unfolding upFrom
+returns-6 c = puts-none (unknown _ (c .match .rest .0 .0 .0 .0 .1 & c .match .rest .0 .0 .0 .1 & c .match .rest .0 .0 .1 & c .match .rest .0 .1 & c .match .rest .1 & tt))
 
 pub put-checks-spec : {M : Type 1} → statement M
 put-checks-spec =
@@ -99,6 +114,8 @@ put-checks-spec =
     put-requires-3
     slice-aggregate-put-4
     put-requires-4
+    slice-aggregate-put-5
+    put-requires-5
     same-length
     returns
     same-length-2
@@ -107,4 +124,6 @@ put-checks-spec =
     returns-3
     same-length-4
     returns-4
-    returns-5)
+    same-length-5
+    returns-5
+    returns-6)

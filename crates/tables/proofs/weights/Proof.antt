@@ -5,10 +5,10 @@ use mathlib.Core.List.{[], flatMap}
 use Prim.Native.Nat.{ℕ}
 use lib.ListN.{replicate}
 use Rattle.field.specs.Lists.{upFrom}
-use Rattle.field.specs.Field.{_⊕_, size, double, times, mul, gf16}
+use Rattle.field.specs.Field.{_⊕_, size, double, times, mul, gf16, gf256}
 use Rattle.field.specs.Power.{power}
 use Rattle.field.proofs.Words.{_&_}
-use Rattle.plans.specs.Plan.{Plan, allOnes, binaryPlan, plan1, plan2, plan3, plan5, noPlan, planOf, noLevel, levelOf}
+use Rattle.plans.specs.Plan.{Plan, allOnes, binaryPlan, plan1, plan2, plan3, weights4, plan4, plan5, noPlan, planOf, noLevel, levelOf}
 use Rattle.plans.specs.Rooms.{weightRoom}
 use Rattle.plans.specs.Tables.{padded, flat, weightTable}
 use Rattle.plans.proofs.Plans.{of-known, known-or-none, unknown, weights-none}
@@ -25,11 +25,11 @@ unfolding flatMap padded flat weightTable
 zeros P t e = ap (flat weightRoom) (sym e)
 
 -- of the plans, only plan 1 has no level 3
-lower : {p : ℕ} → p ≢ 2 → p ≢ 3 → p ≢ 5 → levelOf (planOf p) 3 .weights ≡ []
-unfolding plan1 noPlan planOf noLevel levelOf
-lower {p} n2 n3 n5 =
+lower : {p : ℕ} → p ≢ 2 → p ≢ 3 → p ≢ 4 → p ≢ 5 → levelOf (planOf p) 3 .weights ≡ []
+unfolding upFrom plan1 noPlan planOf noLevel levelOf
+lower {p} n2 n3 n4 n5 =
     elim (known-or-none p) [
-      | inl t ↦ of-known (λ k. p ≡ k → levelOf (planOf p) 3 .weights ≡ []) ((λ e. rw e refl) & (λ e. absurd (n2 e)) & (λ e. absurd (n3 e)) & (λ e. absurd (n5 e)) & tt) p t refl
+      | inl t ↦ of-known (λ k. p ≡ k → levelOf (planOf p) 3 .weights ≡ []) ((λ e. rw e refl) & (λ e. absurd (n2 e)) & (λ e. absurd (n3 e)) & (λ e. absurd (n4 e)) & (λ e. absurd (n5 e)) & tt) p t refl
       | inr e ↦ rw e refl
     ]
 
@@ -46,30 +46,42 @@ unfolding upFrom flatMap _⊕_ size double times mul gf16 power allOnes plan3 pl
 returns-3 c = at (c .match .keys3) (c .before .if1 .taken)
 
 returns-4 : tie.Need-returns-4
-unfolding flatMap allOnes binaryPlan plan5 planOf levelOf padded flat weightTable
+unfolding upFrom flatMap _⊕_ size double times mul gf256 power weights4 plan4 planOf levelOf padded flat weightTable
 returns-4 c = at (c .match .keys4) (c .before .if1 .taken)
 
 returns-5 : tie.Need-returns-5
-unfolding noPlan noLevel levelOf
-returns-5 c = zeros _ _ (rw (unknown _ (c .match .rest .0 .0 .0 .1 & c .match .rest .0 .0 .1 & c .match .rest .0 .1 & c .match .rest .1 & tt)) refl)
+unfolding flatMap allOnes binaryPlan plan5 planOf levelOf padded flat weightTable
+returns-5 c = at (c .match .keys5) (c .before .if1 .taken)
 
 returns-6 : tie.Need-returns-6
-unfolding flatMap allOnes binaryPlan plan2 planOf levelOf padded flat weightTable
-returns-6 c = at (c .match2 .keys1) (c .before .if2 .taken)
+unfolding noPlan noLevel levelOf upFrom
+returns-6 c = zeros _ _ (rw (unknown _ (c .match .rest .0 .0 .0 .0 .1 & c .match .rest .0 .0 .0 .1 & c .match .rest .0 .0 .1 & c .match .rest .0 .1 & c .match .rest .1 & tt)) refl)
 
 returns-7 : tie.Need-returns-7
-unfolding flatMap allOnes plan3 planOf levelOf padded flat weightTable
-returns-7 c = at (c .match2 .keys2) (c .before .if2 .taken)
+unfolding flatMap allOnes binaryPlan plan2 planOf levelOf padded flat weightTable
+returns-7 c = at (c .match2 .keys1) (c .before .if2 .taken)
 
 returns-8 : tie.Need-returns-8
-unfolding flatMap allOnes binaryPlan plan5 planOf levelOf padded flat weightTable
-returns-8 c = at (c .match2 .keys3) (c .before .if2 .taken)
+unfolding flatMap allOnes plan3 planOf levelOf padded flat weightTable
+returns-8 c = at (c .match2 .keys2) (c .before .if2 .taken)
 
 returns-9 : tie.Need-returns-9
-returns-9 c = zeros _ _ (rw (c .before .if2 .taken) (lower (c .match2 .rest .0 .0 .1) (c .match2 .rest .0 .1) (c .match2 .rest .1)))
+unfolding flatMap allOnes plan4 planOf levelOf padded flat weightTable
+returns-9 c = at (c .match2 .keys3) (c .before .if2 .taken)
 
 returns-10 : tie.Need-returns-10
-returns-10 c = zeros _ _ (weights-none _ _ (c .before .if1 .left) (c .if2 .left))
+unfolding flatMap allOnes binaryPlan plan5 planOf levelOf padded flat weightTable
+returns-10 c = at (c .match2 .keys4) (c .before .if2 .taken)
+
+returns-11 : tie.Need-returns-11
+returns-11 c =
+    let others = c .match2 .rest in
+    zeros _ _ (rw (c .before .if2 .taken) (lower (others .0 .0 .0 .1) (others .0 .0 .1) (others .0 .1) (others .1)))
+
+returns-12 : tie.Need-returns-12
+returns-12 c = zeros _ _ (weights-none _ _ (c .before .if1 .left) (c .if2 .left))
 
 pub weights-spec : {M : Type 1} → statement M
-weights-spec = tie.close (tie.spec returns returns-2 returns-3 returns-4 returns-5 returns-6 returns-7 returns-8 returns-9 returns-10)
+weights-spec =
+    tie.close
+    (tie.spec returns returns-2 returns-3 returns-4 returns-5 returns-6 returns-7 returns-8 returns-9 returns-10 returns-11 returns-12)

@@ -1,47 +1,48 @@
 -- After r turns the first r rows are written, a line each; row r is cut out of the stripe. Assumes nothing.
-use mathlib.Core.Path.{ap₂, _≡_, refl, sym, subst}
+use mathlib.Core.Path.{_≡_, refl, sym, ap, ap₂, _∙_, subst}
 use mathlib.Core.List.{_++_}
 use Prim.Native.Nat.{_+_, _*_, _-_}
-use native.Mathlib.Nat.{le-of-eq}
+use native.Mathlib.Nat.{add-mul, le-of-eq}
 use native.Mathlib.Omega.{arith}
 use borrow.Author.Needs.{needs}
 use lib.ListN.{length}
-use lib.Dec.{T}
 use Rattle.field.proofs.Lists.{length-up}
 use Rattle.field.specs.Lists.{upFrom}
-use Rattle.texts.specs.Text.{shown, lineEnd, grid}
-use Rattle.texts.specs.Parts.{digits}
-use Rattle.plans.specs.Refusal.{unmarkedBelow}
+use Rattle.texts.specs.Text.{lineEnd, symbolDigits, shown, grid}
+use Rattle.texts.specs.Parts.{Digits}
 use Rattle.plans.specs.Plan.{planOf, rowAt, marksAt}
 use Rattle.words.proofs.Writing.{Joining, joining-starts, joining-length, counting-turns, counting-ends}
-use Rattle.texts.proofs.Texts.{fit-hex, length-line}
+use Rattle.texts.proofs.Texts.{plan-digits, length-line, lineSize, lines-room}
 use Rattle.plans.proofs.Rows.{row-end}
-use Rattle.plans.proofs.Cut.{Cut, cut-inside, cut-next, cut-length, cut-marks}
+use Rattle.plans.proofs.Cut.{Cut, cut-inside, cut-length, cut-marks}
 use Rattle.plans.proofs.Plans.{shape}
 use Rattle.texts.proofs.put_grid.Statement.{statement}
 use Rattle.texts.proofs.put_grid.Tie as tie
 
 abbrev Inv-loop : tie.InvT-loop
-Inv-loop plan stripe marks out₀ at columns next₀ r₀ r-end out next r =
+Inv-loop plan stripe marks out₀ at columns digits next₀ r₀ r-end out next r =
     let P = planOf plan in
-    (r-end ≡ length marks) × (next ≡ at + (r * columns + r))
-    × Joining (λ r. shown (marksAt P marks r) (rowAt P stripe r) ++ lineEnd) out₀ at (upFrom 0 (P .rows)) r out next
+    (r-end ≡ length marks) × (next ≡ at + r * lineSize P)
+    × Joining (λ r. shown (symbolDigits P) (marksAt P marks r) (rowAt P stripe r) ++ lineEnd) out₀ at (upFrom 0 (P .rows)) r out next
 
 abbrev μ-loop : tie.MeasureT-loop
-μ-loop plan stripe marks out₀ at columns next₀ r₀ r-end out next r = length marks - r
+μ-loop plan stripe marks out₀ at columns digits next₀ r₀ r-end out next r = length marks - r
 
 -- from a turn of the loop: the start, and row r
 abbrev start : tie.In-loop Inv-loop μ-loop → tie.Start Inv-loop μ-loop
-start c = c .before .before .before .before .before .before
+start c = c .before .before .before .before .before .before .before
 
 cut : (c : tie.In-loop Inv-loop μ-loop) → let a = start c .args in let P = planOf (a .plan) in
-    Cut (P .rows) (P .columns) (a .stripe .now) (c .before .loop .r) (c .before .before .facts-of .result .columns)
+    Cut (P .rows) (P .columns) (a .stripe .now) (c .before .loop .r) (c .before .before .before .facts-of .result .columns)
 cut c =
     let ask = start c .pre .sized in
-    record { long = le-of-eq (sym (ask .long)); below = omega (arith, ask .words); wide = c .before .before .facts-of .ensures .columns }
+    record { long = le-of-eq (sym (ask .long)); below = omega (arith, ask .words); wide = c .before .before .before .facts-of .ensures .columns }
 
 facts-of-requires : tie.Need-facts-of-requires Inv-loop μ-loop
 facts-of-requires c κs = search needs
+
+symbol-digits-requires : tie.Need-symbol-digits-requires Inv-loop μ-loop
+symbol-digits-requires c κs = search needs
 
 loop-holds : tie.Need-loop-holds Inv-loop μ-loop
 loop-holds c = (refl, omega arith, joining-starts _ _ _ _)
@@ -74,13 +75,14 @@ put-line-requires c κs =
     let ask = s .pre in
     let k = cut turn in
     let size = shape _ (ask .sized .plan-known) in
-    let rows = row-end (planOf (s .args .plan) .columns) (k .below) in
+    let P = planOf (s .args .plan) in
+    let digits = turn .before .before .symbol-digits .ensures in
+    let l = turn .before .loop in
     record {
+      digits = subst Digits (sym digits) (plan-digits P);
       narrow = omega (arith, cut-length k, k .wide, size .columns-le);
-      small =
-          subst T (sym (cut-marks _ k (unmarkedBelow digits) (s .args .marks .now)))
-          (fit-hex _ (s .args .marks .now) (s .args .stripe .now) (ask .fit) _ (k .below));
-      room = omega (arith, cut-inside k, cut-length k, k .wide, k .below, size, turn .before .loop .inv .1, ask .sized .long, ask .room, rows, joining-length _ _ _ _ (turn .before .loop .inv .2));
+      room =
+          omega (arith, ap₂ _*_ (cut-length k ∙ k .wide) digits, row-end (lineSize P) (k .below), lines-room (s .args .plan), l .inv .1, ask .room, joining-length _ _ _ _ (l .inv .2));
     }
 
 add-r : tie.Need-add-r Inv-loop μ-loop
@@ -94,10 +96,16 @@ loop-again c =
     let turn = c .before .before .before .before .before .before in
     let l = turn .before .loop in
     let k = cut turn in
+    let a = start turn .args in
+    let P = planOf (a .plan) in
+    let digits = turn .before .before .symbol-digits in
     let put = c .before .before .put-line .ensures in (
       refl,
-      omega (arith, simp length-line at (put .reached), cut-length k, cut-next k),
-      counting-turns _ _ _ _ (l .inv .2) (k .below) (cut-marks _ k (λ ms xs. shown ms xs ++ lineEnd) _) (put .written) (put .reached),
+      omega (arith, simp length-line at (put .reached), ap₂ _*_ (cut-length k ∙ k .wide) (digits .ensures), l .inv .1, add-mul (l .r) 1 (lineSize P)),
+      counting-turns _ _ _ _ (l .inv .2) (k .below)
+          (cut-marks P k (λ ms xs. shown (digits .result) ms xs ++ lineEnd) (a .marks .now)
+          ∙ ap (λ n. shown n (marksAt P (a .marks .now) (l .r)) (rowAt P (a .stripe .now) (l .r)) ++ lineEnd) (digits .ensures))
+          (put .written) (put .reached),
     )
 
 same-length : tie.Need-same-length Inv-loop μ-loop
@@ -106,12 +114,12 @@ same-length c = joining-length _ _ _ _ (c .before .loop .inv .2)
 returns : tie.Need-returns Inv-loop μ-loop
 unfolding grid
 returns c =
-    let s = c .before .before .before .before .before .before in
+    let s = c .before .before .before .before .before .before .before in
     let l = c .before .loop in
     let P = planOf (s .args .plan) in
     let all : l .r ≡ P .rows = omega (arith, l .inv .2 .within, length-up 0 (P .rows), s .pre .sized .words) in
     counting-ends _ _ _ _ (l .inv .2) (omega arith)
-    (omega (arith, l .inv .1, ap₂ _*_ all (c .before .before .facts-of .ensures .columns), shape _ (s .pre .sized .plan-known), s .pre .room))
+    (omega (arith, l .inv .1, ap (λ r. r * lineSize P) all, lines-room (s .args .plan), s .pre .room))
 
 pub put-grid-spec : {M : Type 1} → statement M
 put-grid-spec =
@@ -120,6 +128,7 @@ put-grid-spec =
     Inv-loop
     μ-loop
     facts-of-requires
+    symbol-digits-requires
     loop-holds
     mul-start
     add-end

@@ -11,7 +11,7 @@ use Rattle.field.specs.Field.{_⊕_, mul}
 use Rattle.field.specs.Ours.{fieldOf}
 use Rattle.field.proofs.Fields.{our-field}
 use Rattle.plans.proofs.Copying.{Copying}
-use Rattle.codewords.proofs.Totals.{Bits, bits-2, bits-16, added-starts, added-turns, added-ends}
+use Rattle.codewords.proofs.Totals.{Bits, bits-2, bits-16, bits-256, added-starts, added-turns, added-ends}
 use Rattle.codewords.proofs.codeword.add_plain.Statement.{statement}
 use Rattle.codewords.proofs.codeword.add_plain.Tie as tie
 
@@ -26,7 +26,8 @@ loop-holds : tie.Need-loop-holds Inv-loop μ-loop
 loop-holds c =
     let start = c .before in (
       refl,
-      ⊎-elim (λ w. bits-2 (w .0 .taken) (w .1)) (λ w. bits-16 (w .0 .left) (w .1)) (c .if1 .came),
+      ⊎-elim (λ w. bits-2 (w .0 .keys1) (w .1))
+          (⊎-elim (λ w. bits-16 (w .0 .keys2) (w .1)) (λ w. bits-256 (w .0 .rest .0 .1) (w .0 .rest .1) (w .1))) (c .match .came),
       added-starts _ _ (start .args .row .now) (start .args .total .now) (start .pre),
     )
 
