@@ -135,6 +135,7 @@ checks-beyond P s t hs ht = ap (λ ls. flat_map (λ (L : Level). L.checks) ls) (
 
 pub level-beyond : (P : Plan) (t : ℕ) → length P.levels < t → level_of P t ≡ no_level
 unfolding level_of
+level-beyond P zero h = elim h [ ]
 level-beyond P (suc t) h = get_or-eq_default P.levels no_level (omega arith)
 
 -- the checks of levels 1 to i + 1

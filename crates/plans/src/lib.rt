@@ -49,14 +49,14 @@ pub struct Stepped {
 }
 
 // Where a Clash is: a row at a level, or a level across rows.
-#[derive(Drop)]
+#[derive(Clone, Copy)]
 pub enum Place {
     Row { row: usize, level: usize },
     Across { level: usize },
 }
 
 // What mending in one call answers.
-#[derive(Drop)]
+#[derive(Clone, Copy)]
 pub enum Answer {
     Restored,
     Stuck,
