@@ -1,7 +1,7 @@
 /* Mends the customer's example stripe, plan 1. Build and run it at the top of the repository:
  *
- *     rt staticlib shelf
- *     cc -I include tests/example.c target/staticlib/libshelf.a -o example && ./example
+ *     (cd crates/shelf_c && rt lib && cp out/libshelf_c.a ../../libshelf.a)
+ *     cc -I include tests/example.c libshelf.a -o example && ./example
  */
 #include <stdio.h>
 

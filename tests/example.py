@@ -1,7 +1,7 @@
 """Mends the customer's example stripe, plan 1, from Python. Build and run it at the top of the repository:
 
-    rt staticlib shelf
-    cc -shared -o libshelf.so -Wl,--whole-archive target/staticlib/libshelf.a -Wl,--no-whole-archive
+    (cd crates/shelf_c && rt lib && cp out/libshelf_c.a ../../libshelf.a)
+    cc -shared -o libshelf.so -Wl,--whole-archive libshelf.a -Wl,--no-whole-archive
     python3 tests/example.py ./libshelf.so
 """
 import sys

@@ -21,8 +21,6 @@ const A_WHILE: Duration = Duration::from_millis(250);
 /// A run that fails for good tries at most four times, for little more than two seconds each.
 const LONGEST_RUN: Duration = Duration::from_secs(15);
 
-const BROKEN_PIPE: i32 = 13;
-
 type Case = fn(&str);
 
 /// Most runs wait for a second or two, so they go side by side; those that must be through in time only when the others have ended.
@@ -65,13 +63,10 @@ fn closed_output(path: &str) {
     hold("closed output", run, "", UNWRITTEN);
 }
 
-/// The system ends the program by a signal, as it does any other that takes no care of it.
+/// The system's signal does not end the program, since each Rattle program begins by ignoring it: the write fails like any other.
 fn output_that_nobody_reads(path: &str) {
-    let what = "a pipe that nobody reads";
-    let end = ended(what, start(program(path).stdin(example()).stdout(unread())));
-    if end.signal != Some(BROKEN_PIPE) || !end.errors.is_empty() {
-        differ(&format!("mend with {what} as output: signal {:?}, errors: {}", end.signal, end.errors));
-    }
+    let run = start(program(path).stdin(example()).stdout(unread()));
+    hold("a pipe that nobody reads", run, "", UNWRITTEN);
 }
 
 fn output_that_nobody_reads_without_a_signal(path: &str) {

@@ -1,4 +1,6 @@
 // Systems of equations over GF(2) with a column to a word: which words the columns give together, by an echelon of words.
+#![tactic(auto)]
+
 ghost use Rattle.std.specs.Prelude.{◌≡◌};
 ghost use Rattle.equations.specs.System.{vec};
 ghost use Rattle.equations.specs.Words.{column_of};

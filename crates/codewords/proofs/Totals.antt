@@ -10,7 +10,7 @@ use lib.Bits.{bit_and, and_mask}
 use lib.Dec.{lit<}
 use lib.ListN.{length, get_or, set, take, drop, replicate, length-map, get_or-map, drop_of_length-le}
 use lib.Seq.{take_all, drop-cons, drop-drop, drop-paste, get_or-drop}
-use Rattle.field.specs.Lists.{if◌then◌else◌}
+use Rattle.field.specs.Lists.{when◌then◌else◌}
 use Rattle.field.specs.Field.{◌⊕◌, Field, size, mul, dot, gf2, gf16, gf256}
 use Rattle.field.specs.Ours.{field_of}
 use Rattle.field.proofs.Sum.{⊕-assoc, ⊕-zero, zero-⊕}
@@ -31,11 +31,11 @@ pub record Bits (q bits : ℕ) : Type 0 where
   pub plain : (x : ℕ) → bit_and x bits ≡ mul (field_of q) 1 x
 
 pub bits-2 : {q bits : ℕ} → q ≡ 2 → bits ≡ 1 → Bits q bits
-unfolding if◌then◌else◌ size gf2 field_of
+unfolding when◌then◌else◌ size gf2 field_of
 bits-2 e b = record { plain = λ x. rw (e, b) (and_mask x 1 ∙ sym (one-low gf2 (lit< tt) x)) }
 
 pub bits-16 : {q bits : ℕ} → q ≡ 16 → bits ≡ 15 → Bits q bits
-unfolding if◌then◌else◌ size gf16 field_of
+unfolding when◌then◌else◌ size gf16 field_of
 bits-16 e b = record { plain = λ x. rw (e, b) (and_mask x 4 ∙ sym (one-low gf16 (lit< tt) x)) }
 
 pub bits-256 : {q bits : ℕ} → q ≢ 2 → q ≢ 16 → bits ≡ 255 → Bits q bits

@@ -6,7 +6,7 @@ use Prim.Native.Nat.{ℕ}
 use borrow.Author.Tests.{eq-eqb, ne_eqb}
 use lib.Dec.{eqb}
 use lib.ListN.{length}
-use Rattle.field.specs.Lists.{if◌then◌else◌}
+use Rattle.field.specs.Lists.{when◌then◌else◌}
 use Rattle.field.specs.Field.{size}
 use Rattle.plans.specs.Plan.{Plan, known, plan_of}
 use Rattle.plans.specs.Refusal.{stripe_fits, all_below}
@@ -23,15 +23,15 @@ its-symbols is l below e = ap (λ q. all_below q l) (sym is.field.its-size) ∙ 
 
 module _ (p : ℕ) (stripe : List ℕ) where
   abbrev verdict : ℕ → Verdict
-  verdict n = if eqb n 0 then if is_codeword (plan_of p) stripe then Yes else No else Refused n
+  verdict n = when eqb n 0 then when is_codeword (plan_of p) stripe then Yes else No else Refused n
 
   pub refused-plan : known p ≡ false → Refused 10 ≡ tested p stripe
-  unfolding if◌then◌else◌ test_refusal tested
+  unfolding when◌then◌else◌ test_refusal tested
   refused-plan f = ap verdict (sym (fails 10 _ f))
 
   module _ (t : known p ≡ true) {f : Facts} (is : FactsOf (plan_of p) f) where
     pub refused-length : (length stripe ≡ f.symbols → ⊥) → Refused 11 ≡ tested p stripe
-    unfolding if◌then◌else◌ stripe_fits test_refusal tested
+    unfolding when◌then◌else◌ stripe_fits test_refusal tested
     refused-length ne = ap verdict (sym (passes 10 _ t ∙ fails 11 _ (ne_eqb _ _ (λ e. ne (e ∙ sym is.symbols)))))
 
     module _ (fits : length stripe ≡ f.symbols) {a : Bool} (below : a ≡ all_below f.field stripe) where
@@ -40,18 +40,18 @@ module _ (p : ℕ) (stripe : List ℕ) where
       its-length = eq-eqb _ _ (fits ∙ is.symbols)
 
       pub refused-symbols : a ≡ false → Refused 13 ≡ tested p stripe
-      unfolding if◌then◌else◌ test_refusal tested
+      unfolding when◌then◌else◌ test_refusal tested
       refused-symbols e = ap verdict (sym (passes 10 _ t ∙ passes 11 _ its-length ∙ fails 13 _ (its-symbols is stripe below e)))
 
       module _ (below_all : a ≡ true) {b : Bool} (holds : b ≡ is_codeword (plan_of p) stripe) where
-        answered : (if b then Yes else No) ≡ tested p stripe
-        unfolding if◌then◌else◌ test_refusal tested
-        answered = ap (λ b. if b then Yes else No) holds ∙ ap verdict (sym (passes 10 _ t ∙ passes 11 _ its-length ∙ passes 13 _ (its-symbols is stripe below below_all) ∙ none-fails))
+        answered : (when b then Yes else No) ≡ tested p stripe
+        unfolding when◌then◌else◌ test_refusal tested
+        answered = ap (λ b. when b then Yes else No) holds ∙ ap verdict (sym (passes 10 _ t ∙ passes 11 _ its-length ∙ passes 13 _ (its-symbols is stripe below below_all) ∙ none-fails))
 
         pub answered-yes : b ≡ true → Yes ≡ tested p stripe
-        unfolding if◌then◌else◌
-        answered-yes e = ap (λ b. if b then Yes else No) (sym e) ∙ answered
+        unfolding when◌then◌else◌
+        answered-yes e = ap (λ b. when b then Yes else No) (sym e) ∙ answered
 
         pub answered-no : b ≡ false → No ≡ tested p stripe
-        unfolding if◌then◌else◌
-        answered-no e = ap (λ b. if b then Yes else No) (sym e) ∙ answered
+        unfolding when◌then◌else◌
+        answered-no e = ap (λ b. when b then Yes else No) (sym e) ∙ answered

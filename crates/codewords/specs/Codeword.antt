@@ -1,6 +1,6 @@
 -- The rule of the code, and the codeword test.
 use Rattle.std.specs.Prelude.{ℕ, Bool, ◌&&◌, List, [], ◌∷◌, eqb, drop}
-use Rattle.field.specs.Lists.{if◌then◌else◌, up_from}
+use Rattle.field.specs.Lists.{when◌then◌else◌, up_from}
 use Rattle.field.specs.Field.{size}
 use Rattle.fills.specs.Lists.{all, vanish}
 use Rattle.fills.specs.Fill.{sums_of}
@@ -30,4 +30,4 @@ test_refusal p stripe =
 unfoldable pub tested : ℕ → List ℕ → Verdict
 tested p stripe =
     let n = test_refusal p stripe in
-    if eqb n 0 then if is_codeword (plan_of p) stripe then Yes else No else Untested n
+    when eqb n 0 then when is_codeword (plan_of p) stripe then Yes else No else Untested n

@@ -1,4 +1,6 @@
 // The codeword test.
+#![tactic(auto)]
+
 pub mod codeword;
 
 ghost use Rattle.std.specs.Prelude.{◌≡◌};

@@ -12,7 +12,7 @@ use lib.Count.{ones, ones_in}
 use lib.ListN.{length, drop, get_or}
 use lib.Pow.{pow_pos}
 use lib.Seq.{get_or-take, get_or-drop, ext_get_or}
-use Rattle.field.specs.Lists.{if◌then◌else◌, up_from}
+use Rattle.field.specs.Lists.{when◌then◌else◌, up_from}
 use Rattle.field.specs.Field.{Field}
 use Rattle.field.proofs.Sum.{of-bits, bit}
 use Rattle.field.proofs.Test.{both_left, both_right, both}
@@ -59,7 +59,7 @@ alike-inside (false ∷ ms) (false ∷ ns) v w i a = (a.0, alike-inside ms ns (r
 
 -- where none is marked, no place is
 pub unmarked-at : (ms : List Bool) → marked ms ≡ 0 → (c : ℕ) → c < length ms → get_or ms c true ≡ false
-unfolding if◌then◌else◌ only
+unfolding when◌then◌else◌ only
 unmarked-at [] z c l = absurd (omega arith)
 unmarked-at (true ∷ ms) z c l = absurd (omega arith)
 unmarked-at (false ∷ ms) z zero l = refl
@@ -71,7 +71,7 @@ alike-unmarked ms v w z l k a = ext_get_or 0 v w l (λ i h. alike_at ms v w a i 
 
 -- where no symbol is marked, each is below q
 pub unmarked-all : (q : ℕ) (ms : List Bool) (v : List ℕ) → marked ms ≡ 0 → length v ≡ length ms → T (unmarked_below q ms v) → T (all_below q v)
-unfolding if◌then◌else◌ only all first rest beside all_below unmarked_below
+unfolding when◌then◌else◌ only all first rest beside all_below unmarked_below
 unmarked-all q [] [] z l t = tt
 unmarked-all q [] (x ∷ v) z l t = absurd (omega arith)
 unmarked-all q (true ∷ ms) v z l t = absurd (omega arith)

@@ -17,7 +17,7 @@ use Rattle.demands.proofs.Square.{Square, columns_at, by-inverse}
 pub use lib.ListN.{replicate}
 unfoldable pub use Rattle.plans.proofs.Known.{flat_map, up_from, ◌⊕◌, size, double, times, mul, gf2, gf16, gf32, gf64, gf256, power, all, all_ones, bit_checks, checks_to}
 pub use Rattle.plans.proofs.Known.{ℕ, suc, arith, refl, List, [], ◌∷◌, ◌++◌, map, T, lit<, ◌&◌}
-unfoldable pub use Rattle.field.specs.Lists.{if◌then◌else◌, weight}
+unfoldable pub use Rattle.field.specs.Lists.{when◌then◌else◌, weight}
 unfoldable pub use Rattle.field.specs.Field.{dot}
 unfoldable pub use Rattle.fills.specs.Lists.{only, vanish, first, rest}
 unfoldable pub use Rattle.fills.specs.Marks.{bits_of}

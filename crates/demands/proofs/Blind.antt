@@ -9,7 +9,7 @@ use native.Mathlib.Omega.{arith}
 use lib.Dec.{eqb}
 use lib.ListN.{length, take, drop, get_or, set, length-set, length-take, length-drop}
 use lib.Seq.{sets, ext_get_or, get_or-append-add}
-use Rattle.field.specs.Lists.{if◌then◌else◌, up_from}
+use Rattle.field.specs.Lists.{when◌then◌else◌, up_from}
 use Rattle.field.specs.Field.{size}
 use Rattle.fills.specs.Lists.{all}
 use Rattle.fills.specs.Marks.{bits_of}
@@ -76,8 +76,8 @@ row-equal P s t r l h =
 -- ---- what does not look under marks
 
 pub blanked-alike : (ms : List Bool) (v w : List ℕ) → Alike ms v w → blanked ms v ≡ blanked ms w
-unfolding if◌then◌else◌ blanked
-blanked-alike = beside-alike (λ m x. if m then 0 else x) (λ x y. refl)
+unfolding when◌then◌else◌ blanked
+blanked-alike = beside-alike (λ m x. when m then 0 else x) (λ x y. refl)
 
 -- the same for every row
 pub all_same : (f g : ℕ → Bool) (k n : ℕ) → ((r : ℕ) → r < k + n → f r ≡ g r) → all f (up_from k n) ≡ all g (up_from k n)
@@ -118,7 +118,7 @@ module _ (p : ℕ) (marks s t : List ℕ) (h : SameUnmarked p marks s t) where
 -- ---- writing a file
 
 pub silent-writing : SilentWriting
-unfolding if◌then◌else◌ blanked write_refusal write_file file_of stripe_fits
+unfolding when◌then◌else◌ blanked write_refusal write_file file_of stripe_fits
 silent-writing p marks s t file h =
     let P = plan_of p in
     let e : write_refusal p s marks file ≡ write_refusal p t marks file =
@@ -126,6 +126,6 @@ silent-writing p marks s t file h =
     first_failed ((10, known p) ∷ (11, eqb n (P.rows * P.columns) && words_fit P marks && eqb (length file) (file_length P)) ∷ (12, marks_fit P marks) ∷ (13, z) ∷ []))
     h.long (symbols-same p marks s t h) in (
       e,
-      ap₂ (λ n bytes. if eqb n 0 then header_of p ++ flat_map (bytes_of (word_bytes P)) marks ++ bytes else file) e
+      ap₂ (λ n bytes. when eqb n 0 then header_of p ++ flat_map (bytes_of (word_bytes P)) marks ++ bytes else file) e
           (beside-alike _ (λ x y. refl) (marks_of P marks) s t (at-alike (marks_of P marks) s t h.agree)),
     )

@@ -8,7 +8,7 @@ use native.Mathlib.Omega.{arith}
 use borrow.Author.Tests.{eq-eqb}
 use lib.Dec.{T, eqb, ltb}
 use lib.ListN.{length, take, drop}
-use Rattle.field.specs.Lists.{if◌then◌else◌}
+use Rattle.field.specs.Lists.{when◌then◌else◌}
 use Rattle.field.specs.Field.{size, gf256}
 use Rattle.field.proofs.Test.{both}
 use Rattle.fills.specs.Lists.{all}
@@ -26,7 +26,7 @@ use Rattle.demands.specs.Bytes.{Bytes, NeverThirteen}
 
 -- a number whose tests pass is not the answer
 unnamed : (n : ℕ) → n ≢ 0 → (tests : List (ℕ × Bool)) → T (all (λ t. not (eqb t.0 n) || t.1) tests) → first_failed tests ≢ n
-unfolding if◌then◌else◌ all first_failed
+unfolding when◌then◌else◌ all first_failed
 unnamed n some [] t e = some (sym e)
 unnamed n some ((k, true) ∷ tests) t e = unnamed n some tests (t-rest (not (eqb k n)) _ t) e
   where

@@ -11,7 +11,7 @@ use lib.Count.{ones}
 use lib.Dec.{T, T_not, leb, leb→le, nleb→lt}
 use lib.ListN.{length, take, get_or, length-map}
 use lib.Seq.{ext_get_or, get_or-take, length-take-le}
-use Rattle.field.specs.Lists.{if◌then◌else◌, up_from}
+use Rattle.field.specs.Lists.{when◌then◌else◌, up_from}
 use Rattle.field.proofs.Lists.{length_up, get_or-map-below}
 use Rattle.field.proofs.Test.{both_left, both_right}
 use Rattle.fills.specs.Lists.{all, only}
@@ -55,7 +55,7 @@ within-at P marks (c ∷ cs) w (suc i) l = within-at P marks cs w.1 i (le_of_suc
 -- ---- marks inside marks
 
 inside-marked : (ms ns : List Bool) → Inside ms ns → marked ms ≤ marked ns
-unfolding if◌then◌else◌ only
+unfolding when◌then◌else◌ only
 inside-marked [] [] i = zero-le
 inside-marked [] (n ∷ ns) i = absurd i
 inside-marked (m ∷ ms) [] i = absurd i
@@ -65,11 +65,11 @@ inside-marked (false ∷ ms) (true ∷ ns) i = omega (arith, inside-marked ms ns
 inside-marked (false ∷ ms) (false ∷ ns) i = inside-marked ms ns i.1
 
 only-map : {A B : Type 0} (q : B → Bool) (f : A → B) (l : List A) → length (only q (map f l)) ≡ marked (map (λ x. q (f x)) l)
-unfolding if◌then◌else◌ only
+unfolding when◌then◌else◌ only
 only-map q f [] = refl
 only-map {B = B} q f (x ∷ l) = go (q (f x)) (only q (map f l)) (only (λ m. m) (map (λ x. q (f x)) l)) (only-map q f l)
   where
-    go : (b : Bool) (ys : List B) (ms : List Bool) → length ys ≡ length ms → length (if b then f x ∷ ys else ys) ≡ length (if b then b ∷ ms else ms)
+    go : (b : Bool) (ys : List B) (ms : List Bool) → length ys ≡ length ms → length (when b then f x ∷ ys else ys) ≡ length (when b then b ∷ ms else ms)
     go true ys ms e = ap suc e
     go false ys ms e = e
 
@@ -158,12 +158,12 @@ counts-suffice p X stripe marks word fit agree meets =
 
 -- rows with n marks or more have n times as many together
 rows-weigh : (n : ℕ) (ws : List ℕ) → length (only (λ w. leb n (ones w)) ws) * n ≤ total ws
-unfolding if◌then◌else◌ only total
+unfolding when◌then◌else◌ only total
 rows-weigh n [] = omega (arith, zero-mul n)
 rows-weigh n (w ∷ ws) = go (leb n (ones w)) refl (rows-weigh n ws)
   where
     go : (b : Bool) → leb n (ones w) ≡ b → length (only (λ w. leb n (ones w)) ws) * n ≤ total ws
-        → length (if b then w ∷ only (λ w. leb n (ones w)) ws else only (λ w. leb n (ones w)) ws) * n ≤ ones w + total ws
+        → length (when b then w ∷ only (λ w. leb n (ones w)) ws else only (λ w. leb n (ones w)) ws) * n ≤ ones w + total ws
     go true e h = omega (arith, leb-true n (ones w) e, suc-mul (length (only (λ w. leb n (ones w)) ws)) n)
     go false e h = omega arith
 

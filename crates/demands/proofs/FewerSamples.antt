@@ -7,7 +7,7 @@ use mathlib.Core.List.{List, [], ◌∷◌, flat_map}
 use Prim.Native.Nat.{ℕ}
 use lib.Dec.{T, T_not, ltb, ltb→lt, nltb→le}
 use lib.ListN.{length, get_or, replicate, set, get_or-eq_default}
-use Rattle.field.specs.Lists.{if◌then◌else◌, up_from, ◌to◌}
+use Rattle.field.specs.Lists.{when◌then◌else◌, up_from, ◌to◌}
 use Rattle.field.specs.Field.{◌⊕◌, size, double, times, mul, dot, gf2, gf16}
 use Rattle.field.proofs.Test.{below, at}
 use Rattle.fills.proofs.Tests.{either, is_true, or_cases}
@@ -58,7 +58,7 @@ unfoldable pub back_stripe : List ℕ
 back_stripe = set (set example_after 0 255) 14 9
 
 pub fewer-losses : FewerLosses 1 example_after back_stripe back_marks more_stripe more_marks
-unfolding if◌then◌else◌ up_from flat_map size gf2 all first rest bits_of plan1 known plan_of row_at marks_at marks_of
+unfolding when◌then◌else◌ up_from flat_map size gf2 all first rest bits_of plan1 known plan_of row_at marks_at marks_of
     first_failed unasked stripe_fits words_fit marks_fit unmarked_below symbols_fit lent_tests lent_refusal
     example_after more_marks more_stripe back_marks back_stripe taken inside_test beside
 fewer-losses =
@@ -77,7 +77,7 @@ pub fewer-restored :
     × (mend_marks 1 more_stripe more_marks ≡ 3 ∷ 48 ∷ 0 ∷ []) × (mend_stripe 1 more_stripe more_marks ≡ more_stripe)
     × (mend_report 1 back_stripe back_marks ≡ record { answer = Restored; level = 2; rows = 1 ∷ 1 ∷ 0 ∷ []; left = 0 })
     × (mend_marks 1 back_stripe back_marks ≡ 0 ∷ 0 ∷ 0 ∷ []) × (mend_stripe 1 back_stripe back_marks ≡ example_after)
-unfolding if◌then◌else◌ up_from ◌⊕◌ size double times mul dot gf2 flat_map
+unfolding when◌then◌else◌ up_from ◌⊕◌ size double times mul dot gf2 flat_map
     any all only same zeros vanish first rest bits_of sums_of options before choices loose dependent fillings fill_by fill
     all_ones bit_checks locations1 plan1 known plan_of no_level level_of checks_to row_at marks_at marks_of
     first_failed unasked stripe_fits words_fit marks_fit all_below unmarked_below symbols_fit sums_at sums_fit level_fits lent_tests lent_refusal bench_tests bench_refusal
@@ -95,7 +95,7 @@ unfoldable pub seven_marks : List ℕ
 seven_marks = word_of (0 to 2) ∷ word_of (1 to 7) ∷ replicate 6 0
 
 pub fewer-losses-3 : FewerLosses 3 blank3 (set blank3 2 200) seven_marks (set blank3 15 99) eight_marks
-unfolding if◌then◌else◌ up_from flat_map size gf16 all first rest bits_of word_of plan3 known plan_of row_at marks_at marks_of
+unfolding when◌then◌else◌ up_from flat_map size gf16 all first rest bits_of word_of plan3 known plan_of row_at marks_at marks_of
     first_failed unasked stripe_fits words_fit marks_fit unmarked_below symbols_fit lent_tests lent_refusal
     blank3 eight_marks seven_marks taken inside_test beside
 fewer-losses-3 =

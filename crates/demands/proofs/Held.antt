@@ -9,7 +9,7 @@ use native.Mathlib.Nat.{zero-add, le_of_eq}
 use native.Mathlib.Omega.{arith}
 use lib.Dec.{T, eqb, ltb, eqb→eq, lt→ltb}
 use lib.ListN.{length, get_or, length-map}
-use Rattle.field.specs.Lists.{if◌then◌else◌, up_from}
+use Rattle.field.specs.Lists.{when◌then◌else◌, up_from}
 use Rattle.field.specs.Field.{dot}
 use Rattle.fills.specs.Lists.{vanish, first, rest}
 use Rattle.fills.specs.Marks.{bits_of}
@@ -103,9 +103,9 @@ module _ (p : ℕ) (X stripe marks : List ℕ) (fit : Fit p stripe marks) (word 
 
 -- where each check has a filling, all are tied or each is filled by one vector
 ends_same : (D : Bool) (f : List ℕ → Fill) (g : List ℕ → List ℕ) (xs : List (List ℕ))
-    → ((x : List ℕ) → In x xs → f x ≡ (if D then tied else one (g x)))
-    → ends f (λ x. vector_in (f x)) D xs ≡ (if D then blocked else learned (map g xs))
-unfolding if◌then◌else◌ vector_in
+    → ((x : List ℕ) → In x xs → f x ≡ (when D then tied else one (g x)))
+    → ends f (λ x. vector_in (f x)) D xs ≡ (when D then blocked else learned (map g xs))
+unfolding when◌then◌else◌ vector_in
 ends_same true f g xs h =
     ends-blocked f (λ x. vector_in (f x)) true xs (λ x m e. let z : ◌≡◌ {A = Fill} tied none = sym (h x m) ∙ e in let z : ◌≡◌ {A = ℕ} 0 1 = cc in omega arith) tt
 ends_same false f g xs h = ones-learned f (λ x. vector_in (f x)) false tt (λ x v e. ap vector_in e) xs (map g xs) (ones xs h)
@@ -145,7 +145,7 @@ module _ (X : List ℕ) (b : Bench) (h : Held b.plan X b) where
 
   -- the row's filling is the codeword's, or its columns are dependent
   own-row-finds : (r : ℕ) → r < P.rows
-      → row_fill b r ≡ (if row_tied b.plan b.level b.marks r then tied else one (row_at P X r))
+      → row_fill b r ≡ (when row_tied b.plan b.level b.marks r then tied else one (row_at P X r))
   unfolding row_fill all_below
   own-row-finds r l =
       let C = checks_to P b.level in
@@ -156,13 +156,13 @@ module _ (X : List ℕ) (b : Bench) (h : Held b.plan X b) where
 
   -- and so for the rows' sums under each check of the next level
   own-level-finds : b.level < length P.levels
-      → level_fill b ≡ (if level_tied b.plan b.level b.marks then blocked else learned (word_sums b.plan b.level X))
+      → level_fill b ≡ (when level_tied b.plan b.level b.marks then blocked else learned (word_sums b.plan b.level X))
   unfolding level_fill check_fill across lossy all_below level_of
   own-level-finds low =
       ends_same (level_tied b.plan b.level b.marks) (check_fill b) (across P X) L.checks finds
     where
       finds : (c : List ℕ) → In c L.checks
-          → check_fill b c ≡ (if level_tied b.plan b.level b.marks then tied else one (across P X c))
+          → check_fill b c ≡ (when level_tied b.plan b.level b.marks then tied else one (across P X c))
       finds c m =
           ap (λ target. fill P.field L.weights target (lossy P b.marks) (across P b.symbols c))
           (sym (word-totals b.plan X h.codeword b.level h.sound.fit.level-pos low m))
@@ -240,16 +240,16 @@ module _ (p : ℕ) (X : List ℕ) (b : Bench) (h : Held p X b) where
       own-plan (λ p. r < (plan_of p).rows → get_or b.marks r 0 ≡ 0 → row_at (plan_of p) b.symbols r ≡ row_at (plan_of p) X r) h
       (λ g. own-unmarked X b g r)
 
-  pub row-finds : (r : ℕ) → r < Q.rows → row_fill b r ≡ (if row_tied p b.level b.marks r then tied else one (row_at Q X r))
+  pub row-finds : (r : ℕ) → r < Q.rows → row_fill b r ≡ (when row_tied p b.level b.marks r then tied else one (row_at Q X r))
   row-finds r =
-      own-plan (λ p. r < (plan_of p).rows → row_fill b r ≡ (if row_tied p b.level b.marks r then tied else one (row_at (plan_of p) X r))) h
+      own-plan (λ p. r < (plan_of p).rows → row_fill b r ≡ (when row_tied p b.level b.marks r then tied else one (row_at (plan_of p) X r))) h
       (λ g. own-row-finds X b g r)
 
   pub level-finds : b.level < length Q.levels
-      → level_fill b ≡ (if level_tied p b.level b.marks then blocked else learned (word_sums p b.level X))
+      → level_fill b ≡ (when level_tied p b.level b.marks then blocked else learned (word_sums p b.level X))
   level-finds =
       own-plan (λ p. b.level < length (plan_of p).levels
-      → level_fill b ≡ (if level_tied p b.level b.marks then blocked else learned (word_sums p b.level X))) h
+      → level_fill b ≡ (when level_tied p b.level b.marks then blocked else learned (word_sums p b.level X))) h
       (λ g. own-level-finds X b g)
 
   pub held-put : (r : ℕ) → r < Q.rows → Held p X (put_row b r (row_at Q X r))
@@ -272,7 +272,7 @@ module _ (p : ℕ) (X : List ℕ) (b : Bench) (h : Held p X b) where
   level-learns low i =
       ap (λ (s : Stepped). s.bench)
       (level-step b h.sound.fit
-      ∙ ap (λ q. if ltb b.level (length (plan_of q).levels) then level_step_by b (level_fill b) else stepped b Top) h.plan
+      ∙ ap (λ q. when ltb b.level (length (plan_of q).levels) then level_step_by b (level_fill b) else stepped b Top) h.plan
       ∙ if-true (ltb b.level (length Q.levels)) (level_step_by b (level_fill b)) (stepped b Top) (lt→ltb b.level (length Q.levels) low)
       ∙ ap (level_step_by b)
       (level-finds low ∙ if-false (level_tied p b.level b.marks) blocked (learned (word_sums p b.level X)) i))
@@ -284,13 +284,13 @@ pub data Made (p : ℕ) (X : List ℕ) (b : Bench) : Bench → Type 0 where
   learns : b.level < length (plan_of p).levels → LevelFree p b.level b.marks → Made p X b (raise b (word_sums p b.level X))
 
 -- where a row is filled, or a level learned, its columns are free
-pub one-row : (D : Bool) (x row : List ℕ) → (if D then tied else one x) ≡ one row → T (not D) × (x ≡ row)
-unfolding if◌then◌else◌
+pub one-row : (D : Bool) (x row : List ℕ) → (when D then tied else one x) ≡ one row → T (not D) × (x ≡ row)
+unfolding when◌then◌else◌
 one-row true x row e = let z : ◌≡◌ {A = ℕ} 0 1 = cc in absurd (omega arith)
 one-row false x row e = (tt, cc)
 
-pub one-level : (D : Bool) (xs cs : List (List ℕ)) → (if D then blocked else learned xs) ≡ learned cs → T (not D) × (xs ≡ cs)
-unfolding if◌then◌else◌
+pub one-level : (D : Bool) (xs cs : List (List ℕ)) → (when D then blocked else learned xs) ≡ learned cs → T (not D) × (xs ≡ cs)
+unfolding when◌then◌else◌
 one-level true xs cs e = let z : ◌≡◌ {A = ℕ} 0 1 = cc in absurd (omega arith)
 one-level false xs cs e = (tt, cc)
 

@@ -10,7 +10,7 @@ use borrow.Author.Tests.{eqb-true}
 use lib.Dec.{T, T_not, eqb, ltb, eqb→eq}
 use lib.ListN.{length, take, drop, get_or, replicate, length-map, drop_of_length-le}
 use lib.Seq.{take-add, take-length, length-take-le, get_or-take}
-use Rattle.field.specs.Lists.{if◌then◌else◌, up_from}
+use Rattle.field.specs.Lists.{when◌then◌else◌, up_from}
 use Rattle.field.specs.Field.{size}
 use Rattle.field.proofs.Test.{both}
 use Rattle.field.proofs.Lists.{length_up, get_or-map-below}
@@ -68,7 +68,7 @@ lossy-none marks n e r l =
 
 pub none-lossy : (marks : List ℕ) (k n : ℕ) → ((r : ℕ) → r < k + n → get_or marks r 0 ≡ 0)
     → marked (map (λ r. not (eqb (get_or marks r 0) 0)) (up_from k n)) ≡ 0
-unfolding if◌then◌else◌ up_from only
+unfolding when◌then◌else◌ up_from only
 none-lossy marks k zero h = refl
 none-lossy marks k (suc n) h =
     ap (λ w. marked (not (eqb w 0) ∷ map (λ r. not (eqb (get_or marks r 0) 0)) (up_from (suc k) n))) (h k (omega arith))
@@ -193,11 +193,11 @@ module _ (p : ℕ) (stripe marks : List ℕ) (fit : Fit p stripe marks) (m : Sta
 module _ (p : ℕ) (stripe marks : List ℕ) where
   -- an answer that is no refusal
   pub not-refused : (a : Answer) → (mend_report p stripe marks).answer ≡ a → ((n : ℕ) → Refused n ≡ a → ⊥) → Fit p stripe marks
-  unfolding if◌then◌else◌ mend_report bare
+  unfolding when◌then◌else◌ mend_report bare
   not-refused a e other = go (eqb (lent_refusal p stripe marks) 0) refl e
     where
       go : (z : Bool) → eqb (lent_refusal p stripe marks) 0 ≡ z
-          → (if z then turn_report (mended p stripe marks) else bare (Refused (lent_refusal p stripe marks))).answer ≡ a → Fit p stripe marks
+          → (when z then turn_report (mended p stripe marks) else bare (Refused (lent_refusal p stripe marks))).answer ≡ a → Fit p stripe marks
       go true q e = eqb-true (lent_refusal p stripe marks) 0 q
       go false q e = absurd (other (lent_refusal p stripe marks) e)
 
@@ -220,12 +220,12 @@ module _ (p : ℕ) (stripe marks : List ℕ) where
   -- a Clash is the rounds'
   pub clash-turn : (place : Place) → (mend_report p stripe marks).answer ≡ Clash place
       → Fit p stripe marks × (mended p stripe marks ≡ clash place)
-  unfolding if◌then◌else◌ turn_report end_report bare
+  unfolding when◌then◌else◌ turn_report end_report bare
   clash-turn place e =
       let fit = not-refused (Clash place) e (λ n q. let z : ◌≡◌ {A = ℕ} 0 1 = cc in omega arith) in
       (fit, go (mended p stripe marks) (ap (λ (r : Report). r.answer) (sym (report-turn fit)) ∙ e))
     where
-      neither : (z : Bool) → (if z then Restored else Stuck) ≡ Clash place → ⊥
+      neither : (z : Bool) → (when z then Restored else Stuck) ≡ Clash place → ⊥
       neither true a = let z : ◌≡◌ {A = ℕ} 0 1 = cc in omega arith
       neither false a = let z : ◌≡◌ {A = ℕ} 0 1 = cc in omega arith
 

@@ -1,7 +1,7 @@
 -- What backs the demands on plan 2. The inverses and the lightest words were found by another program. Assumes nothing.
 use Rattle.plans.specs.Plan.{elements, power_bits, front_and_last, binary_plan, plan2}
 use Rattle.plans.proofs.Plan2.{plan-2}
-use Rattle.demands.proofs.Backed.{arith, refl, List, [], map, flat_map, ◌∷◌, ◌&◌, ◌++◌, ℕ, replicate, if◌then◌else◌, up_from, weight, ◌⊕◌, size, double, times, mul, dot, gf2, gf32, power, all, only, vanish, first, rest, bits_of, sums_of, picked, all_ones, bit_checks, word_of, plan_of, no_level, level_of, checks_to, row_at, marks_at, marks_of, across, check_places_of, carried, all_below, rows_hold, totals_hold, is_codeword, row_of, symbols_carried, row_distance, distance, counts, combine, product, identity, RowSquare, Undoes, row-by-inverse, Backed}
+use Rattle.demands.proofs.Backed.{arith, refl, List, [], map, flat_map, ◌∷◌, ◌&◌, ◌++◌, ℕ, replicate, when◌then◌else◌, up_from, weight, ◌⊕◌, size, double, times, mul, dot, gf2, gf32, power, all, only, vanish, first, rest, bits_of, sums_of, picked, all_ones, bit_checks, word_of, plan_of, no_level, level_of, checks_to, row_at, marks_at, marks_of, across, check_places_of, carried, all_below, rows_hold, totals_hold, is_codeword, row_of, symbols_carried, row_distance, distance, counts, combine, product, identity, RowSquare, Undoes, row-by-inverse, Backed}
 
 -- a row of symbols for each check place of rows 0 to 6, and of row 7
 low_inverse : List (List ℕ)
@@ -14,7 +14,7 @@ last_inverse =
     ∷ 0x8018 ∷ 0x95c2 ∷ 0x2b36 ∷ 0x4d1e ∷ 0x093e ∷ 0x587c ∷ 0xb2b8 ∷ 0xc0af ∷ [])
 
 undoes : Undoes plan2 1 0 low_inverse × Undoes plan2 3 7 last_inverse
-unfolding if◌then◌else◌ up_from ◌⊕◌ size double times mul gf2 gf32 power flat_map only first rest bits_of
+unfolding when◌then◌else◌ up_from ◌⊕◌ size double times mul gf2 gf32 power flat_map only first rest bits_of
     all_ones bit_checks word_of elements power_bits front_and_last binary_plan plan2 checks_to marks_at row_of picked combine product identity low_inverse last_inverse
 undoes = ((refl, tt), (refl, tt))
 
@@ -25,7 +25,7 @@ last : RowSquare plan2 3 7
 last = row-by-inverse plan-2 3 7 last_inverse undoes.1
 
 pub backed-2 : Backed 2
-unfolding if◌then◌else◌ up_from ◌⊕◌ size double times mul dot gf2 gf32 power flat_map weight all only vanish sums_of bits_of
+unfolding when◌then◌else◌ up_from ◌⊕◌ size double times mul dot gf2 gf32 power flat_map weight all only vanish sums_of bits_of
     all_ones bit_checks word_of elements power_bits front_and_last binary_plan plan2 plan_of no_level level_of row_at marks_at marks_of check_places_of carried all_below
     across rows_hold totals_hold is_codeword row_of symbols_carried row_distance distance counts
 backed-2 = record {

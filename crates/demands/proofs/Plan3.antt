@@ -1,11 +1,11 @@
 -- What backs the demands on plan 3. The lightest words were found by another program. Assumes nothing.
 use Rattle.plans.specs.Plan.{locations3, powers3, plan3}
 use Rattle.plans.proofs.Plan3.{plan-3}
-use Rattle.demands.proofs.Backed.{arith, refl, [], flat_map, ◌∷◌, ◌&◌, ◌++◌, lit<, replicate, if◌then◌else◌, up_from, weight, ◌⊕◌, size, double, times, mul, dot, gf16, power, all, only, vanish, bits_of, sums_of, all_ones, word_of, plan_of, no_level, level_of, checks_to, row_at, marks_at, marks_of, across, check_places_of, carried, all_below, rows_hold, totals_hold, is_codeword, row_of, symbols_carried, row_distance, distance, counts, RowSquare, row-by-number, Backed}
+use Rattle.demands.proofs.Backed.{arith, refl, [], flat_map, ◌∷◌, ◌&◌, ◌++◌, lit<, replicate, when◌then◌else◌, up_from, weight, ◌⊕◌, size, double, times, mul, dot, gf16, power, all, only, vanish, bits_of, sums_of, all_ones, word_of, plan_of, no_level, level_of, checks_to, row_at, marks_at, marks_of, across, check_places_of, carried, all_below, rows_hold, totals_hold, is_codeword, row_of, symbols_carried, row_distance, distance, counts, RowSquare, row-by-number, Backed}
 
 -- a row has as many check places as power sums
 squares : RowSquare plan3 1 0 × RowSquare plan3 2 6 × RowSquare plan3 3 7
-unfolding if◌then◌else◌ up_from flat_map only bits_of all_ones word_of locations3 powers3 plan3 checks_to marks_at
+unfolding when◌then◌else◌ up_from flat_map only bits_of all_ones word_of locations3 powers3 plan3 checks_to marks_at
 squares = (
   row-by-number plan-3 0 0 (lit< tt) tt,
   row-by-number plan-3 1 6 (lit< tt) tt,
@@ -13,7 +13,7 @@ squares = (
 )
 
 pub backed-3 : Backed 3
-unfolding if◌then◌else◌ up_from ◌⊕◌ size double times mul dot gf16 power flat_map weight all only vanish sums_of bits_of
+unfolding when◌then◌else◌ up_from ◌⊕◌ size double times mul dot gf16 power flat_map weight all only vanish sums_of bits_of
     all_ones word_of locations3 powers3 plan3 plan_of no_level level_of row_at marks_at marks_of check_places_of carried all_below
     across rows_hold totals_hold is_codeword row_of symbols_carried row_distance distance counts
 backed-3 =

@@ -1,11 +1,11 @@
 -- What backs the demands on plan 4. The lightest words were found by another program. Assumes nothing.
 use Rattle.plans.specs.Plan.{locations4, powers4, weights4, plan4}
 use Rattle.plans.proofs.Plan4.{plan-4}
-use Rattle.demands.proofs.Backed.{arith, refl, [], flat_map, ◌∷◌, ◌&◌, ◌++◌, lit<, replicate, if◌then◌else◌, up_from, weight, ◌⊕◌, size, double, times, mul, dot, gf256, power, all, only, vanish, bits_of, sums_of, all_ones, word_of, plan_of, no_level, level_of, checks_to, row_at, marks_at, marks_of, across, check_places_of, carried, all_below, rows_hold, totals_hold, is_codeword, row_of, symbols_carried, row_distance, distance, counts, RowSquare, row-by-number, Backed}
+use Rattle.demands.proofs.Backed.{arith, refl, [], flat_map, ◌∷◌, ◌&◌, ◌++◌, lit<, replicate, when◌then◌else◌, up_from, weight, ◌⊕◌, size, double, times, mul, dot, gf256, power, all, only, vanish, bits_of, sums_of, all_ones, word_of, plan_of, no_level, level_of, checks_to, row_at, marks_at, marks_of, across, check_places_of, carried, all_below, rows_hold, totals_hold, is_codeword, row_of, symbols_carried, row_distance, distance, counts, RowSquare, row-by-number, Backed}
 
 -- a row has as many check places as power sums
 squares : RowSquare plan4 1 0 × RowSquare plan4 2 9 × RowSquare plan4 3 11
-unfolding if◌then◌else◌ up_from flat_map only bits_of all_ones word_of locations4 powers4 weights4 plan4 checks_to marks_at
+unfolding when◌then◌else◌ up_from flat_map only bits_of all_ones word_of locations4 powers4 weights4 plan4 checks_to marks_at
 squares = (
   row-by-number plan-4 0 0 (lit< tt) tt,
   row-by-number plan-4 1 9 (lit< tt) tt,
@@ -13,7 +13,7 @@ squares = (
 )
 
 pub backed-4 : Backed 4
-unfolding if◌then◌else◌ up_from ◌⊕◌ size double times mul dot gf256 power flat_map weight all only vanish sums_of bits_of
+unfolding when◌then◌else◌ up_from ◌⊕◌ size double times mul dot gf256 power flat_map weight all only vanish sums_of bits_of
     all_ones word_of locations4 powers4 weights4 plan4 plan_of no_level level_of row_at marks_at marks_of check_places_of carried all_below
     across rows_hold totals_hold is_codeword row_of symbols_carried row_distance distance counts
 backed-4 =

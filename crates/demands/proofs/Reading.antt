@@ -9,7 +9,7 @@ use native.Mathlib.Omega.{arith}
 use lib.Dec.{T, eqb, leb}
 use lib.ListN.{length, take, drop, get_or}
 use lib.Seq.{get_or-take, take-take}
-use Rattle.field.specs.Lists.{if◌then◌else◌, up_from}
+use Rattle.field.specs.Lists.{when◌then◌else◌, up_from}
 use Rattle.field.proofs.Lists.{map-up-same}
 use Rattle.fills.specs.Lists.{same}
 use Rattle.fills.proofs.Tests.{same→eq}
@@ -30,13 +30,13 @@ use Rattle.demands.proofs.Refused.{read-refused}
 abbrev pub But22 : ℕ → ℕ → Type 0
 But22 m n = (m ≡ n) ⊎ (((m ≡ 0) × (n ≡ 22)) ⊎ ((m ≡ 22) × (n ≡ 0)))
 
-test-same : (k : ℕ) (b : Bool) {m n : ℕ} → But22 m n → But22 (if b then m else k) (if b then n else k)
-unfolding if◌then◌else◌
+test-same : (k : ℕ) (b : Bool) {m n : ℕ} → But22 m n → But22 (when b then m else k) (when b then n else k)
+unfolding when◌then◌else◌
 test-same k true s = s
 test-same k false s = inl refl
 
-last-test : (x y : Bool) → But22 (if x then 0 else 22) (if y then 0 else 22)
-unfolding if◌then◌else◌
+last-test : (x y : Bool) → But22 (when x then 0 else 22) (when y then 0 else 22)
+unfolding when◌then◌else◌
 last-test true true = inl refl
 last-test true false = inr (inl (refl, refl))
 last-test false true = inr (inr (refl, refl))
@@ -130,8 +130,8 @@ module _ (f g : List ℕ) (h : SameFile f g) where
   buffers-same s m e =
       elim (eq-zero-or-pos (read_refusal f s m)) [
         | inl z ↦ (
-          (λ i. if eqb (e i) 0 then symbols-in-same _ _ z (sym e ∙ z) i else s),
-          (λ i. if eqb (e i) 0 then marks-in-same i else m),
+          (λ i. when eqb (e i) 0 then symbols-in-same _ _ z (sym e ∙ z) i else s),
+          (λ i. when eqb (e i) 0 then marks-in-same i else m),
         )
         | inr pos ↦
             let left = read-refused f s m (λ z. omega (arith, z)) in

@@ -3,7 +3,7 @@ use mathlib.Core.Path.{◌≡◌, refl}
 use mathlib.Core.Logic.{◌≢◌}
 use Prim.Native.Nat.{ℕ, zero, suc}
 use lib.Dec.{not_T, eqb, eqb→eq}
-use Rattle.field.specs.Lists.{if◌then◌else◌}
+use Rattle.field.specs.Lists.{when◌then◌else◌}
 use Rattle.plans.specs.Plan.{no_plan, plan_of, known}
 use Rattle.plans.specs.Refusal.{first_failed, bench_refusal, lent_refusal, bench_tests}
 use Rattle.steps.specs.Steps.{empty, started_by, started, stepped, unless_refused, row_step, level_step}
@@ -19,7 +19,7 @@ use Rattle.steps.proofs.Fit.{if-false}
 use Rattle.demands.specs.Refused.{MendRefused, EncodeRefused, ExtractRefused, ReadRefused, WriteRefused, RowRefused, LevelRefused, StartRefused, EmptyRefused}
 
 -- where the number is not 0 the second of two choices stands
-stays : {A : Type 0} (n : ℕ) (x y : A) → n ≢ 0 → (if eqb n 0 then x else y) ≡ y
+stays : {A : Type 0} (n : ℕ) (x y : A) → n ≢ 0 → (when eqb n 0 then x else y) ≡ y
 stays n x y h = if-false (eqb n 0) x y (not_T (eqb n 0) (λ t. h (eqb→eq n 0 t)))
 
 pub mend-refused : MendRefused
@@ -66,5 +66,5 @@ start-refused p stripe marks h = go (lent_refusal p stripe marks) h
     go (suc n) h = refl
 
 pub empty-refused : EmptyRefused
-unfolding if◌then◌else◌ no_plan plan_of known first_failed bench_tests bench_refusal empty unless_refused row_step level_step
+unfolding when◌then◌else◌ no_plan plan_of known first_failed bench_tests bench_refusal empty unless_refused row_step level_step
 empty-refused = record { rows = λ r. refl; levels = refl }

@@ -9,7 +9,7 @@ use native.Mathlib.Omega.{arith}
 use lib.Dec.{T, eqb, ltb, ltb→lt, nltb→le}
 use lib.ListN.{length, take, drop, get_or, set, length-append, length-map, length-take, length-drop}
 use lib.Seq.{sets, drop-drop, drop-set-lt, take-set-lt, take-take, get_or-take, ext_get_or, length-sets}
-use Rattle.field.specs.Lists.{if◌then◌else◌, up_from}
+use Rattle.field.specs.Lists.{when◌then◌else◌, up_from}
 use Rattle.field.specs.Field.{size, dot}
 use Rattle.field.proofs.Lists.{get_or-map-below, map-up-same}
 use Rattle.fills.specs.Lists.{all, zeros}
@@ -45,7 +45,7 @@ pub by-step : (S : Bench → Type 0) (b : Bench) → S b
     → (BenchFit b → (r : ℕ) → r < (plan_of b.plan).rows → (row : List ℕ) → row_fill b r ≡ one row → S (put_row b r row))
     → (BenchFit b → b.level < length (plan_of b.plan).levels → (cs : List (List ℕ)) → level_fill b ≡ learned cs → S (raise b cs))
     → (m : Move) → S (after b m)
-unfolding if◌then◌else◌ row_step level_step unless_refused stepped row_step_by level_step_by
+unfolding when◌then◌else◌ row_step level_step unless_refused stepped row_step_by level_step_by
 by-step S b same put raised (on_row r) = go (bench_refusal b (ltb r (plan_of b.plan).rows)) refl (row_fill b r) refl
   where
     go : (n : ℕ) → bench_refusal b (ltb r (plan_of b.plan).rows) ≡ n → (a : Fill) → row_fill b r ≡ a → S (unless_refused n b (row_step_by b r a)).bench
@@ -57,7 +57,7 @@ by-step S b same put raised (on_row r) = go (bench_refusal b (ltb r (plan_of b.p
 by-step S b same put raised on_level = go (bench_refusal b unasked) refl (ltb b.level (length (plan_of b.plan).levels)) refl (level_fill b) refl
   where
     go : (n : ℕ) → bench_refusal b unasked ≡ n → (low : Bool) → ltb b.level (length (plan_of b.plan).levels) ≡ low
-        → (a : Learned) → level_fill b ≡ a → S (unless_refused n b (if low then level_step_by b a else stepped b Top)).bench
+        → (a : Learned) → level_fill b ≡ a → S (unless_refused n b (when low then level_step_by b a else stepped b Top)).bench
     go (suc n) e low q a d = same
     go zero e false q a d = same
     go zero e true q blocked d = same
@@ -86,7 +86,7 @@ module _ (R : Bench → Bench → Type 0) (b : Bench) (s m u : List ℕ) (own : 
   pub row-steps : (r : ℕ) → (r < our.rows → (row_fill b r ≡ row_fill other r) × (get_or b.marks r 0 ≡ get_or m r 0))
       → (BenchFit b → r < our.rows → (row : List ℕ) → row_fill b r ≡ one row → R (put_row b r row) (put_row other r row))
       → SameStep R (row_step b r) (row_step other r)
-  unfolding if◌then◌else◌ row_step row_step_by stepped
+  unfolding when◌then◌else◌ row_step row_step_by stepped
   row-steps r fills puts =
       subst (λ n. SameStep R (row_step b r) (unless_refused n other (row_step_by other r (row_fill other r)))) (refused (ltb r our.rows))
       (unless-same (bench_refusal b (ltb r our.rows)) (row_step_by b r (row_fill b r)) (row_step_by other r (row_fill other r)) (λ e.
@@ -97,12 +97,12 @@ module _ (R : Bench → Bench → Type 0) (b : Bench) (s m u : List ℕ) (own : 
       go : BenchFit b → r < our.rows → (a : Fill) → row_fill b r ≡ a → SameStep R (row_step_by b r a) (row_step_by other r a)
       go f l tied e = record { answer = refl; bench = own }
       go f l none e = record { answer = refl; bench = own }
-      go f l (one row) e = record { answer = ap (λ w. if eqb w 0 then Whole else Filled) (fills l).1; bench = puts f l row e }
+      go f l (one row) e = record { answer = ap (λ w. when eqb w 0 then Whole else Filled) (fills l).1; bench = puts f l row e }
 
   pub level-steps : level_fill b ≡ level_fill other
       → (BenchFit b → b.level < length our.levels → (cs : List (List ℕ)) → level_fill b ≡ learned cs → R (raise b cs) (raise other cs))
       → SameStep R (level_step b) (level_step other)
-  unfolding if◌then◌else◌ level_step level_step_by stepped
+  unfolding when◌then◌else◌ level_step level_step_by stepped
   level-steps learns raises =
       let low = ltb b.level (length our.levels) in
       subst (λ n. SameStep R (level_step b) (unless_refused n other (end other low (level_fill other)))) (refused unasked)
@@ -110,7 +110,7 @@ module _ (R : Bench → Bench → Type 0) (b : Bench) (s m u : List ℕ) (own : 
       subst (λ a. SameStep R (end b low (level_fill b)) (end other low a)) learns (go (bench-fit b unasked e).0 low refl (level_fill b) refl)))
     where
       end : Bench → Bool → Learned → Stepped
-      end b low a = if low then level_step_by b a else stepped b Top
+      end b low a = when low then level_step_by b a else stepped b Top
 
       go : BenchFit b → (low : Bool) → ltb b.level (length our.levels) ≡ low → (a : Learned) → level_fill b ≡ a
           → SameStep R (end b low a) (end other low a)

@@ -11,7 +11,7 @@ use lib.Arith.{le→nltb}
 use lib.Dec.{T, eqb, ltb, ltb→lt, lt→ltb, nltb→le}
 use lib.ListN.{length, get_or, set, replicate}
 use lib.Seq.{set-get_or}
-use Rattle.field.specs.Lists.{if◌then◌else◌, up_from}
+use Rattle.field.specs.Lists.{when◌then◌else◌, up_from}
 use Rattle.field.specs.Field.{size}
 use Rattle.fills.specs.Fill.{sums_of, Fill, none, tied, one, fill}
 use Rattle.fills.proofs.Tests.{either}
@@ -39,7 +39,7 @@ use Rattle.demands.proofs.Reached.{Reached, reached-fresh, reached-level, reache
 -- the next n turns from turn k on: rows up to R - 1, then the level step, and again
 moves : (R n k : ℕ) → List Move
 moves R zero k = []
-moves R (suc n) k = if ltb k R then on_row k ∷ moves R n (suc k) else on_level ∷ moves R n 0
+moves R (suc n) k = when ltb k R then on_row k ∷ moves R n (suc k) else on_level ∷ moves R n 0
 
 module _ (R : ℕ) where
   moves-row : (n k : ℕ) → k < R → moves R (suc n) k ≡ on_row k ∷ moves R n (suc k)
@@ -178,13 +178,13 @@ turns-out I O spent step (suc n) m i = go (take_turn m) (step n m i) (turns-out 
     go (clash place) h ih = h
 
 -- a filling that is none, or fails, is not held to a codeword
-never-none : (D : Bool) (x : List ℕ) → (if D then tied else one x) ≡ none → ⊥
-unfolding if◌then◌else◌
+never-none : (D : Bool) (x : List ℕ) → (when D then tied else one x) ≡ none → ⊥
+unfolding when◌then◌else◌
 never-none true x e = let z : ◌≡◌ {A = ℕ} 0 1 = cc in omega arith
 never-none false x e = let z : ◌≡◌ {A = ℕ} 0 1 = cc in omega arith
 
-never-failing : (D : Bool) (xs : List (List ℕ)) → (if D then blocked else learned xs) ≡ failing → ⊥
-unfolding if◌then◌else◌
+never-failing : (D : Bool) (xs : List (List ℕ)) → (when D then blocked else learned xs) ≡ failing → ⊥
+unfolding when◌then◌else◌
 never-failing true xs e = let z : ◌≡◌ {A = ℕ} 0 1 = cc in omega arith
 never-failing false xs e = let z : ◌≡◌ {A = ℕ} 0 1 = cc in omega arith
 
@@ -251,7 +251,7 @@ module _ (p : ℕ) (stripe marks : List ℕ) (fit : Fit p stripe marks) where
       }
 
       row_goes : (a : Fill) → row_fill b k ≡ a → Goes (Round n) Out (after_row m (row_step_by b k a).answer (row_step_by b k a).bench)
-      unfolding if◌then◌else◌ after_row row_fill row_step_by stepped put_row
+      unfolding when◌then◌else◌ after_row row_fill row_step_by stepped put_row
       row_goes tied e =
           next_row b (ap (λ (c : Stepped). c.bench) (row_step_lem b i.reached.sound.fit k (own-rows l) ∙ ap (row_step_by b k) e)) refl i.reached
           (inl e) (λ r j h. h) m.restored
@@ -271,7 +271,7 @@ module _ (p : ℕ) (stripe marks : List ℕ) (fit : Fit p stripe marks) where
               (put-settled b i.reached.sound k (own-rows l) row e)
               (λ r j. put-settled-other b i.reached.sound k (own-rows l) row e r (λ q. omega (arith, q)))
 
-          by : (z : Bool) → eqb (get_or b.marks k 0) 0 ≡ z → Goes (Round n) Out (after_row m (if z then Whole else Filled) c)
+          by : (z : Bool) → eqb (get_or b.marks k 0) 0 ≡ z → Goes (Round n) Out (after_row m (when z then Whole else Filled) c)
           by true q = next m.restored
           by false q = next (more b.level 1 m.restored)
 
@@ -314,20 +314,20 @@ module _ (p : ℕ) (stripe marks : List ℕ) (fit : Fit p stripe marks) where
           quiet on_level = still
 
       step_by : (low : Bool) → ltb b.level top ≡ low → (a : Learned) → level_fill b ≡ a
-          → level_step b ≡ (if low then level_step_by b a else stepped b Top)
+          → level_step b ≡ (when low then level_step_by b a else stepped b Top)
       step_by low t a e =
           level-step b i.reached.sound.fit
-          ∙ ap (λ q. if ltb b.level (length (plan_of q).levels) then level_step_by b (level_fill b) else stepped b Top) i.reached.plan
-          ∙ ap₂ (λ c l. if c then level_step_by b l else stepped b Top) t e
+          ∙ ap (λ q. when ltb b.level (length (plan_of q).levels) then level_step_by b (level_fill b) else stepped b Top) i.reached.plan
+          ∙ ap₂ (λ c l. when c then level_step_by b l else stepped b Top) t e
 
       level-goes : (low : Bool) → ltb b.level top ≡ low → (a : Learned) → level_fill b ≡ a
           → Goes (Round n) Out (after_level m (level_step b).answer (level_step b).bench)
-      unfolding if◌then◌else◌ after_level level_step_by stepped raise
+      unfolding when◌then◌else◌ after_level level_step_by stepped raise
       level-goes low t a e =
           subst (λ (s : Stepped). Goes (Round n) Out (after_level m s.answer s.bench)) (sym (step_by low t a e)) (go low t a e)
         where
           go : (low : Bool) → ltb b.level top ≡ low → (a : Learned) → level_fill b ≡ a
-              → (let s = if low then level_step_by b a else stepped b Top in Goes (Round n) Out (after_level m s.answer s.bench))
+              → (let s = when low then level_step_by b a else stepped b Top in Goes (Round n) Out (after_level m s.answer s.bench))
           go false t a e =
               ends (λ h. absurd (subst T t (lt→ltb b.level top h))) (ap (λ (c : Stepped). c.bench) (step_by false t a e))
           go true t blocked e = ends (λ h. e) (ap (λ (c : Stepped). c.bench) (step_by true t blocked e))

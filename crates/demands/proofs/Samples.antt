@@ -7,7 +7,7 @@ use native.Mathlib.Omega.{arith}
 use lib.Count.{ones, ones_in}
 use lib.Dec.{T, ltb}
 use lib.ListN.{length, get_or, replicate, set}
-use Rattle.field.specs.Lists.{if◌then◌else◌, up_from, weight}
+use Rattle.field.specs.Lists.{when◌then◌else◌, up_from, weight}
 use Rattle.field.specs.Field.{◌⊕◌, size, double, times, mul, dot, gf2}
 use Rattle.fills.specs.Lists.{any, all, only, same, zeros, vanish, first, rest, beside}
 use Rattle.fills.specs.Marks.{bits_of}
@@ -60,12 +60,12 @@ agree p marks X Y e = let ms = marks_of (plan_of p) marks in alike_at ms X Y (ta
 -- ---- the third demand's premise: the example's stripe, 1?00000 ?0?0?10 00?0000
 
 pub example-word : Codeword 1 example_after
-unfolding if◌then◌else◌ up_from ◌⊕◌ size double times mul dot gf2 all vanish sums_of all_ones bit_checks locations1 plan1 plan_of no_level level_of row_at
+unfolding when◌then◌else◌ up_from ◌⊕◌ size double times mul dot gf2 all vanish sums_of all_ones bit_checks locations1 plan1 plan_of no_level level_of row_at
     all_below across rows_hold totals_hold is_codeword example_after
 example-word = record { long = refl; symbols = tt; holds = tt }
 
 pub example : Premise 1 example_stripe example_marks
-unfolding if◌then◌else◌ up_from flat_map size gf2 all first rest beside bits_of plan1 known plan_of row_at marks_at marks_of
+unfolding when◌then◌else◌ up_from flat_map size gf2 all first rest beside bits_of plan1 known plan_of row_at marks_at marks_of
     first_failed unasked stripe_fits words_fit marks_fit unmarked_below symbols_fit lent_tests lent_refusal example_stripe example_marks example_after taken
 example = record {
   fit = refl;
@@ -109,7 +109,7 @@ pub example-walks :
     (walk other_order (fresh 1 example_stripe example_marks) ≡ example_end) × (turns 4 (begun 1 example_stripe example_marks) ≡ on example_round)
     -- and silence's: a place that is still marked after a step, column 0 of row 1, once row 0 is filled
     × (get_or (marks_of (plan_of 1) (walk (on_row 0 ∷ []) (fresh 1 example_stripe example_marks)).marks) 7 true ≡ true)
-unfolding if◌then◌else◌ up_from ◌⊕◌ size double times mul dot gf2 flat_map
+unfolding when◌then◌else◌ up_from ◌⊕◌ size double times mul dot gf2 flat_map
     any all only same zeros vanish first rest beside bits_of sums_of options before one_of_each choices loose dependent fillings fill_by fill
     all_ones bit_checks locations1 plan1 known plan_of no_level level_of checks_to row_at marks_at marks_of
     first_failed unasked marks_fit all_below unmarked_below symbols_fit sums_at sums_fit level_fits bench_tests bench_refusal
@@ -118,7 +118,7 @@ unfolding if◌then◌else◌ up_from ◌⊕◌ size double times mul dot gf2 fl
 example-walks = (refl, refl, refl)
 
 end_quiet : Quiet example_end
-unfolding if◌then◌else◌ up_from ◌⊕◌ size double times mul dot gf2 flat_map
+unfolding when◌then◌else◌ up_from ◌⊕◌ size double times mul dot gf2 flat_map
     any all only same zeros vanish first rest beside bits_of sums_of options before one_of_each choices loose dependent fillings fill_by fill
     all_ones bit_checks locations1 plan1 known plan_of no_level level_of checks_to row_at marks_at
     first_failed unasked marks_fit all_below unmarked_below symbols_fit sums_at sums_fit level_fits bench_tests bench_refusal
@@ -153,7 +153,7 @@ blank-word = blank-codeword 1
 -- ---- the counts' premises: the example again, which has 1, 3 and 1 marks in a row
 
 pub counts-met : MeetsCounts 1 example_marks
-unfolding if◌then◌else◌ only plan1 plan_of ones ones_in rows_with counts example_marks
+unfolding when◌then◌else◌ only plan1 plan_of ones ones_in rows_with counts example_marks
 counts-met = (omega arith, (omega arith, tt))
 
 -- ---- the distance's: three of those five marks, among them the places where the example's stripe is not the codeword
@@ -162,7 +162,7 @@ unfoldable pub few_marks : List ℕ
 few_marks = 2 ∷ 16 ∷ 4 ∷ []
 
 pub few-marks : Fit 1 example_stripe few_marks × Agree 1 few_marks example_after example_stripe × (total few_marks < distance 1)
-unfolding if◌then◌else◌ up_from flat_map size gf2 all first rest beside bits_of plan1 known plan_of row_at marks_at marks_of
+unfolding when◌then◌else◌ up_from flat_map size gf2 all first rest beside bits_of plan1 known plan_of row_at marks_at marks_of
     first_failed unasked stripe_fits words_fit marks_fit unmarked_below symbols_fit lent_tests lent_refusal example_stripe example_after few_marks taken
     ones ones_in total distance
 few-marks = (refl, agree 1 few_marks example_after example_stripe refl, omega arith)
@@ -173,7 +173,7 @@ pub encode-fits : encode_refusal 1 example_data blank ≡ 0
 encode-fits = sheet.encode_fits
 
 pub lengths-fit : (length (replicate {A = ℕ} 15 0) ≡ carried (plan_of 1)) × (length blank ≡ (plan_of 1).rows * (plan_of 1).columns)
-unfolding if◌then◌else◌ up_from flat_map only bits_of plan1 word_of plan_of marks_at marks_of check_places_of carried blank
+unfolding when◌then◌else◌ up_from flat_map only bits_of plan1 word_of plan_of marks_at marks_of check_places_of carried blank
 lengths-fit = (refl, refl)
 
 pub example-encoding : IsEncoding 1 example_after (replicate 15 0) blank
@@ -185,7 +185,7 @@ unfoldable pub other_stripe : List ℕ
 other_stripe = set (set example_stripe 1 255) 7 7
 
 pub same-unmarked : SameUnmarked 1 example_marks example_stripe other_stripe
-unfolding if◌then◌else◌ up_from flat_map first rest beside bits_of plan1 plan_of marks_at marks_of example_stripe example_marks other_stripe taken
+unfolding when◌then◌else◌ up_from flat_map first rest beside bits_of plan1 plan_of marks_at marks_of example_stripe example_marks other_stripe taken
 same-unmarked = record { long = refl; agree = agree 1 example_marks example_stripe other_stripe refl }
 
 pub same-benches : SameButMarks (fresh 1 example_stripe example_marks) (fresh 1 other_stripe example_marks)
@@ -194,7 +194,7 @@ same-benches = fresh-same 1 example_marks example_stripe other_stripe same-unmar
 -- files that differ in a byte under a mark: one is read, the other is refused with 22; and two whose first unmarked symbol is 2
 pub same-files : SameFile example_file (with_byte 21 1) × SameFile (with_byte 20 2) (with_bytes 20 2 21 1)
 unfolding up_from flat_map first rest bits_of plan1 plan_of marks_at marks_of marks_offset wide_marks word_bytes symbols_offset plan_in number_at marks_in symbols_in
-    example_file with_byte with_bytes taken beside if◌then◌else◌
+    example_file with_byte with_bytes taken beside when◌then◌else◌
 same-files = (
   record { long = refl; before = refl; agree = agree 1 (marks_in example_file) (symbols_in example_file) (symbols_in (with_byte 21 1)) refl },
   record { long = refl; before = refl; agree = agree 1 (marks_in example_file) (symbols_in (with_byte 20 2)) (symbols_in (with_bytes 20 2 21 1)) refl },
@@ -206,7 +206,7 @@ read-and-22 = (file-order.9, file-order.8)
 
 -- the two are both refused, with 13
 pub both-13 : (file_refusal (with_byte 20 2) unasked ≡ 13) × (file_refusal (with_bytes 20 2 21 1) unasked ≡ 13)
-unfolding if◌then◌else◌ up_from size gf2 flat_map all same bits_of plan1 known no_plan plan_of row_at marks_at marks_of
+unfolding when◌then◌else◌ up_from size gf2 flat_map all same bits_of plan1 known no_plan plan_of row_at marks_at marks_of
     first_failed unasked marks_fit unmarked_below symbols_fit
     bytes_of marks_offset wide_marks word_bytes symbols_offset file_length header_of blanked plan_in number_at marks_in symbols_in file_refusal example_file with_byte with_bytes first rest beside
 both-13 = (refl, refl)
@@ -248,7 +248,7 @@ pub refusals :
     × (read_refusal [] blank [] ≡ 20) × (write_refusal 1 blank (128 ∷ 0 ∷ 0 ∷ []) (replicate 41 0) ≡ 12)
     -- a row step; a level step
     × (bench_refusal other_room (ltb 3 (plan_of other_room.plan).rows) ≡ 14) × (bench_refusal empty unasked ≡ 10)
-unfolding if◌then◌else◌ up_from ◌⊕◌ size double times mul dot gf2 flat_map all only vanish first rest beside bits_of sums_of
+unfolding when◌then◌else◌ up_from ◌⊕◌ size double times mul dot gf2 flat_map all only vanish first rest beside bits_of sums_of
     all_ones bit_checks word_of locations1 plan1 known no_plan plan_of no_level level_of checks_to row_at marks_at marks_of
     first_failed unasked stripe_fits words_fit marks_fit all_below unmarked_below symbols_fit sums_at sums_fit level_fits lent_tests lent_refusal bench_tests bench_refusal
     empty across rows_hold totals_hold is_codeword check_places_of carried encode_refusal extract_refusal
@@ -258,5 +258,5 @@ refusals = (refl, refl, refl, refl, refl, refl, refl)
 -- ---- the parameters': the zero row and stripe, which are light
 
 pub light : RowWord 1 (replicate 7 0) × (weight (replicate 7 0) < row_distance 1) × Codeword 1 blank × (weight blank < distance 1)
-unfolding if◌then◌else◌ ◌⊕◌ size double times mul dot gf2 all vanish sums_of all_ones plan1 plan_of level_of all_below weight row_distance distance blank
+unfolding when◌then◌else◌ ◌⊕◌ size double times mul dot gf2 all vanish sums_of all_ones plan1 plan_of level_of all_below weight row_distance distance blank
 light = (record { long = refl; symbols = tt; holds = tt }, omega arith, blank-word, omega arith)

@@ -5,7 +5,7 @@ use mathlib.Core.List.{List, [], ◌∷◌, ◌++◌, flat_map}
 use Prim.Native.Nat.{ℕ, zero, suc, ◌*◌}
 use lib.Dec.{T}
 use lib.ListN.{length, replicate, set}
-use Rattle.field.specs.Lists.{if◌then◌else◌, up_from}
+use Rattle.field.specs.Lists.{when◌then◌else◌, up_from}
 use Rattle.field.specs.Field.{◌⊕◌, size, double, times, mul, dot, gf16}
 use Rattle.field.specs.Power.{power}
 use Rattle.fills.specs.Lists.{any, all, only, same, zeros, vanish, first, rest, beside}
@@ -43,7 +43,7 @@ blank-word = blank-codeword 3
 
 pub lengths-fit : (length (replicate {A = ℕ} 98 0) ≡ carried (plan_of 3)) × (length blank3 ≡ (plan_of 3).rows * (plan_of 3).columns)
     × (encode_refusal 3 (replicate 98 0) blank3 ≡ 0)
-unfolding if◌then◌else◌ up_from size gf16 flat_map all only bits_of plan3 word_of known plan_of marks_at marks_of
+unfolding when◌then◌else◌ up_from size gf16 flat_map all only bits_of plan3 word_of known plan_of marks_at marks_of
     first_failed unasked stripe_fits all_below check_places_of carried encode_refusal blank3
 lengths-fit = (refl, refl, refl)
 
@@ -63,7 +63,7 @@ unfoldable pub first_mark : List ℕ
 first_mark = 1 ∷ replicate 7 0
 
 pub lost-fit : Fit 3 lost_first first_mark
-unfolding if◌then◌else◌ up_from size gf16 all bits_of plan3 known plan_of row_at marks_at
+unfolding when◌then◌else◌ up_from size gf16 all bits_of plan3 known plan_of row_at marks_at
     first_failed unasked stripe_fits words_fit marks_fit unmarked_below symbols_fit lent_tests lent_refusal blank3 lost_first first_mark first rest beside
 lost-fit = refl
 
@@ -71,7 +71,7 @@ lost-fit = refl
 pub mends :
     (turns 1 (begun 3 lost_first first_mark) ≡ on (standing_of (fresh 3 blank3 (replicate 8 0)) 1 (1 ∷ 0 ∷ 0 ∷ [])))
     × ((mend_report 3 (set blank3 0 1) (replicate 8 0)).answer ≡ Clash (Row 0 1))
-unfolding if◌then◌else◌ up_from ◌⊕◌ size double times mul dot gf16 power flat_map
+unfolding when◌then◌else◌ up_from ◌⊕◌ size double times mul dot gf16 power flat_map
     any all only same zeros vanish first rest bits_of sums_of options before choices loose dependent fillings fill_by fill
     all_ones locations3 powers3 plan3 known plan_of no_level level_of checks_to row_at marks_at
     first_failed unasked stripe_fits words_fit marks_fit all_below unmarked_below symbols_fit sums_at sums_fit level_fits lent_tests lent_refusal bench_tests bench_refusal
@@ -86,7 +86,7 @@ file3 x y = (3 ∷ 8 ∷ 15 ∷ 0 ∷ 8 ∷ 0 ∷ 40 ∷ 0 ∷ []) ++ (1 ∷ rep
 
 -- they differ in the first symbol alone
 pub same-file : (x y z : ℕ) → SameFile (file3 x z) (file3 y z)
-unfolding if◌then◌else◌ up_from flat_map bits_of plan3 plan_of marks_at marks_of marks_offset wide_marks word_bytes symbols_offset plan_in number_at marks_in symbols_in file3
+unfolding when◌then◌else◌ up_from flat_map bits_of plan3 plan_of marks_at marks_of marks_offset wide_marks word_bytes symbols_offset plan_in number_at marks_in symbols_in file3
 same-file x y z = record { long = refl; before = refl; agree = agrees }
   where
     agrees : Agree 3 (marks_in (file3 x z)) (symbols_in (file3 x z)) (symbols_in (file3 y z))
@@ -97,7 +97,7 @@ same-file x y z = record { long = refl; before = refl; agree = agrees }
 pub reads :
     (read_refusal (file3 0 0) blank3 (replicate 8 0) ≡ 0) × (read_refusal (file3 5 0) blank3 (replicate 8 0) ≡ 22)
     × (file_refusal (file3 0 16) unasked ≡ 13) × (file_refusal (file3 5 16) unasked ≡ 13)
-unfolding if◌then◌else◌ up_from size gf16 flat_map all same bits_of plan3 known no_plan plan_of row_at marks_at marks_of
+unfolding when◌then◌else◌ up_from size gf16 flat_map all same bits_of plan3 known no_plan plan_of row_at marks_at marks_of
     first_failed unasked stripe_fits words_fit marks_fit unmarked_below symbols_fit
     bytes_of marks_offset wide_marks word_bytes symbols_offset file_length header_of blanked plan_in number_at marks_in symbols_in file_refusal read_refusal blank3 file3 first rest beside
 reads = (refl, refl, refl, refl)

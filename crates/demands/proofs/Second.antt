@@ -9,7 +9,7 @@ use native.Mathlib.Omega.{arith}
 use borrow.Author.Tests.{eqb-true}
 use lib.Dec.{T, eqb}
 use lib.ListN.{length, get_or}
-use Rattle.field.specs.Lists.{if◌then◌else◌}
+use Rattle.field.specs.Lists.{when◌then◌else◌}
 use Rattle.fills.specs.Lists.{only}
 use Rattle.plans.specs.Plan.{plan_of}
 use Rattle.steps.specs.Steps.{lossy, blocked, learned}
@@ -28,7 +28,7 @@ use Rattle.demands.proofs.Rounds.{settled-tied, Out, mended-out}
 use Rattle.demands.proofs.Leaving.{mending-by}
 
 pub restored-means : RestoredMeans
-unfolding if◌then◌else◌ turn_report end_report bare turn_stripe turn_marks
+unfolding when◌then◌else◌ turn_report end_report bare turn_stripe turn_marks
 restored-means p stripe marks e =
     let fit = not-refused p stripe marks Restored e (λ n q. let z : ◌≡◌ {A = ℕ} 0 1 = cc in omega arith) in
     go fit (mended p stripe marks) refl (mended-out p stripe marks fit) (ap (λ (r : Report). r.answer) (sym (report-turn p stripe marks fit)) ∙ e)
@@ -38,7 +38,7 @@ restored-means p stripe marks e =
     go fit (on m) q h a = absurd h
     go fit (end m) q h a = by (eqb (rows_left m.bench) 0) refl a
       where
-        by : (z : Bool) → eqb (rows_left m.bench) 0 ≡ z → (if z then Restored else Stuck) ≡ Restored → IsRestored p stripe marks
+        by : (z : Bool) → eqb (rows_left m.bench) 0 ≡ z → (when z then Restored else Stuck) ≡ Restored → IsRestored p stripe marks
         by true w a =
             is-restored p stripe marks fit m h (eqb-true (rows_left m.bench) 0 w)
             (stripe-turn p stripe marks fit ∙ ap (λ t. turn_stripe t stripe) q) (marks-turn p stripe marks fit ∙ ap (λ t. turn_marks t marks) q)
@@ -55,8 +55,8 @@ stuck-means p stripe marks e X word agree =
 
 -- ---- how Restored is shown
 
-blocked-tied : (D : Bool) (xs : List (List ℕ)) → (if D then blocked else learned xs) ≡ blocked → T D
-unfolding if◌then◌else◌
+blocked-tied : (D : Bool) (xs : List (List ℕ)) → (when D then blocked else learned xs) ≡ blocked → T D
+unfolding when◌then◌else◌
 blocked-tied true xs e = tt
 blocked-tied false xs e = let z : ◌≡◌ {A = ℕ} 0 1 = cc in absurd (omega arith)
 

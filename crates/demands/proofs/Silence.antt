@@ -9,7 +9,7 @@ use native.Mathlib.Omega.{arith}
 use lib.Dec.{T, eqb, ltb, eqb→eq}
 use lib.ListN.{length, take, get_or, set, replicate, length-append, length-take}
 use lib.Seq.{sets, length-sets, get_or-set_other, get_or-take}
-use Rattle.field.specs.Lists.{if◌then◌else◌}
+use Rattle.field.specs.Lists.{when◌then◌else◌}
 use Rattle.field.specs.Field.{dot}
 use Rattle.fills.specs.Lists.{zeros}
 use Rattle.fills.specs.Marks.{bits_of}
@@ -262,11 +262,11 @@ module _ (m : Standing) (t : List ℕ) (h : SameUnmarked m.bench.plan m.bench.ma
       go (Refused k) = stop
 
   own_turn : SameTurn (take_turn m) (take_turn n)
-  unfolding if◌then◌else◌ take_turn
+  unfolding when◌then◌else◌ take_turn
   own_turn = go (ltb m.turn (plan_of mine.plan).rows)
     where
       taken : Bool → (m : Standing) (r s : Stepped) → Turn
-      taken z m r s = if z then after_row m r.answer r.bench else after_level m s.answer s.bench
+      taken z m r s = when z then after_row m r.answer r.bench else after_level m s.answer s.bench
 
       go : (z : Bool)
           → SameTurn (taken z m (row_step mine m.turn) (level_step mine)) (taken z n (row_step other m.turn) (level_step other))

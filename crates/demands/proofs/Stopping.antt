@@ -8,7 +8,7 @@ use native.Mathlib.Omega.{arith}
 use lib.Arith.{le→nltb}
 use lib.Dec.{eqb, ltb, ltb→lt, lt→ltb, nltb→le}
 use lib.ListN.{length, get_or}
-use Rattle.field.specs.Lists.{if◌then◌else◌}
+use Rattle.field.specs.Lists.{when◌then◌else◌}
 use Rattle.fills.specs.Fill.{Fill, tied, none, one}
 use Rattle.fills.proofs.Tests.{either}
 use Rattle.plans.specs.Plan.{plan_of}
@@ -28,21 +28,21 @@ use Rattle.demands.proofs.Rounds.{Goes, Out, mended-out}
 -- ---- a step on a fit bench is not refused
 
 row-accepted : (b : Bench) (r : ℕ) (f : Fill) (n : ℕ) → (row_step_by b r f).answer ≢ Refused n
-unfolding if◌then◌else◌ row_step_by stepped
+unfolding when◌then◌else◌ row_step_by stepped
 row-accepted b r tied n e = let z : ◌≡◌ {A = ℕ} 0 1 = cc in omega arith
 row-accepted b r none n e = let z : ◌≡◌ {A = ℕ} 0 1 = cc in omega arith
 row-accepted b r (one row) n e = by (eqb (get_or b.marks r 0) 0) e
   where
-    by : (z : Bool) → (if z then Whole else Filled) ≢ Refused n
+    by : (z : Bool) → (when z then Whole else Filled) ≢ Refused n
     by true e = let z : ◌≡◌ {A = ℕ} 0 1 = cc in omega arith
     by false e = let z : ◌≡◌ {A = ℕ} 0 1 = cc in omega arith
 
 -- a level step below the last level, and at it
 abbrev level_by : Bench → (low : Bool) → Learned → Stepped
-level_by b low a = if low then level_step_by b a else stepped b Top
+level_by b low a = when low then level_step_by b a else stepped b Top
 
 level-accepted : (b : Bench) (low : Bool) (a : Learned) (n : ℕ) → (level_by b low a).answer ≢ Refused n
-unfolding if◌then◌else◌ level_step_by stepped
+unfolding when◌then◌else◌ level_step_by stepped
 level-accepted b false a n e = let z : ◌≡◌ {A = ℕ} 0 1 = cc in omega arith
 level-accepted b true blocked n e = let z : ◌≡◌ {A = ℕ} 0 1 = cc in omega arith
 level-accepted b true failing n e = let z : ◌≡◌ {A = ℕ} 0 1 = cc in omega arith
@@ -82,13 +82,13 @@ module _ (p : ℕ) where
           record { sound = sound-row b g.sound k; plan = (row_keeps b k).0 ∙ g.plan }
 
       row_goes : (f : Fill) → row_step b k ≡ row_step_by b k f → Next m (after_row m (row_step_by b k f).answer (row_step_by b k f).bench)
-      unfolding if◌then◌else◌ after_row row_step_by stepped
+      unfolding when◌then◌else◌ after_row row_step_by stepped
       row_goes tied e = row_next (row_step_by b k tied) e _
       row_goes none e = clash-in-row l (ap (λ (s : Stepped). s.answer) e)
       row_goes (one row) e = by (eqb (get_or b.marks k 0) 0) e
         where
-          by : (z : Bool) → row_step b k ≡ stepped (put_row b k row) (if z then Whole else Filled)
-              → Next m (after_row m (if z then Whole else Filled) (put_row b k row))
+          by : (z : Bool) → row_step b k ≡ stepped (put_row b k row) (when z then Whole else Filled)
+              → Next m (after_row m (when z then Whole else Filled) (put_row b k row))
           by true e = row_next (stepped (put_row b k row) Whole) e _
           by false e = row_next (stepped (put_row b k row) Filled) e _
 
@@ -108,7 +108,7 @@ module _ (p : ℕ) where
     module _ (full : (plan_of p).rows ≤ k) where
       level-goes : (low : Bool) (a : Learned) → level_step b ≡ level_by b low a
           → Next m (after_level m (level_by b low a).answer (level_by b low a).bench)
-      unfolding if◌then◌else◌ after_level level_step_by stepped
+      unfolding when◌then◌else◌ after_level level_step_by stepped
       level-goes false a e = at_top full (ap (λ (s : Stepped). s.answer) e)
       level-goes true blocked e = at-blocked full (ap (λ (s : Stepped). s.answer) e)
       level-goes true failing e = clash-across full (ap (λ (s : Stepped). s.answer) e)

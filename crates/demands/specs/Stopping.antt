@@ -1,6 +1,6 @@
 -- Where mending in one call stops: at the first Clash, at Blocked, or at Top; its turns never run out, and no step of it is refused.
 use Rattle.std.specs.Prelude.{ℕ, suc, ◌<◌, ◌≤◌, ◌≡◌, ◌≢◌, List, ltb}
-use Rattle.field.specs.Lists.{if◌then◌else◌}
+use Rattle.field.specs.Lists.{when◌then◌else◌}
 use Rattle.plans.specs.Plan.{plan_of}
 use Rattle.steps.specs.Steps.{fresh, row_step, level_step}
 use Rattle.steps.specs.Rounds.{Standing, Turn, on, end, clash, turns}
@@ -17,7 +17,7 @@ begun p stripe marks = begun_on (fresh p stripe marks)
 
 -- the step whose turn it is: a row's, and behind the last row the level step
 unfoldable pub next_step : ℕ → Standing → Stepped
-next_step p m = if ltb m.turn (plan_of p).rows then row_step m.bench m.turn else level_step m.bench
+next_step p m = when ltb m.turn (plan_of p).rows then row_step m.bench m.turn else level_step m.bench
 
 -- the step whose turn it is stops the rounds: a Clash at its place, or Blocked, or Top
 pub data StopsAt (p : ℕ) (m : Standing) : Turn → Type 0 where

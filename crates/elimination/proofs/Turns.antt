@@ -8,7 +8,7 @@ use native.Mathlib.Omega.{arith}
 use borrow.Author.Count.{below_more}
 use lib.ListN.{length, get_or, set, length-set}
 use lib.Seq.{get_or-set_same, get_or-set_other}
-use Rattle.field.specs.Field.{Field, ◌⊕◌, size, mul}
+use Rattle.field.specs.Field.{Field, ◌⊕◌, mul}
 use Rattle.field.proofs.Laws.{IsField}
 use Rattle.equations.specs.System.{vec, Matrix, ent, Elements}
 use Rattle.elimination.specs.Steps.{Same, Found, Added, Cleared, Pivoted, Form, Free, ReadOff}

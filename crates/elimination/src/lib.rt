@@ -2,6 +2,8 @@
 //
 // A system is a flat buffer of m rows of w = k + 1 symbols: the coefficients of k unknowns, then the right-hand side. A field is
 // given by its number `q`, and its table is lent. There is one row operation; rows are neither swapped nor scaled.
+#![tactic(auto)]
+
 ghost use Rattle.std.specs.Prelude.{◌≡◌};
 ghost use Rattle.field.specs.Field.{◌⊕◌, mul, inverse};
 ghost use Rattle.field.specs.Ours.{field_of, table_of};

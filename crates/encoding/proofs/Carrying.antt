@@ -8,7 +8,7 @@ use borrow.Author.Tests.{eqb-true, eq-eqb, ne_eqb}
 use lib.Dec.{eqb, eqb→eq}
 use lib.ListN.{length, take, replicate, length-append}
 use lib.Seq.{take_at}
-use Rattle.field.specs.Lists.{if◌then◌else◌}
+use Rattle.field.specs.Lists.{when◌then◌else◌}
 use Rattle.fills.specs.Lists.{all}
 use Rattle.plans.specs.Plan.{Plan, binary_plan, plan1, plan2, plan3, plan4, plan5, no_plan, known, plan_of, marks_of, check_places_of, carried}
 use Rattle.plans.specs.Refusal.{stripe_fits, all_below}
@@ -76,13 +76,13 @@ module _ {n k : ℕ} (e : n ≡ k) where
 
   -- what a buffer holds afterwards: `new` where nothing is refused, `old` where something is
   module _ (new old : List ℕ) where
-    pub left-new : n ≡ 0 → new ≡ (if eqb k 0 then new else old)
-    unfolding if◌then◌else◌
-    left-new z = ap (λ b. if b then new else old) (sym (eq-eqb k 0 (sym e ∙ z)))
+    pub left-new : n ≡ 0 → new ≡ (when eqb k 0 then new else old)
+    unfolding when◌then◌else◌
+    left-new z = ap (λ b. when b then new else old) (sym (eq-eqb k 0 (sym e ∙ z)))
 
-    pub left-old : (n ≡ 0 → ⊥) → old ≡ (if eqb k 0 then new else old)
-    unfolding if◌then◌else◌
-    left-old ne = ap (λ b. if b then new else old) (sym (ne_eqb k 0 (λ z. ne (e ∙ z))))
+    pub left-old : (n ≡ 0 → ⊥) → old ≡ (when eqb k 0 then new else old)
+    unfolding when◌then◌else◌
+    left-old ne = ap (λ b. when b then new else old) (sym (ne_eqb k 0 (λ z. ne (e ∙ z))))
 
 -- ---- extraction
 

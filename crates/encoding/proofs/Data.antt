@@ -7,7 +7,7 @@ use native.Mathlib.Nat.{suc_inj}
 use native.Mathlib.Omega.{arith}
 use lib.Dec.{T}
 use lib.ListN.{length, take, drop}
-use Rattle.field.specs.Lists.{if◌then◌else◌}
+use Rattle.field.specs.Lists.{when◌then◌else◌}
 use Rattle.field.proofs.Test.{both}
 use Rattle.fills.specs.Lists.{all, only, first, rest, beside}
 use Rattle.fills.proofs.Tests.{all_first, all_rest}
@@ -20,7 +20,7 @@ use Rattle.words.proofs.Stores.{flat_append}
 -- ---- how much is put and taken
 
 pub unmarked-append : (ms ns : List Bool) → unmarked (ms ++ ns) ≡ unmarked ms + unmarked ns
-unfolding if◌then◌else◌ only
+unfolding when◌then◌else◌ only
 unmarked-append [] ns = omega arith
 unmarked-append (true ∷ ms) ns = unmarked-append ms ns
 unmarked-append (false ∷ ms) ns = omega (arith, unmarked-append ms ns)
@@ -39,13 +39,13 @@ placed-all q z (false ∷ ms) ds t =
     both (q (first ds)) (all q (placed ms (rest ds))) (all_first q z ds t) (placed-all q z ms (rest ds) (all_rest q ds t))
 
 pub taken-length : (ms : List Bool) (v : List ℕ) → length (taken ms v) ≡ unmarked ms
-unfolding if◌then◌else◌ only flat_map beside taken
+unfolding when◌then◌else◌ only flat_map beside taken
 taken-length [] v = refl
 taken-length (true ∷ ms) v = taken-length ms (rest v)
 taken-length (false ∷ ms) v = ap suc (taken-length ms (rest v))
 
 pub taken-all : (q : ℕ → Bool) → T (q 0) → (ms : List Bool) (v : List ℕ) → T (all q v) → T (all q (taken ms v))
-unfolding if◌then◌else◌ all flat_map beside taken
+unfolding when◌then◌else◌ all flat_map beside taken
 taken-all q z [] v t = tt
 taken-all q z (true ∷ ms) v t = taken-all q z ms (rest v) (all_rest q v t)
 taken-all q z (false ∷ ms) v t =
@@ -55,7 +55,7 @@ taken-all q z (false ∷ ms) v t =
 
 -- the data behind those of the first part go to the second
 pub placed-append : (ms ns : List Bool) (ds : List ℕ) → placed (ms ++ ns) ds ≡ placed ms ds ++ placed ns (drop (unmarked ms) ds)
-unfolding if◌then◌else◌ only placed
+unfolding when◌then◌else◌ only placed
 placed-append [] ns ds = refl
 placed-append (true ∷ ms) ns ds = ap (λ l. 0 ∷ l) (placed-append ms ns ds)
 placed-append (false ∷ ms) ns ds =
@@ -75,7 +75,7 @@ taken-front ms v = ap (flat_map (λ l. l)) (beside-front _ ms v)
 
 -- what was put is taken back
 pub taken-placed : (ms : List Bool) (ds : List ℕ) → length ds ≡ unmarked ms → taken ms (placed ms ds) ≡ ds
-unfolding if◌then◌else◌ only flat_map first rest beside placed taken
+unfolding when◌then◌else◌ only flat_map first rest beside placed taken
 taken-placed [] [] l = refl
 taken-placed [] (d ∷ ds) l = absurd (omega arith)
 taken-placed (true ∷ ms) ds l = taken-placed ms ds l
@@ -84,11 +84,11 @@ taken-placed (false ∷ ms) (d ∷ ds) l = ap (λ t. d ∷ t) (taken-placed ms d
 
 -- vectors agree where unmarked exactly where the same is taken from them
 pub alike-taken : (ms : List Bool) (v w : List ℕ) → Alike ms v w → taken ms v ≡ taken ms w
-unfolding if◌then◌else◌ taken
+unfolding when◌then◌else◌ taken
 alike-taken ms v w a = ap (flat_map (λ l. l)) (beside-alike _ (λ x y. refl) ms v w a)
 
 pub taken-alike : (ms : List Bool) (v w : List ℕ) → taken ms v ≡ taken ms w → Alike ms v w
-unfolding if◌then◌else◌ flat_map first rest beside taken
+unfolding when◌then◌else◌ flat_map first rest beside taken
 taken-alike [] v w e = tt
 taken-alike (true ∷ ms) v w e = taken-alike ms (rest v) (rest w) e
 taken-alike (false ∷ ms) v w e = (ap first e, taken-alike ms (rest v) (rest w) (ap rest e))

@@ -8,7 +8,7 @@ use native.Mathlib.Omega.{arith}
 use lib.Dec.{eqb}
 use lib.ListN.{length, take, drop, get_or, set, length-drop, drop_of_length-le}
 use lib.Seq.{sets, length-sets}
-use Rattle.field.specs.Lists.{if◌then◌else◌, up_from}
+use Rattle.field.specs.Lists.{when◌then◌else◌, up_from}
 use Rattle.fills.specs.Lists.{only, beside}
 use Rattle.equations.specs.Words.{bit_at}
 use Rattle.fills.specs.Marks.{bits_of}
@@ -146,20 +146,20 @@ bits-length w n = ap length (bits-to w n) ∙ length-bits n w
 module _ (w c : ℕ) where
   -- there is room for the data of column c
   pub bit-within : {n m next : ℕ} → eqb (bit_at w c) 1 ≡ false → c < n → unmarked (bits_of n w) ≤ m → next ≡ unmarked (marks_to (bit_of w) c) → next < m
-  unfolding if◌then◌else◌ only
+  unfolding when◌then◌else◌ only
   bit-within {n} z h room e =
       let one : 1 ≡ unmarked (bit_of w c) = ap (λ b. unmarked (b ∷ [])) (sym z) in
       omega (arith, unmarked-within (bit_of w) h, ap unmarked (bits-to w n))
 
   module _ {ds old s : List ℕ} {next : ℕ} (p : Placing (bit_of w) ds old c next s) where
     pub place-data : eqb (bit_at w c) 1 ≡ false → Placing (bit_of w) ds old (c + 1) (next + 1) (set s c (get_or ds next 0))
-    unfolding if◌then◌else◌ only placed
+    unfolding when◌then◌else◌ only placed
     place-data z =
         placing-turns p (ap (λ b. next + unmarked (b ∷ [])) (sym z))
         (ap (set s c) (sym (first-drop next ds)) ∙ ap₂ (λ i b. sets s i (placed (b ∷ []) (drop next ds))) (sym (bits-length w c)) (sym z))
 
     pub place_none : eqb (bit_at w c) 1 ≡ true → Placing (bit_of w) ds old (c + 1) next (set s c 0)
-    unfolding if◌then◌else◌ only placed
+    unfolding when◌then◌else◌ only placed
     place_none nz =
         placing-turns p (sym (add-zero next) ∙ ap (λ b. next + unmarked (b ∷ [])) (sym nz))
         (ap₂ (λ i b. sets s i (placed (b ∷ []) (drop next ds))) (sym (bits-length w c)) (sym nz))
@@ -171,13 +171,13 @@ module _ (w c : ℕ) where
 
   module _ {xs old s : List ℕ} {next : ℕ} (t : Taking (bit_of w) xs old c next s) where
     pub take-symbol : eqb (bit_at w c) 1 ≡ false → Taking (bit_of w) xs old (c + 1) (next + 1) (set s next (get_or xs c 0))
-    unfolding if◌then◌else◌ only flat_map beside taken
+    unfolding when◌then◌else◌ only flat_map beside taken
     take-symbol z =
         taking-turns t (ap (λ b. next + unmarked (b ∷ [])) (sym z))
         (ap (set s next) (sym (first-drop c xs)) ∙ ap₂ (λ i b. sets s next (taken (b ∷ []) (drop i xs))) (sym (bits-length w c)) (sym z))
 
     pub take_none : eqb (bit_at w c) 1 ≡ true → Taking (bit_of w) xs old (c + 1) next s
-    unfolding if◌then◌else◌ only flat_map beside taken
+    unfolding when◌then◌else◌ only flat_map beside taken
     take_none nz =
         taking-turns t (sym (add-zero next) ∙ ap (λ b. next + unmarked (b ∷ [])) (sym nz))
         (ap₂ (λ i b. sets s next (taken (b ∷ []) (drop i xs))) (sym (bits-length w c)) (sym nz))

@@ -1,7 +1,7 @@
 -- Data and check places; what encoding and extraction refuse; extraction.
 use Rattle.std.specs.Prelude.{ℕ, zero, suc, Bool, true, false, ◌&&◌, eqb, length}
 use mathlib.Core.List.{List, [], ◌∷◌, flat_map}
-use Rattle.field.specs.Lists.{if◌then◌else◌}
+use Rattle.field.specs.Lists.{when◌then◌else◌}
 use Rattle.field.specs.Field.{size}
 use Rattle.fills.specs.Lists.{first, rest, beside}
 use Rattle.plans.specs.Plan.{Plan, plan_of, known, check_places_of, carried}
@@ -20,7 +20,7 @@ placed (false ∷ ms) ds = first ds ∷ placed ms (rest ds)
 
 -- the symbols at the places that are not marked, in order
 unfoldable pub taken : List Bool → List ℕ → List ℕ
-taken ms xs = flat_map (λ l. l) (beside (λ m x. if m then [] else x ∷ []) ms xs)
+taken ms xs = flat_map (λ l. l) (beside (λ m x. when m then [] else x ∷ []) ms xs)
 
 -- ---- what encoding refuses
 
@@ -45,4 +45,4 @@ extract_refusal p stripe ds =
 
 -- what the lent data buffer holds afterwards
 unfoldable pub extract_data : ℕ → List ℕ → List ℕ → List ℕ
-extract_data p stripe ds = if eqb (extract_refusal p stripe ds) 0 then extracted (plan_of p) stripe else ds
+extract_data p stripe ds = when eqb (extract_refusal p stripe ds) 0 then extracted (plan_of p) stripe else ds

@@ -1,4 +1,6 @@
 // Extraction; what encoding refuses, and how it places the data.
+#![tactic(auto)]
+
 mod encoding;
 
 ghost use Rattle.std.specs.Prelude.{◌≡◌};

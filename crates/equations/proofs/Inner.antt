@@ -7,7 +7,7 @@ use native.Mathlib.Decide.{ℕ_discrete}
 use native.Mathlib.Omega.{arith}
 use borrow.Author.Tests.{eq-eqb, ne_eqb}
 use lib.Dec.{eqb}
-use Rattle.field.specs.Lists.{if◌then◌else◌}
+use Rattle.field.specs.Lists.{when◌then◌else◌}
 use Rattle.field.specs.Field.{Field, ◌⊕◌, size, mul}
 use Rattle.field.proofs.Sum.{⊕-assoc, ⊕-comm, ⊕-four, ⊕-three, ⊕-zero, zero-⊕}
 use Rattle.field.proofs.Laws.{IsField, size-pos, mul-zero, mul-⊕}
@@ -19,15 +19,15 @@ inner-more F f z n = rw (add-one n)
 
 -- x, with b in place k
 pub put : (ℕ → ℕ) → ℕ → ℕ → ℕ → ℕ
-put x k b j = if eqb j k then b else x j
+put x k b j = when eqb j k then b else x j
 
 pub put_same : (x : ℕ → ℕ) (k b : ℕ) → put x k b k ≡ b
-unfolding put if◌then◌else◌
-put_same x k b = ap (λ t. if t then b else x k) (eq-eqb k k refl)
+unfolding put when◌then◌else◌
+put_same x k b = ap (λ t. when t then b else x k) (eq-eqb k k refl)
 
 pub put_other : (x : ℕ → ℕ) (k b j : ℕ) → j ≢ k → put x k b j ≡ x j
-unfolding put if◌then◌else◌
-put_other x k b j ne = ap (λ t. if t then b else x j) (ne_eqb j k ne)
+unfolding put when◌then◌else◌
+put_other x k b j ne = ap (λ t. when t then b else x j) (ne_eqb j k ne)
 
 pub put-lt : (q : ℕ) (x : ℕ → ℕ) (k b : ℕ) → ((j : ℕ) → x j < q) → b < q → (j : ℕ) → put x k b j < q
 put-lt q x k b hx hb j = elim (ℕ_discrete j k) [ yes e ↦ rw (e, put_same x k b) hb | no ne ↦ rw (put_other x k b j ne) (hx j) ]

@@ -9,7 +9,7 @@ use native.Mathlib.Omega.{arith}
 use lib.Dec.{T, eqb, eqb→eq, lit<}
 use lib.ListN.{length, length-append, length-map, get_or, get_or-append}
 use lib.Seq.{get_or-append-add, ext_get_or}
-use Rattle.field.specs.Lists.{if◌then◌else◌, up_from, place_from}
+use Rattle.field.specs.Lists.{when◌then◌else◌, up_from, place_from}
 use Rattle.field.specs.Field.{size, mul, squares, inverse, gf256}
 use Rattle.field.specs.Power.{power, orbit}
 use Rattle.field.specs.Ours.{products, powers, logarithms, table_of}
@@ -120,10 +120,10 @@ module _ (t : List ℕ) (table : t ≡ powers ++ logarithms) where
 
 -- no field's table is longer
 pub table-most : (q : ℕ) → length (table_of q) ≤ 766
-unfolding if◌then◌else◌ table_of
+unfolding when◌then◌else◌ table_of
 table-most q = go (eqb q 2) (eqb q 16)
   where
-    go : (two sixteen : Bool) → length (if two then [] else (if sixteen then products else powers ++ logarithms)) ≤ 766
+    go : (two sixteen : Bool) → length (when two then [] else (when sixteen then products else powers ++ logarithms)) ≤ 766
     go true s = zero-le
     go false true = omega (arith, length-products)
     go false false = omega (arith, table-length _ refl)

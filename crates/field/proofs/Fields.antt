@@ -6,7 +6,7 @@ use Prim.Native.Nat.{ℕ, pred, ◌<◌}
 use borrow.Author.Tests.{ne_eqb}
 use lib.Dec.{T, eqb, lit<}
 use Rattle.field.specs.Field.{◌⊕◌, size, double, times, mul, squares, inverse, gf2, gf8, gf16, gf32, gf64, gf256}
-use Rattle.field.specs.Lists.{if◌then◌else◌, place_from}
+use Rattle.field.specs.Lists.{when◌then◌else◌, place_from}
 use Rattle.field.specs.Power.{power, orbit}
 use Rattle.field.specs.Ours.{field_of}
 use Rattle.field.proofs.Test.{below}
@@ -34,7 +34,7 @@ gf64-field = is_field gf64 refl (lit< tt) tt
 
 -- every byte but 0 is a power of 2
 pub powers-256 : T (below (pred (size gf256)) (among (powers_in gf256 2)))
-unfolding if◌then◌else◌ place_from orbit ◌⊕◌ size double times mul gf256
+unfolding when◌then◌else◌ place_from orbit ◌⊕◌ size double times mul gf256
 powers-256 = tt
 
 pub period-256 : power gf256 2 255 ≡ 1
@@ -52,22 +52,22 @@ byte-lt x h = h
 
 -- whatever the number
 pub our-field : (q : ℕ) → IsField (field_of q)
-unfolding if◌then◌else◌ field_of
+unfolding when◌then◌else◌ field_of
 our-field q = go (eqb q 2) (eqb q 16)
   where
-    go : (two sixteen : Bool) → IsField (if two then gf2 else (if sixteen then gf16 else gf256))
+    go : (two sixteen : Bool) → IsField (when two then gf2 else (when sixteen then gf16 else gf256))
     go true s = gf2-field
     go false true = gf16-field
     go false false = gf256-field
 
 pub field-2 : (q : ℕ) → q ≡ 2 → field_of q ≡ gf2
-unfolding if◌then◌else◌ field_of
+unfolding when◌then◌else◌ field_of
 field-2 q e = ap field_of e
 
 pub field-16 : (q : ℕ) → q ≡ 16 → field_of q ≡ gf16
-unfolding if◌then◌else◌ field_of
+unfolding when◌then◌else◌ field_of
 field-16 q e = ap field_of e
 
 pub field-256 : (q : ℕ) → q ≢ 2 → q ≢ 16 → field_of q ≡ gf256
-unfolding if◌then◌else◌ field_of
-field-256 q two sixteen = ap₂ (λ a b. if a then gf2 else (if b then gf16 else gf256)) (ne_eqb q 2 two) (ne_eqb q 16 sixteen)
+unfolding when◌then◌else◌ field_of
+field-256 q two sixteen = ap₂ (λ a b. when a then gf2 else (when b then gf16 else gf256)) (ne_eqb q 2 two) (ne_eqb q 16 sixteen)

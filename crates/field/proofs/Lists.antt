@@ -7,7 +7,7 @@ use native.Mathlib.Nat.{add-zero, zero-add, add-suc, suc-add, not-suc-le-zero, l
 use native.Mathlib.Omega.{arith}
 use lib.Dec.{eqb}
 use lib.ListN.{length, get_or}
-use Rattle.field.specs.Lists.{if◌then◌else◌, up_from, place_from}
+use Rattle.field.specs.Lists.{when◌then◌else◌, up_from, place_from}
 
 pub length_up : (k n : ℕ) → length (up_from k n) ≡ n
 unfolding up_from
@@ -41,10 +41,10 @@ map-up-suc f k (suc n) = ap (λ l. f (suc k) ∷ l) (map-up-suc f (suc k) n)
 
 -- a place in a list is below its length, and so is 0 where nothing is found
 pub place-lt : (k : ℕ) (l : List ℕ) (x n : ℕ) → 0 < n → k + length l ≤ n → place_from k l x < n
-unfolding if◌then◌else◌ place_from
+unfolding when◌then◌else◌ place_from
 place-lt k [] x n pos h = pos
 place-lt k (y ∷ l) x n pos h = go (eqb y x) (place_from (suc k) l x) (place-lt (suc k) l x n pos (omega arith))
   where
-    go : (b : Bool) (r : ℕ) → r < n → (if b then k else r) < n
+    go : (b : Bool) (r : ℕ) → r < n → (when b then k else r) < n
     go true r l = omega arith
     go false r l = l

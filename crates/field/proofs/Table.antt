@@ -8,7 +8,7 @@ use borrow.Author.Tests.{ne_eqb}
 use lib.Arith.{digits_lt, digits_div, digits_mod}
 use lib.Dec.{lit<}
 use lib.ListN.{length, length-map, get_or}
-use Rattle.field.specs.Lists.{if◌then◌else◌, up_from}
+use Rattle.field.specs.Lists.{when◌then◌else◌, up_from}
 use Rattle.field.specs.Field.{◌⊕◌, size, double, times, mul, squares, inverse, gf2, gf16}
 use Rattle.field.specs.Ours.{field_of, products, powers, logarithms, table_of}
 use Rattle.field.proofs.Sum.{of-bits, bit}
@@ -20,17 +20,17 @@ use Rattle.field.proofs.Fields.{gf16-field, field-2, field-16}
 -- ---- the table of each field
 
 pub table-2 : (q : ℕ) → q ≡ 2 → table_of q ≡ []
-unfolding if◌then◌else◌ table_of
+unfolding when◌then◌else◌ table_of
 table-2 q e = ap table_of e
 
 pub table-16 : (q : ℕ) → q ≡ 16 → table_of q ≡ products
-unfolding if◌then◌else◌ table_of
+unfolding when◌then◌else◌ table_of
 table-16 q e = ap table_of e
 
 pub table-256 : (q : ℕ) → q ≢ 2 → q ≢ 16 → table_of q ≡ powers ++ logarithms
-unfolding if◌then◌else◌ table_of
+unfolding when◌then◌else◌ table_of
 table-256 q two sixteen =
-    ap₂ (λ a b. if a then [] else (if b then products else powers ++ logarithms)) (ne_eqb q 2 two) (ne_eqb q 16 sixteen)
+    ap₂ (λ a b. when a then [] else (when b then products else powers ++ logarithms)) (ne_eqb q 2 two) (ne_eqb q 16 sixteen)
 
 pub length-products : length products ≡ 256
 unfolding products

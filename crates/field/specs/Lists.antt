@@ -2,10 +2,10 @@
 use Rattle.std.specs.Prelude.{ℕ, zero, suc, ◌-◌, Bool, true, false, List, [], ◌∷◌, eqb}
 
 -- the first where the test passes, else the second
-infix 10 if◌then◌else◌
-unfoldable pub if◌then◌else◌ : {A : Type 0} → Bool → A → A → A
-if true then a else b = a
-if false then a else b = b
+infix 10 when◌then◌else◌
+unfoldable pub when◌then◌else◌ : {A : Type 0} → Bool → A → A → A
+when true then a else b = a
+when false then a else b = b
 
 -- n numbers, ascending from k
 unfoldable pub up_from : ℕ → ℕ → List ℕ
@@ -26,4 +26,4 @@ weight (suc c ∷ w) = suc (weight w)
 -- where a number first stands in a list, counted from k; 0 where it does not
 unfoldable pub place_from : ℕ → List ℕ → ℕ → ℕ
 place_from k [] x = 0
-place_from k (y ∷ ys) x = if eqb y x then k else place_from (suc k) ys x
+place_from k (y ∷ ys) x = when eqb y x then k else place_from (suc k) ys x

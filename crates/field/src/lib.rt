@@ -1,4 +1,6 @@
 // Arithmetic of our fields. Elements are numbers below the field's size; the sum is `^`. For our own crates, not for scripts.
+#![tactic(auto)]
+
 ghost use Rattle.std.specs.Prelude.{◌≡◌, ◌++◌, length};
 ghost use Rattle.field.specs.Field.{mul, inverse, dot, gf256};
 ghost use Rattle.field.specs.Ours.{field_of, table_of, powers, «products» as product_table, «logarithms» as logarithm_table};

@@ -8,7 +8,7 @@ use borrow.Author.Tests.{lt-leb}
 use lib.Dec.{ltb}
 use lib.ListN.{get_or, take, drop}
 use lib.Pow.{shr-shr}
-use Rattle.field.specs.Lists.{if◌then◌else◌, up_from}
+use Rattle.field.specs.Lists.{when◌then◌else◌, up_from}
 use Rattle.field.specs.Field.{size, gf32}
 use Rattle.plans.specs.Plan.{Plan, plan1, plan2, plan3, binary_plan, no_plan, plan_of, known, marks_of, marks_offset, wide_marks, word_bytes, symbols_offset, file_length}
 use Rattle.words.specs.Words.{bytes_of, number_at, words_at}
@@ -64,8 +64,8 @@ kept (suc (suc (suc (suc (suc (suc p)))))) h = record { plan = refl; is_known = 
 
 module _ {p : ℕ} (k : Kept p) where
   size-as : word_bytes (plan_of p) ≡ 4
-  unfolding if◌then◌else◌ word_bytes
-  size-as = ap (λ b. if b then 8 else 4) k.narrow
+  unfolding when◌then◌else◌ word_bytes
+  size-as = ap (λ b. when b then 8 else 4) k.narrow
 
   offset-as : symbols_offset (plan_of p) ≡ offset_before (plan_before p)
   unfolding symbols_offset offset_before
@@ -76,9 +76,9 @@ module _ {p : ℕ} (k : Kept p) where
   length-as = ap₂ (λ n (P : Plan). n + P.rows * P.columns) offset-as k.plan
 
   header-as : header_of p ≡ header_before p
-  unfolding if◌then◌else◌ header_of header_before
+  unfolding when◌then◌else◌ header_of header_before
   header-as =
-      ap₂ (λ b n. p ∷ (plan_of p).rows ∷ (plan_of p).columns ∷ (if b then 1 else 0) ∷ bytes_of 2 marks_offset ++ bytes_of 2 n) k.narrow offset-as
+      ap₂ (λ b n. p ∷ (plan_of p).rows ∷ (plan_of p).columns ∷ (when b then 1 else 0) ∷ bytes_of 2 marks_offset ++ bytes_of 2 n) k.narrow offset-as
       ∙ ap₂ (λ a b. p ∷ (plan_of p).rows ∷ (plan_of p).columns ∷ 0 ∷ a ++ b) (bytes2-as marks_offset) (bytes2-as (offset_before (plan_before p)))
       ∙ ap (λ (P : Plan). p ∷ P.rows ∷ P.columns ∷ 0 ∷ bytes2 marks_offset ++ bytes2 (offset_before (plan_before p))) k.plan
 

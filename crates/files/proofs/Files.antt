@@ -9,7 +9,7 @@ use borrow.Author.Tests.{le-leb, eq-eqb, ne_eqb}
 use lib.Dec.{T, eqb, leb, ltb, ltb→lt, eqb→eq, le→leb}
 use lib.ListN.{length, get_or, take, drop, length-append, length-take, length-drop, take-append-drop}
 use lib.Seq.{drop_at, take_all, take-add, ext_get_or}
-use Rattle.field.specs.Lists.{if◌then◌else◌}
+use Rattle.field.specs.Lists.{when◌then◌else◌}
 use Rattle.field.proofs.Test.{both_left, both_right, both}
 use Rattle.field.proofs.Words.{EachBelow, ◌&◌}
 use Rattle.fills.specs.Lists.{all, same}
@@ -86,7 +86,7 @@ module _ {p n s : ℕ} {file : List ℕ} (w : Whole p file) (rows : n ≡ (plan_
 
 -- header and length are right, so the tests of marks and symbols are left
 pub whole-tests : {p : ℕ} {file : List ℕ} → Whole p file → content_refusal (plan_of p) (marks_in file) (symbols_in file) ≡ file_refusal file unasked
-unfolding if◌then◌else◌ first_failed unasked file_refusal
+unfolding when◌then◌else◌ first_failed unasked file_refusal
 whole-tests {p} {file} w =
     let long : leb header_size (length file) ≡ true = le-leb header_size (length file) (omega (arith, whole-start w refl refl)) in
     let is-plan : known (plan_in file) ≡ true = ap known (sym w.plan) ∙ is_true _ w.plan-known in
@@ -98,11 +98,11 @@ whole-tests {p} {file} w =
 -- ---- files that are not refused
 
 first_below : (q : ℕ) → 0 < q → (ts : List (ℕ × Bool)) → T (all (λ t. ltb t.0 q) ts) → first_failed ts < q
-unfolding if◌then◌else◌ all first_failed
+unfolding when◌then◌else◌ all first_failed
 first_below q z [] t = z
 first_below q z (x ∷ ts) t = go x.1 (first_below q z ts (both_right (ltb x.0 q) (all (λ t. ltb t.0 q) ts) t))
   where
-    go : (b : Bool) → first_failed ts < q → (if b then first_failed ts else x.0) < q
+    go : (b : Bool) → first_failed ts < q → (when b then first_failed ts else x.0) < q
     go true h = h
     go false h = ltb→lt x.0 q (both_left (ltb x.0 q) (all (λ t. ltb t.0 q) ts) t)
 
@@ -269,7 +269,7 @@ module _ (p : ℕ) (stripe marks old : List ℕ) where
   S = plan_of p
 
   pub room-refused : known p ≡ true → (length old ≡ file_length S → ⊥) → write_refusal p stripe marks old ≡ 11
-  unfolding if◌then◌else◌ first_failed write_refusal
+  unfolding when◌then◌else◌ first_failed write_refusal
   room-refused k h = rw (k, ne_eqb (length old) (file_length S) h, and-false)
 
   pub room_fits : length old ≡ file_length S → write_refusal p stripe marks old ≡ lent_refusal p stripe marks
@@ -286,5 +286,5 @@ module _ (p : ℕ) (stripe marks old : List ℕ) where
   fit-write f e = room_fits e ∙ fit-lent p stripe marks f
 
   pub written : write_refusal p stripe marks old ≡ 0 → write_file p stripe marks old ≡ file_of p stripe marks
-  unfolding if◌then◌else◌ write_file
+  unfolding when◌then◌else◌ write_file
   written e = rw e

@@ -4,7 +4,7 @@ use mathlib.Core.Path.{◌≡◌, ◌∙◌}
 use mathlib.Core.List.{List}
 use lib.Dec.{T, ltb, ltb→lt}
 use lib.ListN.{length, get_or}
-use Rattle.field.specs.Lists.{if◌then◌else◌}
+use Rattle.field.specs.Lists.{when◌then◌else◌}
 use Rattle.field.proofs.Test.{both}
 use Rattle.field.proofs.Words.{EachBelow, at_each}
 use Rattle.plans.specs.Plan.{plan_of}
@@ -21,7 +21,7 @@ unfolding all_below
 bytes_fit l t = at_each (λ x. x < byte_range) l (λ i h. ltb→lt (get_or l i 0) byte_range (all-at (λ x. ltb x byte_range) 0 l t i h))
 
 pub reads-what-was-written : ReadsWhatWasWritten
-unfolding if◌then◌else◌ stripe_fits words_fit read_refusal read_stripe read_marks
+unfolding when◌then◌else◌ stripe_fits words_fit read_refusal read_stripe read_marks
 reads-what-was-written p stripe marks old s m e long words =
     let P = plan_of p in
     let f = (write-fit p stripe marks old e).0 in
@@ -31,7 +31,7 @@ reads-what-was-written p stripe marks old s m e long words =
     rw new (r, rw r (symbols-written p stripe marks f), rw r (marks-written p stripe marks f))
 
 pub writes-what-was-read : WritesWhatWasRead
-unfolding if◌then◌else◌ read_stripe read_marks
+unfolding when◌then◌else◌ read_stripe read_marks
 writes-what-was-read file s m old bytes e long =
     let fit = (read_fits file s m e).0 in
     let w = fit-write (plan_in file) (symbols_in file) (marks_in file) old (read-fit fit) (long ∙ fit.whole) in

@@ -3,7 +3,7 @@ use Prim.Native.Nat.{ℕ}
 use mathlib.Core.Path.{◌≡◌, refl}
 use mathlib.Core.List.{List, [], ◌∷◌, flat_map}
 use lib.ListN.{take, replicate, set}
-use Rattle.field.specs.Lists.{if◌then◌else◌, up_from}
+use Rattle.field.specs.Lists.{when◌then◌else◌, up_from}
 use Rattle.field.specs.Field.{size, gf2, gf64}
 use Rattle.fills.specs.Lists.{all, same, first, rest, beside}
 use Rattle.fills.specs.Marks.{bits_of}
@@ -48,7 +48,7 @@ pub file-order :
     × (read_refusal (with_bytes 20 2 21 1) stripe marks ≡ 13)
     -- 1 under a mark alone, and nothing
     × (read_refusal (with_byte 21 1) stripe marks ≡ 22) × (read_refusal example_file stripe marks ≡ 0)
-unfolding if◌then◌else◌ up_from size gf2 flat_map all same first rest beside bits_of plan1 known no_plan plan_of row_at marks_at marks_of
+unfolding when◌then◌else◌ up_from size gf2 flat_map all same first rest beside bits_of plan1 known no_plan plan_of row_at marks_at marks_of
     first_failed unasked stripe_fits words_fit marks_fit unmarked_below symbols_fit
     bytes_of marks_offset wide_marks word_bytes symbols_offset file_length header_of blanked plan_in number_at marks_in symbols_in file_refusal read_refusal
     example_file with_byte with_bytes
@@ -59,7 +59,7 @@ pub write-order :
     -- an unknown plan, its lengths; no room for the file, a mark bit at column 7; the mark bit, a symbol 2; the symbol alone
     (write_refusal 6 stripe marks file ≡ 10) × (write_refusal 1 stripe (set marks 0 128) [] ≡ 11)
     × (write_refusal 1 (set stripe 0 2) (set marks 0 128) file ≡ 12) × (write_refusal 1 (set stripe 0 2) marks file ≡ 13)
-unfolding if◌then◌else◌ up_from size gf2 all first rest beside bits_of plan1 known no_plan plan_of row_at marks_at
+unfolding when◌then◌else◌ up_from size gf2 all first rest beside bits_of plan1 known no_plan plan_of row_at marks_at
     first_failed unasked stripe_fits words_fit marks_fit unmarked_below symbols_fit marks_offset wide_marks word_bytes symbols_offset file_length write_refusal
 write-order = (refl, refl, refl, refl)
 
@@ -67,6 +67,6 @@ write-order = (refl, refl, refl, refl)
 pub wide-file :
     (header_of 5 ≡ 5 ∷ 8 ∷ 64 ∷ 1 ∷ 8 ∷ 0 ∷ 72 ∷ 0 ∷ []) × (file_length (plan_of 5) ≡ 584)
     × (read_refusal (5 ∷ 8 ∷ 64 ∷ 0 ∷ 8 ∷ 0 ∷ 72 ∷ 0 ∷ []) [] [] ≡ 21)
-unfolding if◌then◌else◌ size gf64 same plan5 binary_plan known plan_of first_failed bytes_of marks_offset wide_marks word_bytes symbols_offset file_length
+unfolding when◌then◌else◌ size gf64 same plan5 binary_plan known plan_of first_failed bytes_of marks_offset wide_marks word_bytes symbols_offset file_length
     header_of plan_in file_refusal read_refusal
 wide-file = (refl, refl, refl)

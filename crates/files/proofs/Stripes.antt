@@ -9,7 +9,7 @@ use lib.Dec.{T, eqb, ltb, nltb→le}
 use lib.ListN.{length, get_or, drop}
 use lib.Pow.{pow_mono}
 use lib.Seq.{take_at, drop_at, drop-drop}
-use Rattle.field.specs.Lists.{if◌then◌else◌, up_from}
+use Rattle.field.specs.Lists.{when◌then◌else◌, up_from}
 use Rattle.field.specs.Field.{size}
 use Rattle.field.proofs.Words.{◌&◌}
 use Rattle.fills.specs.Lists.{first, rest, beside}
@@ -45,10 +45,10 @@ module _ (p : ℕ) where
 
   -- a mark word has at most eight bytes, and a bit for each column
   pub word-bytes-most : word_bytes P ≤ 8
-  unfolding if◌then◌else◌ word_bytes
+  unfolding when◌then◌else◌ word_bytes
   word-bytes-most = go (wide_marks P)
     where
-      go : (b : Bool) → (if b then 8 else 4) ≤ 8
+      go : (b : Bool) → (when b then 8 else 4) ≤ 8
       go true = omega arith
       go false = omega arith
 
@@ -57,10 +57,10 @@ module _ (p : ℕ) where
   words-few size rows = le_trans (le_of_eq (ap₂ ◌*◌ size rows)) (mul-le-mul word-bytes-most (rows-most p))
 
   word_wide : P.columns ≤ 8 * word_bytes P
-  unfolding if◌then◌else◌ wide_marks word_bytes
+  unfolding when◌then◌else◌ wide_marks word_bytes
   word_wide = go (ltb 32 P.columns) refl
     where
-      go : (b : Bool) → ltb 32 P.columns ≡ b → P.columns ≤ 8 * (if b then 8 else 4)
+      go : (b : Bool) → ltb 32 P.columns ≡ b → P.columns ≤ 8 * (when b then 8 else 4)
       go true e = omega (arith, columns-most p)
       go false e = omega (arith, nltb→le 32 P.columns (subst (λ b. T (not b)) (sym e) tt))
 
@@ -68,11 +68,11 @@ module _ (p : ℕ) where
   word_fits h = le_trans h (le_trans (pow_mono word_wide) (le_of_eq (sym (byte_power (word_bytes P)))))
 
   -- byte 3 tells the wide words
-  pub wide-byte : word_bytes P / 8 ≡ (if wide_marks P then 1 else 0)
-  unfolding if◌then◌else◌ word_bytes
+  pub wide-byte : word_bytes P / 8 ≡ (when wide_marks P then 1 else 0)
+  unfolding when◌then◌else◌ word_bytes
   wide-byte = go (wide_marks P)
     where
-      go : (b : Bool) → (if b then 8 else 4) / 8 ≡ (if b then 1 else 0)
+      go : (b : Bool) → (when b then 8 else 4) / 8 ≡ (when b then 1 else 0)
       go true = refl
       go false = refl
 
@@ -89,7 +89,7 @@ module _ (word : ℕ) (row : List ℕ) where
   length-kept = length-beside-bits _ word row
 
   pub get_d_kept : (c : ℕ) → c < length row
-      → (if eqb (word / 2 ^ c % 2) 1 then 0 else get_or row c 0) ≡ get_or (blanked (bits_of (length row) word) row) c 0
+      → (when eqb (word / 2 ^ c % 2) 1 then 0 else get_or row c 0) ≡ get_or (blanked (bits_of (length row) word) row) c 0
   unfolding blanked
   get_d_kept c h = beside-bits-at _ word row c 0 h
 
@@ -107,13 +107,13 @@ blanked-rows P marks stripe =
 
 -- blanked symbols are the same where unmarked
 alike-blanked : (ms : List Bool) (xs : List ℕ) → Alike ms (blanked ms xs) xs
-unfolding if◌then◌else◌ first rest beside blanked
+unfolding when◌then◌else◌ first rest beside blanked
 alike-blanked [] xs = tt
 alike-blanked (true ∷ ms) xs = alike-blanked ms (rest xs)
 alike-blanked (false ∷ ms) xs = (refl, alike-blanked ms (rest xs))
 
 pub blanked-twice : (ms : List Bool) (xs : List ℕ) → blanked ms (blanked ms xs) ≡ blanked ms xs
-unfolding if◌then◌else◌ blanked
+unfolding when◌then◌else◌ blanked
 blanked-twice ms xs = beside-alike _ (λ x y. refl) ms (blanked ms xs) xs (alike-blanked ms xs)
 
 -- a row of lists that are as long as the columns

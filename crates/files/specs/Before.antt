@@ -1,7 +1,7 @@
 -- Stripe files as they were before there were plans 4 and 5, and what is kept: a file of any other plan is written and read as it was then.
 use Rattle.std.specs.Prelude.{ℕ, ◌+◌, ◌*◌, ◌/◌, ◌%◌, ◌^◌, ◌≡◌, ◌≢◌, Bool, ◌&&◌, eqb, ltb, leb, length, take, drop, get_or}
 use mathlib.Core.List.{List, [], ◌∷◌, ◌++◌, map, flat_map}
-use Rattle.field.specs.Lists.{if◌then◌else◌, up_from}
+use Rattle.field.specs.Lists.{when◌then◌else◌, up_from}
 use Rattle.fills.specs.Lists.{same}
 use Rattle.plans.specs.Plan.{Plan, plan1, plan2, plan3, no_plan, marks_of, marks_offset}
 use Rattle.plans.specs.Refusal.{first_failed, stripe_fits, words_fit, marks_fit, symbols_fit}
@@ -50,7 +50,7 @@ write_refusal_before p stripe marks file =
     ∷ (13, symbols_fit P marks stripe) ∷ [])
 
 unfoldable pub write_file_before : ℕ → List ℕ → List ℕ → List ℕ → List ℕ
-write_file_before p stripe marks file = if eqb (write_refusal_before p stripe marks file) 0 then file_before p stripe marks else file
+write_file_before p stripe marks file = when eqb (write_refusal_before p stripe marks file) 0 then file_before p stripe marks else file
 
 -- ---- how it was read
 
@@ -72,10 +72,10 @@ read_refusal_before file stripe marks =
     ∷ (22, same symbols (blanked (marks_of P words) symbols)) ∷ [])
 
 unfoldable pub read_stripe_before : List ℕ → List ℕ → List ℕ → List ℕ
-read_stripe_before file stripe marks = if eqb (read_refusal_before file stripe marks) 0 then symbols_before file else stripe
+read_stripe_before file stripe marks = when eqb (read_refusal_before file stripe marks) 0 then symbols_before file else stripe
 
 unfoldable pub read_marks_before : List ℕ → List ℕ → List ℕ → List ℕ
-read_marks_before file stripe marks = if eqb (read_refusal_before file stripe marks) 0 then marks_before file else marks
+read_marks_before file stripe marks = when eqb (read_refusal_before file stripe marks) 0 then marks_before file else marks
 
 -- ---- what is kept
 

@@ -1,7 +1,7 @@
 -- The stripe file, read and written.
 use Rattle.std.specs.Prelude.{ℕ, ◌+◌, ◌*◌, Bool, ◌&&◌, eqb, leb, length, take, drop, get_or}
 use mathlib.Core.List.{List, [], ◌∷◌, ◌++◌, flat_map}
-use Rattle.field.specs.Lists.{if◌then◌else◌}
+use Rattle.field.specs.Lists.{when◌then◌else◌}
 use Rattle.fills.specs.Lists.{same, beside}
 use Rattle.plans.specs.Plan.{plan_of, known, marks_of, marks_offset, wide_marks, word_bytes, symbols_offset, file_length}
 use Rattle.plans.specs.Refusal.{first_failed, stripe_fits, words_fit, marks_fit, symbols_fit}
@@ -17,11 +17,11 @@ header_size = 8
 unfoldable pub header_of : ℕ → List ℕ
 header_of p =
     let P = plan_of p in
-    p ∷ P.rows ∷ P.columns ∷ (if wide_marks P then 1 else 0) ∷ bytes_of 2 marks_offset ++ bytes_of 2 (symbols_offset P)
+    p ∷ P.rows ∷ P.columns ∷ (when wide_marks P then 1 else 0) ∷ bytes_of 2 marks_offset ++ bytes_of 2 (symbols_offset P)
 
 -- the symbols, with 0 at each marked place
 unfoldable pub blanked : List Bool → List ℕ → List ℕ
-blanked ms xs = beside (λ m x. if m then 0 else x) ms xs
+blanked ms xs = beside (λ m x. when m then 0 else x) ms xs
 
 unfoldable pub file_of : ℕ → List ℕ → List ℕ → List ℕ
 file_of p stripe marks = let P = plan_of p in header_of p ++ flat_map (bytes_of (word_bytes P)) marks ++ blanked (marks_of P marks) stripe
@@ -37,7 +37,7 @@ write_refusal p stripe marks file =
 
 -- what the lent file buffer holds afterwards
 unfoldable pub write_file : ℕ → List ℕ → List ℕ → List ℕ → List ℕ
-write_file p stripe marks file = if eqb (write_refusal p stripe marks file) 0 then file_of p stripe marks else file
+write_file p stripe marks file = when eqb (write_refusal p stripe marks file) 0 then file_of p stripe marks else file
 
 -- ---- reading
 
@@ -67,7 +67,7 @@ read_refusal file stripe marks =
 
 -- what the lent stripe and marks hold afterwards
 unfoldable pub read_stripe : List ℕ → List ℕ → List ℕ → List ℕ
-read_stripe file stripe marks = if eqb (read_refusal file stripe marks) 0 then symbols_in file else stripe
+read_stripe file stripe marks = when eqb (read_refusal file stripe marks) 0 then symbols_in file else stripe
 
 unfoldable pub read_marks : List ℕ → List ℕ → List ℕ → List ℕ
-read_marks file stripe marks = if eqb (read_refusal file stripe marks) 0 then marks_in file else marks
+read_marks file stripe marks = when eqb (read_refusal file stripe marks) 0 then marks_in file else marks

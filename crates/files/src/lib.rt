@@ -1,6 +1,8 @@
 // Stripe files: what one is, and writing one.
+#![tactic(auto)]
+
 ghost use Rattle.std.specs.Prelude.{◌≡◌, ◌/◌, ◌%◌, ◌^◌, ◌<◌, T, eqb, length};
-ghost use Rattle.field.specs.Lists.{if◌then◌else◌};
+ghost use Rattle.field.specs.Lists.{when◌then◌else◌};
 ghost use Rattle.fills.specs.Marks.{bits_of};
 ghost use Rattle.plans.specs.Plan.{plan_of, known, marks_of};
 ghost use Rattle.encoding.specs.Data.{outcome_of};
@@ -41,7 +43,7 @@ pub fn header_of(plan: usize) -> [u8; HEADER]
 // A symbol as a file holds it: 0 where its column is marked.
 fn kept(word: u64, column: usize, symbol: u8) -> u8
     requires { column < word_bits }
-    ensures { result ≡ (if eqb (word / 2 ^ column % 2) 1 then 0 else symbol) }
+    ensures { result ≡ (when eqb (word / 2 ^ column % 2) 1 then 0 else symbol) }
 {
     if words::is_marked(word, column) {
         return 0;

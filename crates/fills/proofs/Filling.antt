@@ -7,7 +7,7 @@ use mathlib.Core.List.{List, [], ◌∷◌, ◌++◌}
 use Prim.Native.Nat.{ℕ}
 use lib.Dec.{T, T_not, not_T}
 use lib.ListN.{length}
-use Rattle.field.specs.Lists.{if◌then◌else◌}
+use Rattle.field.specs.Lists.{when◌then◌else◌}
 use Rattle.field.specs.Field.{Field}
 use Rattle.field.proofs.Test.{both_left, both_right, both}
 use Rattle.fills.specs.Lists.{only, same, zeros, vanish, plus}
@@ -171,7 +171,7 @@ fill-alike F checks target ms v w a =
 -- with the sums of a vector that v agrees with, that vector is the answer, or the columns are dependent
 pub fill-true : (F : Field) (checks : List (List ℕ)) (ms : List Bool) (v x : List ℕ)
     → Alike ms v x → length x ≡ length ms → T (are_symbols F x)
-    → fill F checks (sums_of F checks x) ms v ≡ (if dependent F checks ms then tied else one x)
+    → fill F checks (sums_of F checks x) ms v ≡ (when dependent F checks ms then tied else one x)
 fill-true F checks ms v x a l t =
     let f : Filling F checks (sums_of F checks x) ms v x = record { agrees = alike-agrees F ms v x a l t; meets = refl } in
     if-cases (dependent F checks ms) (λ d. fill-tied F checks (sums_of F checks x) ms v (dependent-in F checks ms d).1 f)

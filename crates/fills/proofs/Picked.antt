@@ -7,7 +7,7 @@ use native.Mathlib.Nat.{suc_inj}
 use native.Mathlib.Omega.{arith}
 use lib.Dec.{T, eqb, eqb→eq}
 use lib.ListN.{length}
-use Rattle.field.specs.Lists.{if◌then◌else◌}
+use Rattle.field.specs.Lists.{when◌then◌else◌}
 use Rattle.field.specs.Field.{◌⊕◌, Field, size, mul, dot}
 use Rattle.field.proofs.Sum.{⊕-assoc, ⊕-self, ⊕-zero, zero-⊕, ⊕-left-comm}
 use Rattle.field.proofs.Laws.{IsField, zero-mul, mul-zero, size-pos, dot-lt}
@@ -34,7 +34,7 @@ put (true ∷ ms) u v = first u ∷ put ms (rest u) (rest v)
 put (false ∷ ms) u v = first v ∷ put ms u (rest v)
 
 pub picked-length : (ms : List Bool) (w : List ℕ) → length (picked ms w) ≡ marked ms
-unfolding if◌then◌else◌ only picked
+unfolding when◌then◌else◌ only picked
 picked-length [] w = refl
 picked-length (true ∷ ms) w = ap suc (picked-length ms (rest w))
 picked-length (false ∷ ms) w = picked-length ms (rest w)

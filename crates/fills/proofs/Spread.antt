@@ -8,7 +8,7 @@ use native.Mathlib.Nat.{le_of_eq, le_of_suc-le-suc, suc_inj}
 use native.Mathlib.Omega.{arith}
 use lib.Dec.{T, T_not, not_T, eqb, eqb→eq, ltb, ltb→lt, lt→ltb, nltb→le}
 use lib.ListN.{length, get_or, length-map}
-use Rattle.field.specs.Lists.{if◌then◌else◌, up_from}
+use Rattle.field.specs.Lists.{when◌then◌else◌, up_from}
 use Rattle.field.specs.Field.{Field, ◌⊕◌, size, mul, inverse, dot}
 use Rattle.field.proofs.Sum.{zero-⊕}
 use Rattle.field.proofs.Laws.{IsField, size-pos, mul-zero, zero-mul}
@@ -53,7 +53,7 @@ put-zeros (false ∷ ms) u = ap (λ l. 0 ∷ l) (put-zeros ms u)
 
 -- where all is 0 after it, they were 0
 put-none : (ms : List Bool) (u : List ℕ) → T (vanish (put ms u [])) → (j : ℕ) → j < marked ms → vec u j ≡ 0
-unfolding if◌then◌else◌ all only vanish first rest put
+unfolding when◌then◌else◌ all only vanish first rest put
 put-none [] u t j l = absurd (omega arith)
 put-none (true ∷ ms) u t zero l = get_or-first u ∙ eqb→eq (first u) 0 (both_left (eqb (first u) 0) (vanish (put ms (rest u) [])) t)
 put-none (true ∷ ms) u t (suc j) l =
@@ -149,7 +149,7 @@ module _ (F : Field) (K : IsField F) where
   -- with the target they are dependent, and not without it
   pub square-met : (checks : List (List ℕ)) (ms : List Bool) (target : List ℕ) → Independent F checks ms → length checks ≤ marked ms
       → length target ≡ length checks → EachBelow (size F) target → (y : List ℕ) × Agrees F ms (zeros ms) y × (sums_of F checks y ≡ target)
-  unfolding if◌then◌else◌ all only zeros vanish rest
+  unfolding when◌then◌else◌ all only zeros vanish rest
   square-met checks ms target free enough long fit =
       let r = wide-dependency (headed target checks) (true ∷ ms) (omega (arith, headed-length target checks)) in go r.0 r.1
     where
@@ -203,7 +203,7 @@ record Front (k : ℕ) (ms : List Bool) : Type 0 where
   count : marked marks ≡ k
 
 front : (k : ℕ) (ms : List Bool) → k ≤ marked ms → Front k ms
-unfolding if◌then◌else◌ only
+unfolding when◌then◌else◌ only
 front zero [] l = record { marks = []; inside = tt; long = refl; count = refl }
 front (suc k) [] l = absurd (omega arith)
 front zero (m ∷ ms) l =

@@ -8,7 +8,7 @@ use Prim.Native.Nat.{ℕ, zero, suc, ◌+◌, ◌<◌, ◌≤◌}
 use native.Mathlib.Nat.{eq-or-lt_of_le}
 use native.Mathlib.Omega.{arith}
 use lib.Dec.{T, eqb, eqb→eq, eqb_refl}
-use Rattle.field.specs.Lists.{if◌then◌else◌, up_from}
+use Rattle.field.specs.Lists.{when◌then◌else◌, up_from}
 use Rattle.field.proofs.Test.{both_left, both_right, both}
 use Rattle.fills.specs.Lists.{any, all, only, same, zeros, vanish, first, rest}
 
@@ -39,8 +39,8 @@ or_right true b t = tt
 or_right false b t = t
 
 -- what is x where the test passes and y where it fails
-pub if-cases : {A : Type 0} (b : Bool) {r x y : A} → (T b → r ≡ x) → (T (not b) → r ≡ y) → r ≡ (if b then x else y)
-unfolding if◌then◌else◌
+pub if-cases : {A : Type 0} (b : Bool) {r x y : A} → (T b → r ≡ x) → (T (not b) → r ≡ y) → r ≡ (when b then x else y)
+unfolding when◌then◌else◌
 if-cases true f g = f tt
 if-cases false f g = g tt
 
@@ -50,13 +50,13 @@ abbrev pub In : {A : Type 0} → A → List A → Type 0
 In a l = Memᴰ a l
 
 -- a member of a list that x may stand before
-if-in : {A : Type 0} (b : Bool) {w x : A} {l : List A} → In w (if b then x ∷ l else l) → (T b × (w ≡ x)) ⊎ In w l
-unfolding if◌then◌else◌
+if-in : {A : Type 0} (b : Bool) {w x : A} {l : List A} → In w (when b then x ∷ l else l) → (T b × (w ≡ x)) ⊎ In w l
+unfolding when◌then◌else◌
 if-in true m = elim (Memᴰ.cases_cons m) [ inl e ↦ inl (tt, e) | inr h ↦ inr h ]
 if-in false m = inr m
 
-in-if : {A : Type 0} (b : Bool) {w x : A} {l : List A} → (T b × (w ≡ x)) ⊎ In w l → In w (if b then x ∷ l else l)
-unfolding if◌then◌else◌
+in-if : {A : Type 0} (b : Bool) {w x : A} {l : List A} → (T b × (w ≡ x)) ⊎ In w l → In w (when b then x ∷ l else l)
+unfolding when◌then◌else◌
 in-if true (inl h) = Memᴰ.head h.1
 in-if true (inr m) = Memᴰ.tail m
 in-if false (inl h) = absurd h.0

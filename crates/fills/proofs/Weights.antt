@@ -11,7 +11,7 @@ use lib.Count.{ones, ones_step}
 use lib.Dec.{T, T_not, eqb}
 use lib.ListN.{length}
 use lib.Pow.{shr_lt}
-use Rattle.field.specs.Lists.{if◌then◌else◌, up_from, weight}
+use Rattle.field.specs.Lists.{when◌then◌else◌, up_from, weight}
 use Rattle.field.specs.Field.{Field, size}
 use Rattle.field.proofs.Sum.{of-bits, bit}
 use Rattle.field.proofs.Ring.{size-pos}
@@ -43,7 +43,7 @@ half_lt n w h = shr_lt n 1 (subst (λ i. w < 2 ^ i) (sym (add-one n)) h)
 
 -- as many as the word has ones
 pub marked-bits : (n w : ℕ) → w < 2 ^ n → marked (bits_of n w) ≡ ones w
-unfolding if◌then◌else◌ up_from only bits_of ones
+unfolding when◌then◌else◌ up_from only bits_of ones
 marked-bits zero w h = ap ones (sym (lt-one h))
 marked-bits (suc n) w h =
     ap marked (bits-step n w) ∙ front (w % 2) (bit w) (bits_of n (w / 2))
@@ -63,7 +63,7 @@ module _ (F : Field) where
   agrees-fit (false ∷ ms) (y ∷ ys) a = (rw a.0 (size-pos F), agrees-fit ms ys a.1)
 
   pub agrees-weight : (ms : List Bool) (w : List ℕ) → Agrees F ms (zeros ms) w → weight w ≤ marked ms
-  unfolding if◌then◌else◌ only zeros first rest weight
+  unfolding when◌then◌else◌ only zeros first rest weight
   agrees-weight [] w a = rw a (omega arith)
   agrees-weight (m ∷ ms) [] a = absurd a
   agrees-weight (true ∷ ms) (zero ∷ ys) a = omega (arith, agrees-weight ms ys a.1)

@@ -1,6 +1,6 @@
 -- Lists and tests over them.
 use Rattle.std.specs.Prelude.{ℕ, Bool, true, false, ◌&&◌, ◌||◌, List, [], ◌∷◌, eqb}
-use Rattle.field.specs.Lists.{if◌then◌else◌}
+use Rattle.field.specs.Lists.{when◌then◌else◌}
 use Rattle.field.specs.Field.{◌⊕◌}
 
 unfoldable pub any : {A : Type 0} → (A → Bool) → List A → Bool
@@ -14,7 +14,7 @@ all p (x ∷ xs) = p x && all p xs
 -- the members that pass the test
 unfoldable pub only : {A : Type 0} → (A → Bool) → List A → List A
 only p [] = []
-only p (x ∷ xs) = if p x then x ∷ only p xs else only p xs
+only p (x ∷ xs) = when p x then x ∷ only p xs else only p xs
 
 unfoldable pub same : List ℕ → List ℕ → Bool
 same [] [] = true

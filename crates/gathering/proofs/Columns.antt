@@ -10,8 +10,8 @@ use borrow.Author.Count.{below_more}
 use borrow.Author.Tests.{eq-eqb, ne_eqb}
 use lib.ListN.{length, set, length-set}
 use lib.Seq.{get_or-set_same, get_or-set_other}
-use Rattle.field.specs.Lists.{if◌then◌else◌}
-use Rattle.field.specs.Field.{Field, ◌⊕◌, size, mul}
+use Rattle.field.specs.Lists.{when◌then◌else◌}
+use Rattle.field.specs.Field.{Field, ◌⊕◌, mul}
 use Rattle.equations.specs.System.{vec, Matrix, ent, inner}
 use Rattle.equations.specs.Words.{bit_at}
 use Rattle.gathering.specs.Steps.{Places, hidden, Copied, Gathered, scattered}
@@ -108,12 +108,12 @@ scattered-off v at x (suc k) c off =
 -- ---- `show`: zeros at the marked places hide what is marked
 
 pub hidden-marked : (marks : ℕ) (v : List ℕ) (c : ℕ) → bit_at marks c ≡ 1 → hidden marks v c ≡ 0
-unfolding hidden if◌then◌else◌
-hidden-marked marks v c e = ap (λ b. if b then 0 else vec v c) (eq-eqb _ _ e)
+unfolding hidden when◌then◌else◌
+hidden-marked marks v c e = ap (λ b. when b then 0 else vec v c) (eq-eqb _ _ e)
 
 pub hidden-unmarked : (marks : ℕ) (v : List ℕ) (c : ℕ) → bit_at marks c ≢ 1 → hidden marks v c ≡ vec v c
-unfolding hidden if◌then◌else◌
-hidden-unmarked marks v c ne = ap (λ b. if b then 0 else vec v c) (ne_eqb _ _ ne)
+unfolding hidden when◌then◌else◌
+hidden-unmarked marks v c ne = ap (λ b. when b then 0 else vec v c) (ne_eqb _ _ ne)
 
 pub scattered-hides : (marks k : ℕ) (v copy : List ℕ) (at x : ℕ → ℕ) → Places marks k at → ((t : ℕ) → t < k → at t < length copy)
     → ((t : ℕ) → t < k → x t ≡ 0) → (c : ℕ) → vec copy c ≡ vec v c → vec (scattered copy at x k) c ≡ hidden marks v c

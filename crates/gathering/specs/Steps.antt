@@ -1,6 +1,6 @@
 -- What the steps of `fill` around the solver ask and say. Assumes nothing.
 use Rattle.std.specs.Prelude.{ℕ, zero, suc, ◌+◌, ◌*◌, ◌^◌, ◌≤◌, ◌<◌, ◌≡◌, ◌≢◌, ◌⊎◌, List, eqb, length, get_or, set}
-use Rattle.field.specs.Lists.{if◌then◌else◌}
+use Rattle.field.specs.Lists.{when◌then◌else◌}
 use Rattle.field.specs.Field.{Field, ◌⊕◌}
 use Rattle.field.specs.Ours.{field_of, table_of}
 use Rattle.equations.specs.System.{vec, Matrix, ent, inner, Elements}
@@ -15,7 +15,7 @@ pub record Places (marks k : ℕ) (at : ℕ → ℕ) : Type 0 where
 
 -- a vector with 0 under the marks
 unfoldable pub hidden : ℕ → List ℕ → ℕ → ℕ
-hidden marks v c = if eqb (bit_at marks c) 1 then 0 else vec v c
+hidden marks v c = when eqb (bit_at marks c) 1 then 0 else vec v c
 
 -- the first t of row i's coefficients at the k places are copied from the checks to row i of the system, and the rest is as it was
 pub record Copied (checks : List ℕ) (n i : ℕ) (at : ℕ → ℕ) (a₀ a : List ℕ) (k t : ℕ) : Type 0 where

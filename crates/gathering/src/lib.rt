@@ -1,4 +1,6 @@
 // The steps of `fill` around its solvers: listing the marked columns, gathering their system, and writing a solution to them.
+#![tactic(auto)]
+
 ghost use Rattle.std.specs.Prelude.{◌≡◌, ℕ, ◌+◌, ◌<◌, ◌≤◌, length};
 ghost use Rattle.field.specs.Field.{◌⊕◌};
 ghost use Rattle.field.specs.Ours.{field_of};

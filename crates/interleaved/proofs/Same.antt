@@ -6,7 +6,7 @@ use mathlib.Core.List.{List, map, map-map}
 use Prim.Native.Nat.{ℕ, suc}
 use lib.Dec.{T, eqb}
 use lib.ListN.{drop}
-use Rattle.field.specs.Lists.{if◌then◌else◌, up_from}
+use Rattle.field.specs.Lists.{when◌then◌else◌, up_from}
 use Rattle.field.specs.Field.{size, dot, gf16}
 use Rattle.field.specs.Power.{power, power_sum}
 use Rattle.fills.specs.Lists.{all, vanish}
@@ -128,7 +128,7 @@ same_code stripe =
     ∙ sym (ap₂ ◌&&◌ (rows_same stripe) (totals-same stripe))
 
 pub same-verdict : SameVerdict
-unfolding if◌then◌else◌ size gf16 plan3 known plan_of first_failed stripe_fits test_refusal tested interleaved_refusal interleaved
+unfolding when◌then◌else◌ size gf16 plan3 known plan_of first_failed stripe_fits test_refusal tested interleaved_refusal interleaved
 same-verdict stripe =
     let n : ℕ = interleaved_refusal stripe in
-    ap (λ b. if eqb n 0 then if b then Yes else No else Refused n) (same_code stripe)
+    ap (λ b. when eqb n 0 then when b then Yes else No else Refused n) (same_code stripe)

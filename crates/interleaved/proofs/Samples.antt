@@ -3,7 +3,7 @@ use mathlib.Core.Path.{◌≡◌, refl}
 use mathlib.Core.List.{List, [], ◌∷◌, map, flat_map}
 use Prim.Native.Nat.{ℕ, ◌/◌, ◌%◌, ◌^◌}
 use lib.ListN.{take, set}
-use Rattle.field.specs.Lists.{if◌then◌else◌, up_from}
+use Rattle.field.specs.Lists.{when◌then◌else◌, up_from}
 use Rattle.field.specs.Field.{◌⊕◌, size, double, times, mul, dot, gf16}
 use Rattle.field.specs.Power.{power, power_sum}
 use Rattle.fills.specs.Lists.{all}
@@ -35,6 +35,6 @@ pub samples :
     × (interleaved (sample 0x4346dfdabe852f5 0x1f2a8115f357270 0xb8e34e8647c73ef) ≡ No)
     -- a symbol too few and a symbol 16; a symbol 16
     × (interleaved (take 119 (set codeword 0 16)) ≡ Refused 11) × (interleaved (set codeword 0 16) ≡ Refused 13)
-unfolding if◌then◌else◌ up_from ◌⊕◌ size double times mul dot gf16 power power_sum flat_map all first_failed all_below
+unfolding when◌then◌else◌ up_from ◌⊕◌ size double times mul dot gf16 power power_sum flat_map all first_failed all_below
     a^ row locations in_code sum plain_sum weighted_sum is_interleaved interleaved_refusal interleaved digits sample codeword
 samples = (refl, refl, refl, refl, refl, refl)

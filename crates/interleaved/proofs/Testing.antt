@@ -7,7 +7,7 @@ use native.Mathlib.Nat.{le_of_eq}
 use native.Mathlib.Omega.{arith}
 use lib.Dec.{T, eqb, lit≤}
 use lib.ListN.{length, get_or, take, drop, replicate, get_or-replicate}
-use Rattle.field.specs.Lists.{if◌then◌else◌, up_from}
+use Rattle.field.specs.Lists.{when◌then◌else◌, up_from}
 use Rattle.field.specs.Field.{◌⊕◌, size, mul, dot, gf16}
 use Rattle.field.specs.Power.{power_sum}
 use Rattle.field.specs.Ours.{field_of, products, table_of}
@@ -35,11 +35,11 @@ use Rattle.interleaved.proofs.Same.{its-ones, power-check, zero_from, in-sums, r
 
 -- the field of this number, and its table
 field-of : field_of field_number ≡ gf16
-unfolding if◌then◌else◌ field_of
+unfolding when◌then◌else◌ field_of
 field-of = refl
 
 its-table : {table : List ℕ} → table ≡ products → table ≡ table_of field_number
-unfolding if◌then◌else◌ table_of
+unfolding when◌then◌else◌ table_of
 its-table e = e
 
 -- the rows before r are added, each with the weight 1
@@ -134,7 +134,7 @@ module _ (stripe : List ℕ) {table : List ℕ} (t : table ≡ products) {count 
   lent = checks-whole put (le_of_eq (full ∙ sym its-room))
 
   pub rows-asked : rows * columns ≤ length stripe → Tested (plan_of 3) table checks stripe
-  unfolding if◌then◌else◌ size gf16 table_of plan3 plan_of
+  unfolding when◌then◌else◌ size gf16 table_of plan3 plan_of
   rows-asked long = record { lent = record { products = t; checks = lent }; long = long }
 
   pub weighted-tested : {weights : List ℕ} → weights ≡ weight_table (plan_of 3) 2 → {s : ℕ}

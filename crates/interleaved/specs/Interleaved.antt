@@ -1,7 +1,7 @@
 -- The code of plan 3 as generalized integrated interleaving (document 001, section V), written from the partner's description alone:
 -- nothing here is read off the plan.
 use Rattle.std.specs.Prelude.{ℕ, suc, ◌*◌, Bool, ◌&&◌, List, [], ◌∷◌, map, eqb, length, take, drop}
-use Rattle.field.specs.Lists.{if◌then◌else◌, up_from}
+use Rattle.field.specs.Lists.{when◌then◌else◌, up_from}
 use Rattle.field.specs.Field.{size, mul, gf16}
 use Rattle.field.specs.Power.{power, power_sum}
 use Rattle.fills.specs.Lists.{all, plus}
@@ -62,4 +62,4 @@ interleaved_refusal stripe = first_failed ((11, eqb (length stripe) (rows * colu
 unfoldable pub interleaved : List ℕ → Verdict
 interleaved stripe =
     let n = interleaved_refusal stripe in
-    if eqb n 0 then if is_interleaved stripe then Yes else No else Refused n
+    when eqb n 0 then when is_interleaved stripe then Yes else No else Refused n

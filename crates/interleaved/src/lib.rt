@@ -1,4 +1,6 @@
 // The codeword test of plan 3 in its interleaved form. It changes nothing.
+#![tactic(auto)]
+
 ghost use Rattle.std.specs.Prelude.{◌≡◌, ◌*◌, ◌≤◌, length};
 ghost use Rattle.field.specs.Field.{dot, gf16};
 ghost use Rattle.plans.specs.Plan.{all_ones};

@@ -1,4 +1,6 @@
 // A script's report and bench as bytes. For our own crates, not for scripts.
+#![tactic(auto)]
+
 ghost use Rattle.std.specs.Prelude.{◌≡◌, ◌++◌, ◌+◌, ◌*◌, T, length, replicate};
 ghost use Rattle.std.proofs.lemmas.List.Edits.{sets};
 ghost use Rattle.plans.specs.Plan.{plan_of};

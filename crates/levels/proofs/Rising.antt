@@ -11,7 +11,7 @@ use lib.Count.{ones}
 use lib.Dec.{ltb}
 use lib.ListN.{length, take, drop, length-append, length-drop}
 use lib.Seq.{take_at}
-use Rattle.field.specs.Lists.{if◌then◌else◌, up_from}
+use Rattle.field.specs.Lists.{when◌then◌else◌, up_from}
 use Rattle.fills.specs.Marks.{bits_of}
 use Rattle.linear.specs.Answer.{answer_of, vector_of}
 use Rattle.fills.specs.Fill.{Fill, none, tied, one, vector_in}
@@ -216,7 +216,7 @@ module _ {p t rows last word j : ℕ} {symbols marks old kept : List ℕ} (s : L
 
 module _ (b : Bench) {n : ℕ} (e : n ≡ bench_refusal b unasked) where
   abbrev step : Bool → Stepped
-  step below = if below then level_step_by b (level_fill b) else stepped b Top
+  step below = when below then level_step_by b (level_fill b) else stepped b Top
 
   abbrev below : Bool
   below = ltb b.level (length (plan_of b.plan).levels)
@@ -226,12 +226,12 @@ module _ (b : Bench) {n : ℕ} (e : n ≡ bench_refusal b unasked) where
   step-refused ne = is-refused n b (step below) ne ∙ ap (λ k. unless_refused k b (step below)) e
 
   pub step-top : n ≡ 0 → length (plan_of b.plan).levels ≤ b.level → stepped b Top ≡ level_step b
-  unfolding if◌then◌else◌ level_step
+  unfolding when◌then◌else◌ level_step
   step-top z h = sym (is-taken b (step below) (sym e ∙ z) ∙ ap step (le-ltb _ _ h))
 
   module _ (z : n ≡ 0) (low : b.level < length (plan_of b.plan).levels) where
     taken : level_step_by b (level_fill b) ≡ level_step b
-    unfolding if◌then◌else◌ level_step
+    unfolding when◌then◌else◌ level_step
     taken = sym (is-taken b (step below) (sym e ∙ z) ∙ ap step (lt-ltb _ _ low))
 
     module _ {r : Learning} {l : List ℕ} (learns : Learns b r l) where

@@ -1,4 +1,6 @@
 // The level step: the rows' sums of the next level, learned from the rows without marks and from the totals.
+#![tactic(auto)]
+
 mod sums;
 
 ghost use Rattle.std.specs.Prelude.{◌≡◌, ◌∷◌, [], map, length};

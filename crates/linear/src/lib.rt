@@ -1,4 +1,6 @@
 // Filling the marked places of a vector so that its sums are the target.
+#![tactic(auto)]
+
 ghost use Rattle.std.specs.Prelude.{◌≡◌, ◌+◌, length};
 ghost use Rattle.field.specs.Ours.{field_of};
 ghost use Rattle.fills.specs.Lists.{same};

@@ -4,7 +4,7 @@ use mathlib.Core.Bool.{Bool, true, false}
 use mathlib.Core.List.{List, [], ◌∷◌}
 use Prim.Native.Nat.{ℕ, zero, suc, ◌<◌}
 use lib.Dec.{T, ltb, ltb→lt, eqb}
-use Rattle.field.specs.Lists.{if◌then◌else◌}
+use Rattle.field.specs.Lists.{when◌then◌else◌}
 use Rattle.field.specs.Field.{size, gf2, gf16, gf256}
 use Rattle.field.specs.Ours.{field_of}
 use Rattle.field.proofs.Test.{both_left, both_right}
@@ -14,10 +14,10 @@ use Rattle.equations.specs.System.{vec, Elements}
 use Rattle.linear_cases.specs.Symbols.{size_by, symbols}
 
 size-by : (q : ℕ) → size_by (eqb q 2) (eqb q 16) ≡ size (field_of q)
-unfolding if◌then◌else◌ field_of size gf2 gf16 gf256
+unfolding when◌then◌else◌ field_of size gf2 gf16 gf256
 size-by q = go (eqb q 2) (eqb q 16)
   where
-    go : (two sixteen : Bool) → size_by two sixteen ≡ size (if two then gf2 else (if sixteen then gf16 else gf256))
+    go : (two sixteen : Bool) → size_by two sixteen ≡ size (when two then gf2 else (when sixteen then gf16 else gf256))
     go true s = refl
     go false true = refl
     go false false = refl

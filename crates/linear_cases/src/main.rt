@@ -1,9 +1,17 @@
 // Systems and vectors with known answers, over GF(2) and GF(16). What the compiled code answers is held to the file `stdout`.
+#![tactic(auto)]
+
 ghost use Rattle.gathering.specs.Most.{most_columns};
 ghost use Rattle.linear_cases.specs.Symbols.{Answerable, Marked};
 
 use field::TABLE;
 use gathering::COLUMNS;
+use std::io::Write;
+
+// Writes a line, or a part of one. What cannot be written is left out: the output then differs from the file `stdout`.
+fn put(out: &mut impl Write, line: &[u8]) {
+    let _ = out.write_all(line);
+}
 
 // 0 to 9, then a to f.
 fn digit(x: u8) -> u8 {
@@ -25,7 +33,7 @@ fn flag(b: bool) -> u8 {
 
 // Answers a system of m equations in k unknowns, and writes a line: whether its columns are dependent, whether it has a solution,
 // a solution, a dependency. The last two are 0 where there is none.
-fn answer(q: usize, system: [u8; 12], m: usize, k: usize)
+fn answer(out: &mut impl Write, q: usize, system: [u8; 12], m: usize, k: usize)
     requires { Answerable q system m k }
 {
     let mut room = [0u8; TABLE];
@@ -45,13 +53,13 @@ fn answer(q: usize, system: [u8; 12], m: usize, k: usize)
         &mut z[..],
     );
     let flags = [flag(s.dependent), flag(s.consistent), b' '];
-    io::write_all(1, &flags);
-    write_symbols(x, b' ');
-    write_symbols(z, b'\n');
+    put(out, &flags);
+    write_symbols(out, x, b' ');
+    write_symbols(out, z, b'\n');
 }
 
 // Writes five symbols, and a byte behind them.
-fn write_symbols(x: [u8; 5], end: u8) {
+fn write_symbols(out: &mut impl Write, x: [u8; 5], end: u8) {
     let line = [
         digit(x[0]),
         digit(x[1]),
@@ -60,7 +68,7 @@ fn write_symbols(x: [u8; 5], end: u8) {
         digit(x[4]),
         end,
     ];
-    io::write_all(1, &line);
+    put(out, &line);
 }
 
 fn outcome(o: linear::FillAnswer) -> u8 {
@@ -72,7 +80,14 @@ fn outcome(o: linear::FillAnswer) -> u8 {
 }
 
 // Fills v by three checks, and writes a line: the outcome, and v after it.
-fn filling(q: usize, checks: [u8; 15], target: [u8; 3], v: [u8; 5], marks: u64)
+fn filling(
+    out: &mut impl Write,
+    q: usize,
+    checks: [u8; 15],
+    target: [u8; 3],
+    v: [u8; 5],
+    marks: u64,
+)
     requires { Marked q 5 checks target marks }
 {
     let mut room = [0u8; TABLE];
@@ -87,12 +102,19 @@ fn filling(q: usize, checks: [u8; 15], target: [u8; 3], v: [u8; 5], marks: u64)
         marks,
     );
     let head = [outcome(o), b' '];
-    io::write_all(1, &head);
-    write_symbols(w, b'\n');
+    put(out, &head);
+    write_symbols(out, w, b'\n');
 }
 
 // Fills as many symbols as `fill` takes by one check, and writes a line: the outcome, and the last two symbols after it.
-fn filling_wide(q: usize, checks: [u8; COLUMNS], target: [u8; 1], v: [u8; COLUMNS], marks: u64)
+fn filling_wide(
+    out: &mut impl Write,
+    q: usize,
+    checks: [u8; COLUMNS],
+    target: [u8; 1],
+    v: [u8; COLUMNS],
+    marks: u64,
+)
     requires { Marked q most_columns checks target marks }
 {
     let mut room = [0u8; TABLE];
@@ -109,33 +131,35 @@ fn filling_wide(q: usize, checks: [u8; COLUMNS], target: [u8; 1], v: [u8; COLUMN
     let other = w[COLUMNS - 2];
     let last = w[COLUMNS - 1];
     let line = [outcome(o), b' ', digit(other), digit(last), b'\n'];
-    io::write_all(1, &line);
+    put(out, &line);
 }
 
-fn main() {
+fn main(rt: HostRuntime) {
+    let mut out = rt.stdout();
     // no columns: consistent, and not
-    answer(2, [0; 12], 3, 0);
-    answer(16, [0, 5, 0, 0, 0, 0, 0, 0, 0, 0, 0, 0], 2, 0);
+    answer(&mut out, 2, [0; 12], 3, 0);
+    answer(&mut out, 16, [0, 5, 0, 0, 0, 0, 0, 0, 0, 0, 0, 0], 2, 0);
     // no equations in two unknowns: dependent and consistent
-    answer(16, [0; 12], 0, 2);
+    answer(&mut out, 16, [0; 12], 0, 2);
     // one solution: x + y = 1, y = 1; 2 x + 3 y = 8, x + y = 7
-    answer(2, [1, 1, 1, 0, 1, 1, 0, 0, 0, 0, 0, 0], 2, 2);
-    answer(16, [2, 3, 8, 1, 1, 7, 0, 0, 0, 0, 0, 0], 2, 2);
+    answer(&mut out, 2, [1, 1, 1, 0, 1, 1, 0, 0, 0, 0, 0, 0], 2, 2);
+    answer(&mut out, 16, [2, 3, 8, 1, 1, 7, 0, 0, 0, 0, 0, 0], 2, 2);
     // a pivot below the first row, and one that is not 1
-    answer(16, [0, 4, 8, 3, 0, 5, 3, 4, 13, 0, 0, 0], 3, 2);
+    answer(&mut out, 16, [0, 4, 8, 3, 0, 5, 3, 4, 13, 0, 0, 0], 3, 2);
     // more columns than rows
-    answer(2, [1, 1, 0, 1, 1, 0, 1, 1, 0, 1, 0, 0], 2, 4);
-    answer(16, [7, 1, 9, 2, 4, 0, 3, 3, 5, 8, 1, 15], 2, 5);
+    answer(&mut out, 2, [1, 1, 0, 1, 1, 0, 1, 1, 0, 1, 0, 0], 2, 4);
+    answer(&mut out, 16, [7, 1, 9, 2, 4, 0, 3, 3, 5, 8, 1, 15], 2, 5);
     // a zero column
-    answer(16, [1, 0, 0, 6, 0, 0, 2, 4, 0, 0, 0, 0], 2, 3);
-    answer(2, [0, 1, 0, 0, 0, 0, 0, 0, 0, 0, 0, 0], 2, 1);
+    answer(&mut out, 16, [1, 0, 0, 6, 0, 0, 2, 4, 0, 0, 0, 0], 2, 3);
+    answer(&mut out, 2, [0, 1, 0, 0, 0, 0, 0, 0, 0, 0, 0, 0], 2, 1);
     // inconsistent, with dependent columns
-    answer(16, [1, 2, 3, 2, 4, 7, 0, 0, 0, 0, 0, 0], 2, 2);
-    answer(2, [1, 1, 0, 1, 1, 1, 0, 0, 0, 0, 0, 0], 2, 2);
+    answer(&mut out, 16, [1, 2, 3, 2, 4, 7, 0, 0, 0, 0, 0, 0], 2, 2);
+    answer(&mut out, 2, [1, 1, 0, 1, 1, 1, 0, 0, 0, 0, 0, 0], 2, 2);
     // inconsistent, with independent columns: more equations than unknowns
-    answer(16, [1, 5, 2, 10, 1, 6, 0, 0, 0, 0, 0, 0], 3, 1);
+    answer(&mut out, 16, [1, 5, 2, 10, 1, 6, 0, 0, 0, 0, 0, 0], 3, 1);
     // nothing marked: the sums are the target, and are not
     filling(
+        &mut out,
         2,
         [1, 1, 1, 1, 1, 0, 1, 0, 1, 0, 1, 0, 1, 0, 1],
         [0, 1, 1],
@@ -143,6 +167,7 @@ fn main() {
         0,
     );
     filling(
+        &mut out,
         16,
         [1, 1, 1, 1, 1, 0, 1, 2, 3, 4, 0, 1, 4, 5, 3],
         [0, 0, 1],
@@ -151,6 +176,7 @@ fn main() {
     );
     // marked: what stands under a mark does not count
     filling(
+        &mut out,
         16,
         [1, 1, 1, 1, 1, 0, 1, 2, 3, 4, 0, 1, 4, 5, 3],
         [0, 0, 0],
@@ -158,6 +184,7 @@ fn main() {
         10,
     );
     filling(
+        &mut out,
         16,
         [1, 1, 1, 1, 1, 0, 1, 2, 3, 4, 0, 1, 4, 5, 3],
         [0, 0, 0],
@@ -165,6 +192,7 @@ fn main() {
         14,
     );
     filling(
+        &mut out,
         2,
         [1, 1, 1, 1, 1, 0, 1, 0, 1, 0, 1, 0, 1, 0, 1],
         [0, 1, 1],
@@ -173,6 +201,7 @@ fn main() {
     );
     // more marks than checks, which are independent
     filling(
+        &mut out,
         16,
         [1, 1, 1, 1, 1, 0, 1, 2, 3, 4, 0, 1, 4, 5, 3],
         [0, 0, 0],
@@ -182,6 +211,7 @@ fn main() {
     // tied rows that nothing fills: the third check is the sum of the others, and the marks stand in equal columns. No vector has the
     // sums; some have, but none with these symbols where unmarked
     filling(
+        &mut out,
         2,
         [1, 1, 1, 1, 1, 0, 1, 0, 1, 0, 1, 0, 1, 0, 1],
         [0, 1, 0],
@@ -189,6 +219,7 @@ fn main() {
         10,
     );
     filling(
+        &mut out,
         2,
         [1, 1, 1, 1, 1, 0, 1, 0, 1, 0, 1, 0, 1, 0, 1],
         [1, 1, 0],
@@ -197,6 +228,7 @@ fn main() {
     );
     // four marks, over the same checks: something fills; nothing does
     filling(
+        &mut out,
         2,
         [1, 1, 1, 1, 1, 0, 1, 0, 1, 0, 1, 0, 1, 0, 1],
         [0, 1, 1],
@@ -204,6 +236,7 @@ fn main() {
         15,
     );
     filling(
+        &mut out,
         2,
         [1, 1, 1, 1, 1, 0, 1, 0, 1, 0, 1, 0, 1, 0, 1],
         [0, 1, 0],
@@ -213,6 +246,7 @@ fn main() {
     // the third check is the second and twice the first, and the last column, marked, is three times the other that is: something
     // fills; nothing does
     filling(
+        &mut out,
         16,
         [1, 1, 1, 1, 3, 0, 1, 2, 3, 3, 2, 3, 0, 1, 5],
         [5, 9, 3],
@@ -220,6 +254,7 @@ fn main() {
         18,
     );
     filling(
+        &mut out,
         16,
         [1, 1, 1, 1, 3, 0, 1, 2, 3, 3, 2, 3, 0, 1, 5],
         [5, 8, 2],
@@ -228,6 +263,7 @@ fn main() {
     );
     // five marks, over the same checks: something fills; nothing does
     filling(
+        &mut out,
         16,
         [1, 1, 1, 1, 3, 0, 1, 2, 3, 3, 2, 3, 0, 1, 5],
         [5, 9, 3],
@@ -235,6 +271,7 @@ fn main() {
         31,
     );
     filling(
+        &mut out,
         16,
         [1, 1, 1, 1, 3, 0, 1, 2, 3, 3, 2, 3, 0, 1, 5],
         [5, 9, 2],
@@ -242,11 +279,53 @@ fn main() {
         31,
     );
     // the last of 64 columns marked
-    filling_wide(2, [1; COLUMNS], [1], [1; COLUMNS], 9223372036854775808);
-    filling_wide(16, [1; COLUMNS], [9], [3; COLUMNS], 9223372036854775808);
+    filling_wide(
+        &mut out,
+        2,
+        [1; COLUMNS],
+        [1],
+        [1; COLUMNS],
+        9223372036854775808,
+    );
+    filling_wide(
+        &mut out,
+        16,
+        [1; COLUMNS],
+        [9],
+        [3; COLUMNS],
+        9223372036854775808,
+    );
     // all 64 marked: something fills; nothing does
-    filling_wide(2, [1; COLUMNS], [1], [1; COLUMNS], 18446744073709551615);
-    filling_wide(16, [1; COLUMNS], [9], [3; COLUMNS], 18446744073709551615);
-    filling_wide(2, [0; COLUMNS], [1], [1; COLUMNS], 18446744073709551615);
-    filling_wide(16, [0; COLUMNS], [9], [3; COLUMNS], 18446744073709551615);
+    filling_wide(
+        &mut out,
+        2,
+        [1; COLUMNS],
+        [1],
+        [1; COLUMNS],
+        18446744073709551615,
+    );
+    filling_wide(
+        &mut out,
+        16,
+        [1; COLUMNS],
+        [9],
+        [3; COLUMNS],
+        18446744073709551615,
+    );
+    filling_wide(
+        &mut out,
+        2,
+        [0; COLUMNS],
+        [1],
+        [1; COLUMNS],
+        18446744073709551615,
+    );
+    filling_wide(
+        &mut out,
+        16,
+        [0; COLUMNS],
+        [9],
+        [3; COLUMNS],
+        18446744073709551615,
+    );
 }

@@ -8,7 +8,7 @@ use borrow.Author.Tests.{le-leb, ne_eqb}
 use lib.Dec.{leb, leb→le, nleb→lt}
 use lib.ListN.{length, take}
 use lib.Seq.{take_all, take-take, length-take-le, get_or-take}
-use Rattle.field.specs.Lists.{if◌then◌else◌}
+use Rattle.field.specs.Lists.{when◌then◌else◌}
 use Rattle.field.specs.Field.{size, gf32, gf64}
 use Rattle.fills.specs.Lists.{all, same}
 use Rattle.fills.proofs.Tests.{either}
@@ -22,19 +22,19 @@ use Rattle.printing.proofs.Printing.{text-refused}
 use Rattle.mend.specs.Input.{longest, NoneLonger, EnoughIsRead}
 
 pub none-longer : NoneLonger
-unfolding if◌then◌else◌ size gf32 gf64 all binary_plan plan1 plan2 plan3 plan4 plan5 no_plan marks_offset wide_marks word_bytes symbols_offset file_length
+unfolding when◌then◌else◌ size gf32 gf64 all binary_plan plan1 plan2 plan3 plan4 plan5 no_plan marks_offset wide_marks word_bytes symbols_offset file_length
 none-longer p = leb→le _ longest (all-plans (λ P. leb (file_length P) longest) tt p)
 
 -- what a file that is too long for every plan is refused by: its plan, then its header, then its length
 unfoldable long_refusal : (p : ℕ) (header : List ℕ) → ℕ
-long_refusal p header = if known p then (if same header (header_of p) then 20 else 21) else 10
+long_refusal p header = when known p then (when same header (header_of p) then 20 else 21) else 10
 
 module _ (file : List ℕ) (h : longest < length file) where
   no_length : length file ≡ file_length (plan_of (plan_in file)) → ⊥
   no_length e = absurd (omega (arith, e, none-longer (plan_in file)))
 
   long-refused : file_refusal file unasked ≡ long_refusal (plan_in file) (take header_size file)
-  unfolding if◌then◌else◌ first_failed file_refusal long_refusal
+  unfolding when◌then◌else◌ first_failed file_refusal long_refusal
   long-refused = rw (le-leb header_size (length file) (omega arith), ne_eqb (length file) (file_length (plan_of (plan_in file))) no_length)
 
   long-printed : printed file ≡ item "refused " (long_refusal (plan_in file) (take header_size file)) ++ line_end

@@ -2,10 +2,13 @@
 // ready, is no different from one that cannot succeed.
 ghost use Rattle.std.specs.Prelude.{◌<◌, ◌≡◌};
 
+use std::thread;
+use std::time::Clock;
+
 #[derive(Drop)]
 pub struct Patience {
     // the second that the clock showed last
-    second: i64,
+    second: u64,
     // how often it may still show another
     changes: usize,
     // how many tries are left
@@ -25,12 +28,12 @@ pub fn fresh() -> Patience
 }
 
 // Lets other programs run, and takes from patience the try that follows.
-pub fn wait(patience: Patience) -> Patience
+pub fn wait(clock: &impl Clock, patience: Patience) -> Patience
     requires { 0 < patience.tries }
     ensures { result.tries < patience.tries }
 {
-    libc::sched_yield();
-    let now = second();
+    thread::yield_now();
+    let now = second(clock);
     let tries = patience.tries - 1;
     let changes = patience.changes;
     if now == patience.second {
@@ -54,8 +57,10 @@ pub fn wait(patience: Patience) -> Patience
     }
 }
 
-// The second that the clock shows.
-fn second() -> i64 {
-    let mut shown = 0i64;
-    libc::time(&mut shown)
+// The second that the clock shows, 0 where it cannot be read.
+fn second(clock: &impl Clock) -> u64 {
+    match clock.since_1970() {
+        Ok(shown) => shown.as_secs(),
+        Err(_) => 0,
+    }
 }

@@ -1,6 +1,6 @@
 -- Which answers are refusals, and by what a buffer of a wrong size is refused. The numbers of the answers stand with the plans.
 use Rattle.std.specs.Prelude.{ℕ, Bool, true, false}
-use Rattle.field.specs.Lists.{if◌then◌else◌}
+use Rattle.field.specs.Lists.{when◌then◌else◌}
 use Rattle.plans.specs.Plan.{known}
 use Rattle.plans.specs.declared.Answer.{Answer}
 use Rattle.plans.specs.declared.Answer.TheVariants.{Restored, Stuck, Clash, Refused}
@@ -13,4 +13,4 @@ refuses (Refused n) = true
 
 -- what a buffer of a wrong size is refused by: an unknown plan is named first
 unfoldable pub unfit : ℕ → ℕ
-unfit p = if known p then 11 else 10
+unfit p = when known p then 11 else 10

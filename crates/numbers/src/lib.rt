@@ -1,4 +1,6 @@
 // The number of each answer. For our own crates, not for scripts.
+#![tactic(auto)]
+
 ghost use Rattle.std.specs.Prelude.{◌≡◌};
 ghost use Rattle.plans.specs.Answers.{answer_number, step_number, outcome_number, verdict_number};
 ghost use Rattle.numbers.specs.Numbers.{unfit, refuses};

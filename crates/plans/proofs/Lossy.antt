@@ -9,7 +9,7 @@ use borrow.Author.Tests.{eq-eqb, ne_eqb}
 use lib.Dec.{eqb, lit<}
 use lib.Pow.{pow_mono}
 use lib.ListN.{get_or}
-use Rattle.field.specs.Lists.{if◌then◌else◌, up_from}
+use Rattle.field.specs.Lists.{when◌then◌else◌, up_from}
 use Rattle.field.proofs.Lists.{map-up-same}
 use Rattle.equations.proofs.Wording.{Wording, wording-start, wording-turn, wording-end, packed-bit, packed_lt}
 use Rattle.fills.specs.Marks.{bits_of}
@@ -21,13 +21,13 @@ lossy_from marks r n = map (λ i. not (eqb (get_or marks i 0) 0)) (up_from r n)
 
 -- 1 where the row has marks
 pub bit_of : List ℕ → ℕ → ℕ
-bit_of marks i = if eqb (get_or marks i 0) 0 then 0 else 1
+bit_of marks i = when eqb (get_or marks i 0) 0 then 0 else 1
 
 is-bit : (marks : List ℕ) (i : ℕ) → (bit_of marks i < 2) × (eqb (bit_of marks i) 1 ≡ not (eqb (get_or marks i 0) 0))
-unfolding bit_of if◌then◌else◌
+unfolding bit_of when◌then◌else◌
 is-bit marks i = go (eqb (get_or marks i 0) 0)
   where
-    go : (b : Bool) → ((if b then 0 else 1) < 2) × (eqb (if b then 0 else 1) 1 ≡ not b)
+    go : (b : Bool) → ((when b then 0 else 1) < 2) × (eqb (when b then 0 else 1) 1 ≡ not b)
     go true = (lit< tt, refl)
     go false = (lit< tt, refl)
 
@@ -44,11 +44,11 @@ module _ (rows : ℕ) (marks : List ℕ) where
   lossy-starts = record { within = omega arith; gathered = wording-start _ _ }
 
   pub lossy-marked : {r word : ℕ} → 0 < r → (get_or marks (r - 1) 0 ≡ 0 → ⊥) → Lossy rows marks r word → Lossy rows marks (r - 1) (word * 2 + 1)
-  unfolding bit_of if◌then◌else◌
+  unfolding bit_of when◌then◌else◌
   lossy-marked pos ne s = record { within = omega (arith, s.within); gathered = wording-turn _ _ _ _ 1 s.gathered pos (rw (ne_eqb _ 0 ne)) }
 
   pub lossy-unmarked : {r word : ℕ} → 0 < r → get_or marks (r - 1) 0 ≡ 0 → Lossy rows marks r word → Lossy rows marks (r - 1) (word * 2)
-  unfolding bit_of if◌then◌else◌
+  unfolding bit_of when◌then◌else◌
   lossy-unmarked {r} {word} pos e s = record {
     within = omega (arith, s.within);
     gathered = subst (Wording (bit_of marks) rows (r - 1)) (add-zero (word * 2)) (wording-turn _ _ _ _ 0 s.gathered pos (rw (eq-eqb _ 0 e)));

@@ -7,7 +7,7 @@ use native.Mathlib.Omega.{arith}
 use borrow.Author.Tests.{eqb-true}
 use lib.Dec.{T, ltb, lt→ltb, ltb→lt}
 use lib.ListN.{length}
-use Rattle.field.specs.Lists.{if◌then◌else◌}
+use Rattle.field.specs.Lists.{when◌then◌else◌}
 use Rattle.field.specs.Field.{Field, size}
 use Rattle.field.proofs.Test.{both, both_left, both_right}
 use Rattle.field.proofs.Words.{Each}
@@ -29,16 +29,16 @@ none-fails = refl
 
 module _ (n : ℕ) {b : Bool} (ts : List (ℕ × Bool)) where
   pub passes : b ≡ true → first_failed ((n, b) ∷ ts) ≡ first_failed ts
-  unfolding if◌then◌else◌ first_failed
+  unfolding when◌then◌else◌ first_failed
   passes e = rw e
 
   pub fails : b ≡ false → first_failed ((n, b) ∷ ts) ≡ n
-  unfolding if◌then◌else◌ first_failed
+  unfolding when◌then◌else◌ first_failed
   fails e = rw e
 
 -- where nothing is refused, each test passed
 pub passed : (n : ℕ) (b : Bool) (ts : List (ℕ × Bool)) → (n ≡ 0 → ⊥) → first_failed ((n, b) ∷ ts) ≡ 0 → (b ≡ true) × (first_failed ts ≡ 0)
-unfolding if◌then◌else◌ first_failed
+unfolding when◌then◌else◌ first_failed
 passed n true ts ne e = (refl, e)
 passed n false ts ne e = absurd (ne e)
 
@@ -59,11 +59,11 @@ none-refused (t ∷ ts) p = passes t.0 ts (is_true t.1 p.0) ∙ none-refused ts 
 
 -- what start and mending refuse, and what a step refuses, is tested in the order
 pub lent-in-order : (p : ℕ) (stripe marks : List ℕ) → T (in_order memory_order (lent_tests p stripe marks))
-unfolding if◌then◌else◌ memory_order has from in_order lent_tests
+unfolding when◌then◌else◌ memory_order has from in_order lent_tests
 lent-in-order p stripe marks = tt
 
 pub bench-in-order : (b : Bench) (row : Bool) → T (in_order memory_order (bench_tests b row))
-unfolding if◌then◌else◌ memory_order has from in_order bench_tests
+unfolding when◌then◌else◌ memory_order has from in_order bench_tests
 bench-in-order b row = tt
 
 -- ---- lengths

@@ -1,7 +1,7 @@
 -- The plans. Row checks and weights are computed from the locations.
 use Rattle.std.specs.Prelude.{ℕ, pred, ◌+◌, ◌*◌, ◌/◌, ◌%◌, ◌^◌, Bool, not, ◌&&◌, ltb, leb, length, take, drop, get_or, replicate}
 use mathlib.Core.List.{List, [], ◌∷◌, ◌++◌, map, flat_map}
-use Rattle.field.specs.Lists.{if◌then◌else◌, up_from, ◌to◌}
+use Rattle.field.specs.Lists.{when◌then◌else◌, up_from, ◌to◌}
 use Rattle.field.specs.Field.{Field, size, dot, gf2, gf16, gf32, gf64, gf256}
 use Rattle.field.specs.Power.{power}
 use Rattle.fills.specs.Lists.{only}
@@ -195,7 +195,7 @@ unfoldable pub wide_marks : Plan → Bool
 wide_marks P = ltb 32 P.columns
 
 unfoldable pub word_bytes : Plan → ℕ
-word_bytes P = if wide_marks P then 8 else 4
+word_bytes P = when wide_marks P then 8 else 4
 
 unfoldable pub symbols_offset : Plan → ℕ
 symbols_offset P = marks_offset + word_bytes P * P.rows

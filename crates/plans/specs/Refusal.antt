@@ -1,6 +1,6 @@
 -- What is refused, by which number, and in which order.
 use Rattle.std.specs.Prelude.{ℕ, ◌*◌, ◌^◌, Bool, true, false, ◌&&◌, ◌||◌, List, [], ◌∷◌, eqb, ltb, leb, length, take, drop}
-use Rattle.field.specs.Lists.{if◌then◌else◌, up_from}
+use Rattle.field.specs.Lists.{when◌then◌else◌, up_from}
 use Rattle.field.specs.Field.{size}
 use Rattle.fills.specs.Lists.{all, beside}
 use Rattle.plans.specs.Plan.{Plan, plan_of, known, checks_to, row_at, marks_at}
@@ -12,7 +12,7 @@ use Rattle.plans.specs.declared.Bench.{Bench}
 -- the number of the first test that fails; 0 where none does
 unfoldable pub first_failed : List (ℕ × Bool) → ℕ
 first_failed [] = 0
-first_failed (t ∷ ts) = if t.1 then first_failed ts else t.0
+first_failed (t ∷ ts) = when t.1 then first_failed ts else t.0
 
 -- the numbers of the tests in memory, in their order
 unfoldable pub memory_order : List ℕ
@@ -25,7 +25,7 @@ has n (m ∷ order) = eqb m n || has n order
 
 unfoldable pub from : ℕ → List ℕ → List ℕ
 from n [] = []
-from n (m ∷ order) = if eqb m n then m ∷ order else from n order
+from n (m ∷ order) = when eqb m n then m ∷ order else from n order
 
 -- whether tests are made in this order
 unfoldable pub in_order : (order : List ℕ) → List (ℕ × Bool) → Bool

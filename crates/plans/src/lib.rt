@@ -1,4 +1,5 @@
 // Rooms, what a bench is, and what each call answers.
+#![tactic(auto)]
 
 // The most rows, columns and symbols that a stripe has; learned sums of a row, and of all rows; weighted totals of a level; numbers in a
 // table of row checks, and in one of weights.

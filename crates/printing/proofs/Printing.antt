@@ -9,7 +9,7 @@ use borrow.Author.Tests.{ltb-true, ne_eqb}
 use lib.Dec.{T, eqb, leb, ltb, leb→le, lt→ltb}
 use lib.ListN.{length, take, get_or, set, replicate, length-set, length-map}
 use lib.Seq.{length-take-le}
-use Rattle.field.specs.Lists.{if◌then◌else◌, up_from}
+use Rattle.field.specs.Lists.{when◌then◌else◌, up_from}
 use Rattle.field.specs.Field.{size}
 use Rattle.field.proofs.Lists.{length_up}
 use Rattle.field.proofs.Test.{both}
@@ -43,11 +43,11 @@ unfolding up_from
 plan-small = of-known (λ p. p < numbers) (omega arith & omega arith & omega arith & omega arith & omega arith & tt)
 
 only-length : (f : Bool → Bool) (l : List Bool) → length (only f l) ≤ length l
-unfolding if◌then◌else◌ only
+unfolding when◌then◌else◌ only
 only-length f [] = omega arith
 only-length f (x ∷ l) = go (f x) (only-length f l)
   where
-    go : (b : Bool) → length (only f l) ≤ length l → length (if b then x ∷ only f l else only f l) ≤ suc (length l)
+    go : (b : Bool) → length (only f l) ≤ length l → length (when b then x ∷ only f l else only f l) ≤ suc (length l)
     go true h = omega arith
     go false h = omega arith
 
@@ -148,13 +148,13 @@ module _ (p n : ℕ) (m : Standing) (a : After p n m) where
   level-reached (Refused k) = later
 
   turn-reached : Reached p (suc n) (take_turn m)
-  unfolding if◌then◌else◌ take_turn
+  unfolding when◌then◌else◌ take_turn
   turn-reached = go (ltb m.turn (plan_of m.bench.plan).rows) refl
     where
       go : (b : Bool) → ltb m.turn (plan_of m.bench.plan).rows ≡ b
           → let r = row_step m.bench m.turn in
           let s = level_step m.bench in
-          Reached p (suc n) (if b then after_row m r.answer r.bench else after_level m s.answer s.bench)
+          Reached p (suc n) (when b then after_row m r.answer r.bench else after_level m s.answer s.bench)
       go true e = row-reached (ltb-true m.turn (plan_of m.bench.plan).rows e) (row_step m.bench m.turn).answer
       go false e = level-reached (level_step m.bench).answer
 
@@ -217,8 +217,8 @@ module _ (p : ℕ) (stripe marks : List ℕ) (e : lent_refusal p stripe marks �
       (all_take (λ x. ltb x numbers) (length P.levels) m.restored (below_each m.restored (λ i. let w = a.few i in omega arith))))
 
   end_below : (m : Standing) → After p most_turns m → (b : Bool)
-      → (answer_number (if b then Restored else Stuck) < numbers) × T (all_below numbers (answer_values (if b then Restored else Stuck) (end_values P (end_report m))))
-  unfolding if◌then◌else◌ answer_number answer_values
+      → (answer_number (when b then Restored else Stuck) < numbers) × T (all_below numbers (answer_values (when b then Restored else Stuck) (end_values P (end_report m))))
+  unfolding when◌then◌else◌ answer_number answer_values
   end_below m a true = (omega arith, end-values m a)
   end_below m a false = (omega arith, end-values m a)
 
@@ -249,7 +249,7 @@ module _ (p : ℕ) (stripe marks : List ℕ) (e : lent_refusal p stripe marks �
 
   pub mend-printable : {r : Report} {s m : List ℕ} → r ≡ mend_report p stripe marks → s ≡ mend_stripe p stripe marks
       → m ≡ mend_marks p stripe marks → Printable p r s m
-  unfolding if◌then◌else◌ mend_report mend_stripe mend_marks
+  unfolding when◌then◌else◌ mend_report mend_stripe mend_marks
   mend-printable er es em = rw (er, es, em) (rw e (turn-printable (mended p stripe marks) reached))
 
   pub report-below : (answer_number (mend_report p stripe marks).answer < numbers) × T (all_below numbers (report_values P (mend_report p stripe marks)))
@@ -266,9 +266,9 @@ text-mended p stripe marks er es em = rw (er, es, em)
 -- ---- the text of a file
 
 pub text-refused : (file : List ℕ) → (file_refusal file unasked ≡ 0 → ⊥) → printed file ≡ item "refused " (file_refusal file unasked) ++ line_end
-unfolding if◌then◌else◌ printed
+unfolding when◌then◌else◌ printed
 text-refused file h = rw (ne_eqb (file_refusal file unasked) 0 h)
 
 pub text-loaded : (file : List ℕ) → file_refusal file unasked ≡ 0 → printed file ≡ mend_text (plan_in file) (symbols_in file) (marks_in file)
-unfolding if◌then◌else◌ printed
+unfolding when◌then◌else◌ printed
 text-loaded file e = rw e

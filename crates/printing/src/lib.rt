@@ -1,4 +1,6 @@
 // The text that mend prints for a stripe file, or for any other bytes.
+#![tactic(auto)]
+
 ghost use Rattle.std.specs.Prelude.{◌≡◌, ◌++◌, ◌≤◌, length};
 ghost use Rattle.plans.specs.Plan.{plan_of};
 ghost use Rattle.plans.specs.Answers.{end_values, report_values};

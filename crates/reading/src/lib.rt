@@ -1,4 +1,6 @@
 // Stripe files: reading one.
+#![tactic(auto)]
+
 ghost use Rattle.std.specs.Prelude.{◌≡◌, length};
 ghost use Rattle.fills.specs.Lists.{«same» as equal};
 ghost use Rattle.plans.specs.Plan.{plan_of, marks_of};

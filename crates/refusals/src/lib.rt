@@ -1,4 +1,6 @@
 // What is refused, by which number and in which order. These tests change nothing.
+#![tactic(auto)]
+
 ghost use Rattle.std.specs.Prelude.{◌≡◌, ◌&&◌, ◌*◌, ◌<◌, ◌≤◌, length};
 ghost use Rattle.fills.specs.Marks.{bits_of};
 ghost use Rattle.plans.specs.Plan.{plan_of};

@@ -10,7 +10,7 @@ use lib.Count.{ones}
 use lib.Dec.{eqb}
 use lib.ListN.{length, take, replicate}
 use lib.Seq.{take-append_seam}
-use Rattle.field.specs.Lists.{if◌then◌else◌}
+use Rattle.field.specs.Lists.{when◌then◌else◌}
 use Rattle.field.proofs.Lists.{map-up-same}
 use Rattle.fills.specs.Lists.{only}
 use Rattle.plans.specs.Plan.{Plan, plan_of, checks_to}
@@ -37,13 +37,13 @@ module _ (p : ℕ) (stripe marks : List ℕ) (n : ℕ) (e : n ≡ lent_refusal p
   Mends r s m = (r ≡ mend_report p stripe marks) × ((s ≡ mend_stripe p stripe marks) × (m ≡ mend_marks p stripe marks))
 
   pub mends-refused : (n ≡ 0 → ⊥) → (r : Report) → r ≡ bare (Unmended n) → Mends r stripe marks
-  unfolding mend_report mend_stripe mend_marks if◌then◌else◌
+  unfolding mend_report mend_stripe mend_marks when◌then◌else◌
   mends-refused ne r q = rw (← e, ne_eqb n 0 ne) (q, (refl, refl))
 
   -- what the rounds came to, where nothing is refused
   mends-by : n ≡ 0 → (t : Turn) → mended p stripe marks ≡ t → (r : Report) (s m : List ℕ)
       → r ≡ turn_report t → s ≡ turn_stripe t stripe → m ≡ turn_marks t marks → Mends r s m
-  unfolding mend_report mend_stripe mend_marks if◌then◌else◌
+  unfolding mend_report mend_stripe mend_marks when◌then◌else◌
   mends-by z t q r s m er es em = rw (← e, eq-eqb n 0 z, q) (er, (es, em))
 
   -- ---- every row has more marks than sums, where this shows that it is tied
@@ -84,7 +84,7 @@ module _ (p : ℕ) (stripe marks : List ℕ) (n : ℕ) (e : n ≡ lent_refusal p
         (sym (take-append_seam stripe _)) (sym (take-append_seam marks _))
       where
         report_of : (left : ℕ) → Report
-        report_of left = record { answer = if eqb left 0 then Restored else Stuck; level = 1; rows = replicate 3 0; left = left }
+        report_of left = record { answer = when eqb left 0 then Restored else Stuck; level = 1; rows = replicate 3 0; left = left }
 
   -- ---- the rounds
 
@@ -101,14 +101,14 @@ module _ (p : ℕ) (stripe marks : List ℕ) (n : ℕ) (e : n ≡ lent_refusal p
 
   module _ (z : n ≡ 0) (r : Report) (symbols words : List ℕ) (o : Ended (mended p stripe marks) r symbols words) where
     pub mends-clash : true ≡ clashes r.answer → Mends r stripe marks
-    unfolding clashes turn_report turn_stripe turn_marks end_report if◌then◌else◌
+    unfolding clashes turn_report turn_stripe turn_marks end_report when◌then◌else◌
     mends-clash h = go (mended p stripe marks) refl o
       where
         go : (t : Turn) → mended p stripe marks ≡ t → Ended t r symbols words → Mends r stripe marks
         go (on m) q w = absurd w
         go (end m) q w = absurd (never (eqb (rows_left m.bench) 0) (h ∙ ap (λ x. clashes x.answer) w.0))
           where
-            never : (c : Bool) → true ≡ clashes (if c then Restored else Stuck) → ⊥
+            never : (c : Bool) → true ≡ clashes (when c then Restored else Stuck) → ⊥
             never true g = let z : ◌≡◌ {A = ℕ} 0 1 = cc in omega arith
             never false g = let z : ◌≡◌ {A = ℕ} 0 1 = cc in omega arith
         go (clash place) q w = mends-by z (clash place) q r stripe marks w refl refl

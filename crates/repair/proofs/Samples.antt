@@ -6,7 +6,7 @@ use mathlib.Core.Path.{◌≡◌, refl}
 use mathlib.Core.Bool.{true, false}
 use mathlib.Core.List.{List, [], ◌∷◌, map, flat_map}
 use lib.ListN.{get_or, replicate, set}
-use Rattle.field.specs.Lists.{if◌then◌else◌, up_from}
+use Rattle.field.specs.Lists.{when◌then◌else◌, up_from}
 use Rattle.field.specs.Field.{◌⊕◌, size, double, times, mul, dot, gf2, gf16, gf32, gf64, gf256}
 use Rattle.field.specs.Power.{power}
 use Rattle.fills.specs.Lists.{all, only, vanish, first, rest, beside}
@@ -60,7 +60,7 @@ pub samples :
     × (is_codeword plan3 sample3 ≡ true) × (is_codeword plan3 (changed 40 9 sample3) ≡ false)
     × (is_codeword plan4 sample4 ≡ true) × (is_codeword plan4 (changed 40 9 sample4) ≡ false)
     × (is_codeword plan5 sample5 ≡ true) × (is_codeword plan5 (changed 126 1 sample5) ≡ false)
-unfolding if◌then◌else◌ up_from ◌⊕◌ size double times mul dot gf2 gf16 gf32 gf64 gf256 power flat_map all vanish bits_of sums_of
+unfolding when◌then◌else◌ up_from ◌⊕◌ size double times mul dot gf2 gf16 gf32 gf64 gf256 power flat_map all vanish bits_of sums_of
     all_ones bit_checks word_of elements power_bits front_and_last binary_plan plan2 plan5 locations3 powers3 plan3 locations4 powers4 weights4 plan4 no_level level_of row_at
     across rows_hold totals_hold is_codeword row_of sample2 sample3 sample4 sample5 changed
 samples = (refl, refl, refl, refl, refl, refl, refl, refl)
@@ -69,7 +69,7 @@ samples = (refl, refl, refl, refl, refl, refl, refl, refl)
 pub sizes :
     (carried plan1 ≡ 15) × (carried plan2 ≡ 198) × (carried plan3 ≡ 98) × (carried plan4 ≡ 253) × (carried plan5 ≡ 444)
     × (file_length plan1 ≡ 41) × (file_length plan2 ≡ 296) × (file_length plan3 ≡ 160) × (file_length plan4 ≡ 344) × (file_length plan5 ≡ 584)
-unfolding if◌then◌else◌ up_from flat_map size gf32 gf64 only bits_of all_ones word_of front_and_last binary_plan plan1 plan2 plan3 plan4 plan5 marks_at marks_of check_places_of carried
+unfolding when◌then◌else◌ up_from flat_map size gf32 gf64 only bits_of all_ones word_of front_and_last binary_plan plan1 plan2 plan3 plan4 plan5 marks_at marks_of check_places_of carried
     marks_offset wide_marks word_bytes symbols_offset file_length
 sizes = (refl, refl, refl, refl, refl, refl, refl, refl, refl, refl)
 
@@ -103,7 +103,7 @@ pub memory-order :
     -- extraction: lengths, a symbol 2; a symbol 2, no codeword; no codeword alone
     × (extract_refusal 1 (set blank 0 2) [] ≡ 11) × (extract_refusal 1 (set (set blank 0 2) 7 1) no_data ≡ 13)
     × (extract_refusal 1 (set blank 0 1) no_data ≡ 16)
-unfolding if◌then◌else◌ up_from ◌⊕◌ size double times mul dot gf2 flat_map all only vanish first rest beside bits_of sums_of
+unfolding when◌then◌else◌ up_from ◌⊕◌ size double times mul dot gf2 flat_map all only vanish first rest beside bits_of sums_of
     all_ones bit_checks word_of locations1 plan1 known no_plan plan_of no_level level_of checks_to row_at marks_at marks_of
     first_failed unasked stripe_fits words_fit marks_fit all_below unmarked_below symbols_fit sums_at sums_fit level_fits lent_tests lent_refusal bench_tests bench_refusal
     across rows_hold totals_hold is_codeword check_places_of carried extract_refusal blank no_marks no_data bench_with
@@ -117,7 +117,7 @@ pub other-orders :
     × (encode_refusal 6 no_data blank ≡ 10) × (encode_refusal 1 (2 ∷ no_data) blank ≡ 11) × (encode_refusal 1 (set no_data 0 2) blank ≡ 13)
     -- extraction: an unknown plan, its lengths
     × (extract_refusal 6 blank no_data ≡ 10)
-unfolding if◌then◌else◌ up_from ◌⊕◌ size double times mul dot gf2 flat_map all only vanish first rest beside bits_of sums_of
+unfolding when◌then◌else◌ up_from ◌⊕◌ size double times mul dot gf2 flat_map all only vanish first rest beside bits_of sums_of
     all_ones bit_checks word_of locations1 plan1 known no_plan plan_of no_level level_of row_at marks_at marks_of
     first_failed unasked stripe_fits words_fit marks_fit all_below unmarked_below symbols_fit
     across rows_hold totals_hold is_codeword test_refusal check_places_of carried encode_refusal extract_refusal blank no_marks no_data

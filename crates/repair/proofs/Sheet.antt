@@ -1,7 +1,7 @@
 -- The bench sheet's table holds, by computation. Assumes nothing.
 use mathlib.Core.Path.{refl}
 use mathlib.Core.List.{flat_map}
-use Rattle.field.specs.Lists.{if◌then◌else◌, up_from}
+use Rattle.field.specs.Lists.{when◌then◌else◌, up_from}
 use Rattle.field.specs.Field.{◌⊕◌, size, double, times, mul, dot, gf2, gf16, gf32}
 use Rattle.field.specs.Power.{power}
 use Rattle.fills.specs.Lists.{any, all, only, same, zeros, vanish, first, rest, beside}
@@ -18,7 +18,7 @@ use Rattle.repair.specs.Encoding.{encoded, encode_stripe}
 use Rattle.repair.specs.Sheet.{restored, stuck, clashed, blank, unchanged, blank_restored, row1, example_stripe, example_marks, example_after, example_data, example_word, cases, done, Sheet}
 
 pub sheet : Sheet
-unfolding if◌then◌else◌ up_from ◌⊕◌ size double times mul dot gf2 gf16 gf32 power flat_map
+unfolding when◌then◌else◌ up_from ◌⊕◌ size double times mul dot gf2 gf16 gf32 power flat_map
     any all only same zeros vanish first rest beside bits_of sums_of options before one_of_each choices loose dependent fillings fill_by fill
     all_ones bit_checks word_of locations1 plan1 known plan_of no_level level_of checks_to row_at marks_at marks_of
     first_failed unasked stripe_fits words_fit marks_fit all_below unmarked_below symbols_fit sums_at sums_fit level_fits lent_tests lent_refusal bench_tests bench_refusal

@@ -1,6 +1,6 @@
 -- Mending in one call: rounds on a bench of its own, until they stop; its report, and what it leaves.
 use Rattle.std.specs.Prelude.{ℕ, List, eqb, length, take}
-use Rattle.field.specs.Lists.{if◌then◌else◌}
+use Rattle.field.specs.Lists.{when◌then◌else◌}
 use Rattle.plans.specs.Refusal.{lent_refusal}
 use Rattle.steps.specs.Steps.{fresh}
 use Rattle.rounds.specs.Reports.{rounds_on, end_report, bare}
@@ -30,10 +30,10 @@ turn_marks (clash place) marks = marks
 -- what mending in one call answers, and what it leaves in the two lent buffers
 unfoldable pub mend_report : ℕ → List ℕ → List ℕ → Report
 mend_report p stripe marks =
-    let n = lent_refusal p stripe marks in if eqb n 0 then turn_report (mended p stripe marks) else bare (Unmended n)
+    let n = lent_refusal p stripe marks in when eqb n 0 then turn_report (mended p stripe marks) else bare (Unmended n)
 
 unfoldable pub mend_stripe : ℕ → List ℕ → List ℕ → List ℕ
-mend_stripe p stripe marks = if eqb (lent_refusal p stripe marks) 0 then turn_stripe (mended p stripe marks) stripe else stripe
+mend_stripe p stripe marks = when eqb (lent_refusal p stripe marks) 0 then turn_stripe (mended p stripe marks) stripe else stripe
 
 unfoldable pub mend_marks : ℕ → List ℕ → List ℕ → List ℕ
-mend_marks p stripe marks = if eqb (lent_refusal p stripe marks) 0 then turn_marks (mended p stripe marks) marks else marks
+mend_marks p stripe marks = when eqb (lent_refusal p stripe marks) 0 then turn_marks (mended p stripe marks) marks else marks

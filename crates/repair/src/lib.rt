@@ -1,4 +1,6 @@
 // The repair library: every call that it offers, and what each answers. Mending in one call and encoding stand here.
+#![tactic(auto)]
+
 ghost use Rattle.std.specs.Prelude.{◌≡◌};
 ghost use Rattle.encoding.specs.Data.{outcome_of, encode_refusal};
 ghost use Rattle.repair.specs.Mending.{mend_report, mend_stripe, mend_marks};

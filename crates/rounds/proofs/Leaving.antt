@@ -8,7 +8,7 @@ use native.Mathlib.Omega.{arith}
 use borrow.Author.Tests.{eq-eqb, ne_eqb}
 use lib.Dec.{eqb}
 use lib.ListN.{length, get_or}
-use Rattle.field.specs.Lists.{if◌then◌else◌, up_from}
+use Rattle.field.specs.Lists.{when◌then◌else◌, up_from}
 use Rattle.fills.specs.Lists.{only}
 
 -- whether row r has marks
@@ -43,7 +43,7 @@ module _ (rows : ℕ) (marks : List ℕ) where
 
   module _ {r left : ℕ} (h : 0 < r) (l : Leaving rows marks r left) where
     pub leaving-marked : (get_or marks (r - 1) 0 ≡ 0 → ⊥) → Leaving rows marks (r - 1) (left + 1)
-    unfolding only if◌then◌else◌
+    unfolding only when◌then◌else◌
     leaving-marked ne = record {
       within = omega (arith, l.within);
       few = omega (arith, l.few, l.within);
@@ -51,7 +51,7 @@ module _ (rows : ℕ) (marks : List ℕ) where
     }
 
     pub leaving-unmarked : get_or marks (r - 1) 0 ≡ 0 → Leaving rows marks (r - 1) left
-    unfolding only if◌then◌else◌
+    unfolding only when◌then◌else◌
     leaving-unmarked z = record {
       within = omega (arith, l.within);
       few = omega (arith, l.few, l.within);

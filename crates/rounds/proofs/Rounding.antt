@@ -9,7 +9,7 @@ use borrow.Author.Tests.{eq-eqb, ne_eqb, lt-ltb, le-ltb}
 use lib.Dec.{eqb, ltb, eqb→eq}
 use lib.ListN.{length, get_or, set, replicate, length-set, length-replicate}
 use lib.Seq.{get_or-set_other}
-use Rattle.field.specs.Lists.{if◌then◌else◌, up_from}
+use Rattle.field.specs.Lists.{when◌then◌else◌, up_from}
 use Rattle.fills.specs.Lists.{all, only}
 use Rattle.plans.specs.Rooms.{learned_room}
 use Rattle.plans.specs.Plan.{plan_of}
@@ -38,12 +38,12 @@ use Rattle.steps.proofs.Turns.{turn-top, turn-blocked, turn-failing, turn-learne
 module _ (p t left : ℕ) (marks restored : List ℕ) (e : left ≡ length (only (λ m. m) (map (lossy_at marks) (up_from 0 (plan_of p).rows)))) where
   pub report-restored : left ≡ 0
       → record { answer = Restored; level = t; rows = restored; left = left } ≡ end_report (standing_of (bench_of p t [] marks []) 0 restored)
-  unfolding end_report rows_left lossy if◌then◌else◌
+  unfolding end_report rows_left lossy when◌then◌else◌
   report-restored z = rw (← e, eq-eqb left 0 z)
 
   pub report-stuck : (left ≡ 0 → ⊥)
       → record { answer = Stuck; level = t; rows = restored; left = left } ≡ end_report (standing_of (bench_of p t [] marks []) 0 restored)
-  unfolding end_report rows_left lossy if◌then◌else◌
+  unfolding end_report rows_left lossy when◌then◌else◌
   report-stuck ne = rw (← e, ne_eqb left 0 ne)
 
 -- ---- the invariant
@@ -93,7 +93,7 @@ module _ {p : ℕ} {symbols₀ marks₀ : List ℕ} where
     abbrev rest : ℕ
     rest = (length (plan_of p).levels - t) * suc (plan_of p).rows
 
-    walked : whole ≡ (if ltb row (plan_of p).rows then clash (Row row t) else turns (suc rest) (standing_of (bench_of p t symbols' marks' sums) (plan_of p).rows (more t filled restored)))
+    walked : whole ≡ (when ltb row (plan_of p).rows then clash (Row row t) else turns (suc rest) (standing_of (bench_of p t symbols' marks' sums) (plan_of p).rows (more t filled restored)))
     walked =
         let turns-split : suc (plan_of p).rows + rest ≡ (plan_of p).rows + suc rest = omega arith in
         R.turned
@@ -102,10 +102,10 @@ module _ {p : ℕ} {symbols₀ marks₀ : List ℕ} where
         ∙ W.turned (suc rest) restored (omega (arith, R.three, R.low, R.high, (shape p R.sound.fit.plan-known).levels-le))
 
     pub rounded-clash : row < (plan_of p).rows → (r : Report) → r ≡ bare (Clash (Row row t)) → Ended whole r symbols' marks'
-    unfolding if◌then◌else◌
+    unfolding when◌then◌else◌
     rounded-clash h r e =
         subst (λ m. Ended m r symbols' marks')
-        (sym (walked ∙ ap (λ c. if c then clash (Row row t) else turns (suc rest) (standing_of (bench_of p t symbols' marks' sums) (plan_of p).rows (more t filled restored))) (lt-ltb row (plan_of p).rows h)))
+        (sym (walked ∙ ap (λ c. when c then clash (Row row t) else turns (suc rest) (standing_of (bench_of p t symbols' marks' sums) (plan_of p).rows (more t filled restored))) (lt-ltb row (plan_of p).rows h)))
         e
 
     module _ (h : (plan_of p).rows ≤ row) where
@@ -116,10 +116,10 @@ module _ {p : ℕ} {symbols₀ marks₀ : List ℕ} where
           ap₂ (λ i n. set restored i (n + filled)) e (R.none_yet (pred t) (omega (arith, R.low))) ∙ ap (set restored (t - 1)) (zero-add filled)
 
       onward : whole ≡ turns (suc rest) (standing_of (bench_of p t symbols' marks' sums) (plan_of p).rows (set restored (t - 1) filled))
-      unfolding if◌then◌else◌
+      unfolding when◌then◌else◌
       onward =
           walked
-          ∙ ap (λ c. if c then clash (Row row t) else turns (suc rest) (standing_of (bench_of p t symbols' marks' sums) (plan_of p).rows (more t filled restored))) (le-ltb row (plan_of p).rows h)
+          ∙ ap (λ c. when c then clash (Row row t) else turns (suc rest) (standing_of (bench_of p t symbols' marks' sums) (plan_of p).rows (more t filled restored))) (le-ltb row (plan_of p).rows h)
           ∙ ap (λ l. turns (suc rest) (standing_of (bench_of p t symbols' marks' sums) (plan_of p).rows l)) counted
 
       sound : Sound (bench_of p t symbols' marks' sums)

@@ -1,6 +1,6 @@
 -- Rounds on a bench, and the reports of how they stop.
 use Rattle.std.specs.Prelude.{ℕ, suc, ◌*◌, eqb, length, replicate}
-use Rattle.field.specs.Lists.{if◌then◌else◌}
+use Rattle.field.specs.Lists.{when◌then◌else◌}
 use Rattle.fills.specs.Lists.{only}
 use Rattle.plans.specs.Plan.{plan_of}
 use Rattle.steps.specs.Steps.{lossy}
@@ -24,7 +24,7 @@ rows_left b = length (only (λ m. m) (lossy (plan_of b.plan) b.marks))
 
 unfoldable pub end_report : Standing → Report
 end_report m = record {
-  answer = if eqb (rows_left m.bench) 0 then Restored else Stuck;
+  answer = when eqb (rows_left m.bench) 0 then Restored else Stuck;
   level = m.bench.level;
   rows = m.restored;
   left = rows_left m.bench;

@@ -1,4 +1,6 @@
 // Rounds of row steps and level steps until they stop, and the report of how they stop.
+#![tactic(auto)]
+
 ghost use Rattle.std.specs.Prelude.{◌≡◌, not, [], map, ◌≤◌, eqb, length, get_or};
 ghost use Rattle.field.specs.Lists.{up_from};
 ghost use Rattle.fills.specs.Lists.{only};

@@ -6,7 +6,7 @@ use borrow.Author.Tests.{eq-eqb, ne_eqb}
 use lib.Dec.{eqb, ltb, ltb→lt}
 use lib.ListN.{length, get_or, set}
 use lib.Seq.{sets}
-use Rattle.field.specs.Lists.{if◌then◌else◌}
+use Rattle.field.specs.Lists.{when◌then◌else◌}
 use Rattle.fills.specs.Fill.{Fill}
 use Rattle.linear.specs.Answer.{answer_of, vector_of}
 use Rattle.linear.specs.declared.FillAnswer.{FillAnswer}
@@ -72,17 +72,17 @@ module _ (b : Bench) (r : ℕ) {n R : ℕ} (rows : R ≡ (plan_of b.plan).rows) 
         abbrev made : Step → Rattle.plans.specs.declared.Stepped.Stepped
         made = stepped (bench_of b.plan b.level symbols (set b.marks r 0) b.sums)
 
-        put : made (if eqb (get_or b.marks r 0) 0 then Whole else Filled) ≡ row_step b r
+        put : made (when eqb (get_or b.marks r 0) 0 then Whole else Filled) ≡ row_step b r
         unfolding row_step_by put_row
         put =
-            let answered = if eqb (get_or b.marks r 0) 0 then Whole else Filled in
+            let answered = when eqb (get_or b.marks r 0) 0 then Whole else Filled in
             ap (λ s. stepped (bench_of b.plan b.level s (set b.marks r 0) b.sums) answered) l
             ∙ sym (ap (row_step_by b r) (answer-one (row_fill b r) (row_at (plan_of b.plan) b.symbols r) (sym answer ∙ k))) ∙ taken
 
         pub step-whole : get_or b.marks r 0 ≡ 0 → made Whole ≡ row_step b r
-        unfolding if◌then◌else◌
-        step-whole z = ap made (sym (ap (λ c. if c then Whole else Filled) (eq-eqb (get_or b.marks r 0) 0 z))) ∙ put
+        unfolding when◌then◌else◌
+        step-whole z = ap made (sym (ap (λ c. when c then Whole else Filled) (eq-eqb (get_or b.marks r 0) 0 z))) ∙ put
 
         pub step-filled : (get_or b.marks r 0 ≡ 0 → ⊥) → made Filled ≡ row_step b r
-        unfolding if◌then◌else◌
-        step-filled ne = ap made (sym (ap (λ c. if c then Whole else Filled) (ne_eqb (get_or b.marks r 0) 0 ne))) ∙ put
+        unfolding when◌then◌else◌
+        step-filled ne = ap made (sym (ap (λ c. when c then Whole else Filled) (ne_eqb (get_or b.marks r 0) 0 ne))) ∙ put

@@ -1,4 +1,6 @@
 // Row steps: a row filled, and the row step of a bench.
+#![tactic(auto)]
+
 ghost use Rattle.std.specs.Prelude.{◌≡◌, ◌*◌};
 ghost use Rattle.std.proofs.lemmas.List.Edits.{sets};
 ghost use Rattle.linear.specs.Answer.{answer_of, vector_of};

@@ -12,7 +12,7 @@ use lib.Dec.{T, eqb, ltb, ltb→lt, nltb→le}
 use lib.ListN.{length, take, drop, get_or, set, replicate, length-append, length-replicate, get_or-replicate}
 use lib.Pow.{pow_pos, pow_mono}
 use lib.Seq.{take-add, take_all, take_at, drop_at, ext_get_or, get_or-append-add, get_or-set_same, get_or-set_other}
-use Rattle.field.specs.Lists.{if◌then◌else◌}
+use Rattle.field.specs.Lists.{when◌then◌else◌}
 use Rattle.fills.specs.Fill.{Fill, tied, none, one}
 use Rattle.fills.proofs.Tests.{either}
 use Rattle.plans.specs.Plan.{Plan, plan_of}
@@ -182,10 +182,10 @@ row-step-of-code b c r = go (bench_refusal b (ltb r (plan_of b.plan).rows)) (row
     go (suc n) f = c
 
 pub level-step-of-code : LevelStepOfCode
-unfolding if◌then◌else◌ stepped unless_refused level_step_by level_step
+unfolding when◌then◌else◌ stepped unless_refused level_step_by level_step
 level-step-of-code b c = go (bench_refusal b unasked) (ltb b.level (length (plan_of b.plan).levels)) (level_fill b)
   where
-    go : (n : ℕ) (low : Bool) (l : Learned) → OfCode (unless_refused n b (if low then level_step_by b l else stepped b Top)).bench
+    go : (n : ℕ) (low : Bool) (l : Learned) → OfCode (unless_refused n b (when low then level_step_by b l else stepped b Top)).bench
     go zero true blocked = c
     go zero true failing = c
     go zero true (learned cs) = raise-of-code b c cs
@@ -203,7 +203,7 @@ module _ (b : Bench) (s : Sized b) (r : ℕ) where
       let sound : Sound b = record { fit = f; room = sized-room b s } in ap (put_row b r) (whole_row b sound r h z row e) ∙ put_whole b sound r h z
 
   row_stays : step_number (row_step b r).answer ≢ 4 → (row_step b r).bench ≡ b
-  unfolding if◌then◌else◌ step_number stepped unless_refused row_step_by row_step
+  unfolding when◌then◌else◌ step_number stepped unless_refused row_step_by row_step
   row_stays h = go (bench_refusal b (ltb r P.rows)) refl (row_fill b r) refl h
     where
       go : (n : ℕ) → bench_refusal b (ltb r P.rows) ≡ n → (f : Fill) → row_fill b r ≡ f
@@ -213,16 +213,16 @@ module _ (b : Bench) (s : Sized b) (r : ℕ) where
       go zero e none q h = refl
       go zero e (one row) q h = by (eqb (get_or b.marks r 0) 0) refl h
         where
-          by : (c : Bool) → eqb (get_or b.marks r 0) 0 ≡ c → step_number (if c then Whole else Filled) ≢ 4 → put_row b r row ≡ b
+          by : (c : Bool) → eqb (get_or b.marks r 0) 0 ≡ c → step_number (when c then Whole else Filled) ≢ 4 → put_row b r row ≡ b
           by true z h =
               let f = bench-fit b (ltb r P.rows) e in put_back f.0 (ltb→lt r P.rows f.1) (eqb-true (get_or b.marks r 0) 0 z) row q
           by false z h = absurd (h refl)
 
 level-stays : (b : Bench) → step_number (level_step b).answer ≢ 6 → (level_step b).bench ≡ b
-unfolding if◌then◌else◌ step_number stepped unless_refused level_step_by level_step
+unfolding when◌then◌else◌ step_number stepped unless_refused level_step_by level_step
 level-stays b h = go (bench_refusal b unasked) (ltb b.level (length (plan_of b.plan).levels)) (level_fill b) h
   where
-    go : (n : ℕ) (c : Bool) (l : Learned) → let s = unless_refused n b (if c then level_step_by b l else stepped b Top) in
+    go : (n : ℕ) (c : Bool) (l : Learned) → let s = unless_refused n b (when c then level_step_by b l else stepped b Top) in
         step_number s.answer ≢ 6 → s.bench ≡ b
     go zero true blocked h = refl
     go zero true failing h = refl

@@ -5,7 +5,7 @@ use mathlib.Core.List.{List, ◌++◌, flat_map}
 use Prim.Native.Nat.{ℕ}
 use native.Mathlib.Omega.{arith}
 use lib.Dec.{eqb}
-use Rattle.field.specs.Lists.{if◌then◌else◌}
+use Rattle.field.specs.Lists.{when◌then◌else◌}
 use Rattle.fills.proofs.Beside.{beside-alike}
 use Rattle.plans.specs.Plan.{plan_of, row_at, marks_at}
 use Rattle.plans.specs.Answers.{answer_number, report_values}
@@ -21,7 +21,7 @@ use Rattle.demands.proofs.Reading.{plan-same, marks-in-same, symbols-alike, refu
 use Rattle.scripts.specs.Printed.{SilentText, SilentPrinting}
 
 grid-same : (p : ℕ) (marks s t : List ℕ) → SameUnmarked p marks s t → grid (plan_of p) s marks ≡ grid (plan_of p) t marks
-unfolding if◌then◌else◌ grid symbol_text shown
+unfolding when◌then◌else◌ grid symbol_text shown
 grid-same p marks s t h =
     let Q = plan_of p in
     let n = symbol_digits Q in
@@ -48,4 +48,4 @@ silent-printing f g h ne ne' =
     ∙ (λ i. mend_text (plan-same f g h i) (symbols_in g) (marks-in-same f g h i)) in
     let same-refusal : file_refusal f unasked ≡ file_refusal g unasked =
     elim (refusal-same f g h {a = unasked} refl) [ inl e ↦ e | inr (inl e) ↦ absurd (ne' e.1) | inr (inr e) ↦ absurd (ne e.0) ] in
-    (λ i. if eqb (same-refusal i) 0 then text i else item "refused " (same-refusal i) ++ line_end)
+    (λ i. when eqb (same-refusal i) 0 then text i else item "refused " (same-refusal i) ++ line_end)

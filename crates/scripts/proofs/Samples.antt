@@ -5,7 +5,7 @@ use Prim.Native.Nat.{ℕ, suc, ◌<◌, ◌≤◌}
 use native.Mathlib.Omega.{arith}
 use lib.Dec.{T}
 use lib.ListN.{length, take, get_or, set, replicate, length-replicate, get_or-replicate}
-use Rattle.field.specs.Lists.{if◌then◌else◌, up_from, ◌to◌}
+use Rattle.field.specs.Lists.{when◌then◌else◌, up_from, ◌to◌}
 use Rattle.fills.specs.Lists.{all, only}
 use Rattle.fills.specs.Marks.{bits_of}
 use Rattle.plans.specs.Plan.{word_of, plan1, plan3, no_plan, known, plan_of, row_at, marks_at}
@@ -67,7 +67,7 @@ abbrev calls : List Call
 calls = step (on_row 0) ∷ step on_level ∷ start 1 example_stripe example_marks ∷ []
 
 calls-numbers : numbers calls (bench_in used) ≡ 10 ∷ 10 ∷ 0 ∷ []
-unfolding if◌then◌else◌ no_plan plan_of known first_failed bench_tests bench_refusal started_by started stepped unless_refused row_step level_step step_number outcome_number
+unfolding when◌then◌else◌ no_plan plan_of known first_failed bench_tests bench_refusal started_by started stepped unless_refused row_step level_step step_number outcome_number
     bench_in used
 calls-numbers = ap (λ n. 10 ∷ 10 ∷ outcome_number (started_by n 1 example_stripe example_marks).answer ∷ []) example.fit
 
@@ -103,7 +103,7 @@ unfoldable pub two_marked : List ℕ
 two_marked = word_of (0 to 2) ∷ word_of (0 to 6) ∷ replicate 6 0
 
 zero-fits : Fit 3 blank3 two_marked
-unfolding if◌then◌else◌ up_from all word_of plan3 known plan_of marks_fit two_marked
+unfolding when◌then◌else◌ up_from all word_of plan3 known plan_of marks_fit two_marked
 zero-fits = fit-lent 3 blank3 two_marked record {
   plan-known = tt;
   long = blank-word.long;
@@ -181,7 +181,7 @@ unfolding fresh bench_marked
 zero-at = record { held = held-fresh 3 blank3 blank3 two_marked zero-fits blank-word (λ i e. refl); level = refl; words = refl }
 
 zero-ends : At 3 blank3 (walk levels_first (fresh 3 blank3 two_marked)) 3 (replicate row_room 0)
-unfolding if◌then◌else◌ up_from only bits_of word_of plan3 plan_of marks_at lossy counts fresh two_marked bench_marked
+unfolding when◌then◌else◌ up_from only bits_of word_of plan3 plan_of marks_at lossy counts fresh two_marked bench_marked
 zero-ends =
     let two = raised 3 blank3 zero-at (omega arith) (weights-independent 3 0 (lossy (plan_of 3) bench_marked) refl (omega arith)) in
     let row = filled 3 blank3 two 0 (omega arith) (few-independent 3 1 (marks_at (plan_of 3) bench_marked 0) refl (omega arith)) in

@@ -3,7 +3,7 @@ use mathlib.Core.Path.{◌≡◌, refl}
 use mathlib.Core.Bool.{true, false}
 use mathlib.Core.List.{[], ◌∷◌, ◌++◌, flat_map}
 use lib.ListN.{replicate}
-use Rattle.field.specs.Lists.{if◌then◌else◌, up_from}
+use Rattle.field.specs.Lists.{when◌then◌else◌, up_from}
 use Rattle.field.specs.Field.{◌⊕◌, size, double, times, mul, dot, gf2, gf64}
 use Rattle.fills.specs.Lists.{any, all, only, same, zeros, vanish, first, rest, beside}
 use Rattle.fills.specs.Marks.{bits_of}
@@ -26,7 +26,7 @@ use Rattle.plans.specs.declared.Place.TheVariants.{Row, Across}
 use Rattle.plans.specs.declared.Answer.TheVariants.{Clash}
 
 pub file-sheet : FileSheet
-unfolding if◌then◌else◌ up_from ◌⊕◌ size double times mul dot gf2 flat_map
+unfolding when◌then◌else◌ up_from ◌⊕◌ size double times mul dot gf2 flat_map
     any all only same zeros vanish first rest beside bits_of sums_of options before one_of_each choices loose dependent fillings fill_by fill
     all_ones bit_checks locations1 plan1 known plan_of no_level level_of checks_to row_at marks_at marks_of
     answer_number end_values answer_values report_values
@@ -42,15 +42,15 @@ file-sheet = record { library = sheet; file_stripe = refl; file_marks = refl; fi
 pub clash-lines :
     (answer_text (Clash (Row 2 1)) (place_values (Row 2 1)) [] ≡ bytes " level 1 place row 2\n")
     × (answer_text (Clash (Across 2)) (place_values (Across 2)) [] ≡ bytes " level 2 place across\n")
-unfolding if◌then◌else◌ place_values bytes digits_in decimal item line_end captioned place_text answer_text
+unfolding when◌then◌else◌ place_values bytes digits_in decimal item line_end captioned place_text answer_text
 clash-lines = (refl, refl)
 
 -- a row of plan 5 that has a mark at its last column: a character for each of its 64 columns
 pub wide-line : shown (symbol_digits plan5) (marks_at plan5 (word_of (63 ∷ []) ∷ []) 0) (row_at plan5 (replicate 64 1) 0) ++ line_end ≡ bytes "111111111111111111111111111111111111111111111111111111111111111?\n"
-unfolding if◌then◌else◌ up_from size gf2 gf64 flat_map first rest beside bits_of word_of binary_plan plan5 row_at marks_at bytes hex hexes line_end symbol_digits symbol_text shown
+unfolding when◌then◌else◌ up_from size gf2 gf64 flat_map first rest beside bits_of word_of binary_plan plan5 row_at marks_at bytes hex hexes line_end symbol_digits symbol_text shown
 wide-line = refl
 
 -- symbols of two digits, the second of them marked
 pub two-digit-line : shown 2 (false ∷ true ∷ false ∷ []) (0xa5 ∷ 0x5a ∷ 0x0f ∷ []) ≡ bytes "a5??0f"
-unfolding if◌then◌else◌ flat_map first rest beside bytes hex hexes symbol_text shown
+unfolding when◌then◌else◌ flat_map first rest beside bytes hex hexes symbol_text shown
 two-digit-line = refl

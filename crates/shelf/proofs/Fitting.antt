@@ -8,7 +8,7 @@ use native.Mathlib.Omega.{arith}
 use borrow.Author.Tests.{ltb-true, eqb-true}
 use lib.Dec.{T, eqb, ltb, ltb→lt, lt→ltb}
 use lib.ListN.{length}
-use Rattle.field.specs.Lists.{if◌then◌else◌}
+use Rattle.field.specs.Lists.{when◌then◌else◌}
 use Rattle.field.proofs.Test.{both_left, both_right, both}
 use Rattle.fills.specs.Lists.{all}
 use Rattle.plans.specs.Plan.{plan_of}
@@ -44,7 +44,7 @@ below-le q r l (x ∷ xs) t =
 
 module _ (p : ℕ) (stripe marks : List ℕ) where
   pub report-fits : {r : Report} → r ≡ mend_report p stripe marks → T (all_below byte_range (report_values (plan_of p) r))
-  unfolding if◌then◌else◌ all all_below answer_values report_values bare mend_report
+  unfolding when◌then◌else◌ all all_below answer_values report_values bare mend_report
   report-fits e = subst (λ r. T (all_below byte_range (report_values (plan_of p) r))) (sym e) (go (eqb (lent_refusal p stripe marks) 0) refl)
     where
       go : (b : Bool) → eqb (lent_refusal p stripe marks) 0 ≡ b → T (all_below byte_range (report_values (plan_of p) (mend_report p stripe marks)))
@@ -64,11 +64,11 @@ start_small p stripe marks e = subst (λ (s : Started). Small s.bench) (sym e) (
 module _ (b : Bench) where
   -- a level that is raised is the plan's last at most
   level-most : b.level < byte_range → (level_step b).bench.level < byte_range
-  unfolding if◌then◌else◌ stepped unless_refused raise level_step_by level_step
+  unfolding when◌then◌else◌ stepped unless_refused raise level_step_by level_step
   level-most h = go (bench_refusal b unasked) refl (ltb b.level (length (plan_of b.plan).levels)) refl (level_fill b)
     where
       go : (n : ℕ) → bench_refusal b unasked ≡ n → (c : Bool) → ltb b.level (length (plan_of b.plan).levels) ≡ c → (l : Learned)
-          → (unless_refused n b (if c then level_step_by b l else stepped b Top)).bench.level < byte_range
+          → (unless_refused n b (when c then level_step_by b l else stepped b Top)).bench.level < byte_range
       go zero e true f blocked = h
       go zero e true f failing = h
       go zero e true f (learned cs) =

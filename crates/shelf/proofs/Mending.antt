@@ -4,7 +4,7 @@ use mathlib.Core.Bool.{true, false}
 use mathlib.Core.List.{List}
 use Prim.Native.Nat.{ℕ}
 use lib.ListN.{length}
-use Rattle.field.specs.Lists.{if◌then◌else◌}
+use Rattle.field.specs.Lists.{when◌then◌else◌}
 use Rattle.plans.specs.Plan.{Plan, plan_of}
 use Rattle.plans.specs.Answers.{answer_number}
 use Rattle.repair.specs.Mending.{mend_report, mend_stripe, mend_marks}
@@ -43,9 +43,9 @@ module _ (p : ℕ) (stripe marks report : List ℕ) where
 
 module _ (P : Plan) (r : Report) (report : List ℕ) where
   pub after-refusal : refuses r.answer ≡ true → report ≡ report_after P r report
-  unfolding report_after if◌then◌else◌
-  after-refusal e = sym (ap (λ b. if b then report else report_bytes P r) e)
+  unfolding report_after when◌then◌else◌
+  after-refusal e = sym (ap (λ b. when b then report else report_bytes P r) e)
 
   pub after-answer : refuses r.answer ≡ false → report_bytes P r ≡ report_after P r report
-  unfolding report_after if◌then◌else◌
-  after-answer e = sym (ap (λ b. if b then report else report_bytes P r) e)
+  unfolding report_after when◌then◌else◌
+  after-answer e = sym (ap (λ b. when b then report else report_bytes P r) e)

@@ -4,18 +4,18 @@ use mathlib.Core.List.{List}
 use Prim.Native.Nat.{ℕ}
 use lib.ListN.{length}
 use borrow.Author.Tests.{eq-eqb, ne_eqb}
-use Rattle.field.specs.Lists.{if◌then◌else◌}
+use Rattle.field.specs.Lists.{when◌then◌else◌}
 use Rattle.texts.specs.Text.{text_room}
 use Rattle.shelf.specs.Calls.{sized, size_room, roomy}
 
 module _ {A : Type 0} (n : ℕ) (buffer : List ℕ) (x y : A) where
   pub sized-fit : length buffer ≡ n → sized n buffer x y ≡ x
-  unfolding sized if◌then◌else◌
-  sized-fit e = ap (λ b. if b then x else y) (eq-eqb (length buffer) n e)
+  unfolding sized when◌then◌else◌
+  sized-fit e = ap (λ b. when b then x else y) (eq-eqb (length buffer) n e)
 
   pub sized-unfit : (length buffer ≡ n → ⊥) → sized n buffer x y ≡ y
-  unfolding sized if◌then◌else◌
-  sized-unfit h = ap (λ b. if b then x else y) (ne_eqb (length buffer) n h)
+  unfolding sized when◌then◌else◌
+  sized-unfit h = ap (λ b. when b then x else y) (ne_eqb (length buffer) n h)
 
 module _ {A : Type 0} (text size : List ℕ) (x y : A) where
   pub roomy-fit : length text ≡ text_room → length size ≡ size_room → roomy text size x y ≡ x

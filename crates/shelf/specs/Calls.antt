@@ -1,6 +1,6 @@
 -- What each call answers and what it leaves in the lent buffers. A report, a bench or a text buffer of another size is refused by 11.
 use Rattle.std.specs.Prelude.{ℕ, List, eqb, length}
-use Rattle.field.specs.Lists.{if◌then◌else◌}
+use Rattle.field.specs.Lists.{when◌then◌else◌}
 use Rattle.plans.specs.Plan.{Plan, plan_of}
 use Rattle.plans.specs.Answers.{answer_number, step_number, outcome_number}
 use Rattle.steps.specs.Steps.{started}
@@ -16,7 +16,7 @@ use Rattle.numbers.specs.Numbers.{unfit, refuses}
 
 -- x where the buffer has the size, else y
 unfoldable pub sized : {A : Type 0} → ℕ → List ℕ → A → A → A
-sized n buffer x y = if eqb (length buffer) n then x else y
+sized n buffer x y = when eqb (length buffer) n then x else y
 
 -- ---- mending in one call
 
@@ -31,7 +31,7 @@ mend_marks_buffer p stripe marks report = sized report_size report (mend_marks p
 
 -- a refusal leaves the report as it was
 unfoldable pub report_after : Plan → Report → List ℕ → List ℕ
-report_after P r report = if refuses r.answer then report else report_bytes P r
+report_after P r report = when refuses r.answer then report else report_bytes P r
 
 unfoldable pub mend_report_buffer : ℕ → (stripe marks report : List ℕ) → List ℕ
 mend_report_buffer p stripe marks report = sized report_size report (report_after (plan_of p) (mend_report p stripe marks) report) report

@@ -1,4 +1,6 @@
-// The repair library under C names, on numbers and lent buffers. Each function answers for every input by its answer's number.
+// The repair library on numbers and lent buffers, as scripts call it. Each function answers for every input by its answer's number.
+#![tactic(auto)]
+
 ghost use Rattle.std.specs.Prelude.{◌≡◌, length};
 ghost use Rattle.plans.specs.Answers.{verdict_number};
 ghost use Rattle.codewords.specs.Codeword.{tested};
@@ -18,8 +20,7 @@ use plans::ROWS;
 const SIZE: usize = 2;
 
 // Starts a bench at level 1 with the stripe and the marks as lent; a refusal makes it a bench of zeros.
-#[unsafe(no_mangle)]
-pub extern "C" fn shelf_start(plan: usize, stripe: &[u8], marks: &[u64], bench: &mut [u8]) -> usize
+pub fn shelf_start(plan: usize, stripe: &[u8], marks: &[u64], bench: &mut [u8]) -> usize
     ensures value { result ≡ start_number plan stripe.now marks.now bench.old }
     ensures bench_after { bench.new ≡ start_buffer plan stripe.now marks.now bench.old }
 {
@@ -34,8 +35,7 @@ pub extern "C" fn shelf_start(plan: usize, stripe: &[u8], marks: &[u64], bench: 
 }
 
 // The row step: fills the row's marked symbols and clears its marks, or leaves the bench as it was. The symbols are filled in the buffer.
-#[unsafe(no_mangle)]
-pub extern "C" fn shelf_row_step(bench: &mut [u8], row: usize) -> usize
+pub fn shelf_row_step(bench: &mut [u8], row: usize) -> usize
     ensures value { result ≡ step_answer (λ b. row_step b row) bench.old }
     ensures bench_after { bench.new ≡ step_buffer (λ b. row_step b row) bench.old }
 {
@@ -64,8 +64,7 @@ pub extern "C" fn shelf_row_step(bench: &mut [u8], row: usize) -> usize
 }
 
 // The level step: learns all rows' sums of the next level and raises the level by one, or leaves the bench as it was.
-#[unsafe(no_mangle)]
-pub extern "C" fn shelf_level_step(bench: &mut [u8]) -> usize
+pub fn shelf_level_step(bench: &mut [u8]) -> usize
     ensures value { result ≡ step_answer level_step bench.old }
     ensures bench_after { bench.new ≡ step_buffer level_step bench.old }
 {
@@ -80,29 +79,21 @@ pub extern "C" fn shelf_level_step(bench: &mut [u8]) -> usize
 }
 
 // Whether a stripe is a codeword.
-#[unsafe(no_mangle)]
-pub extern "C" fn shelf_is_codeword(plan: usize, stripe: &[u8]) -> usize
+pub fn shelf_is_codeword(plan: usize, stripe: &[u8]) -> usize
     ensures { result ≡ verdict_number (tested plan stripe.now) }
 {
     numbers::of_verdict(repair::is_codeword(plan, stripe))
 }
 
 // Whether a stripe is a codeword of plan 3, by its interleaved form.
-#[unsafe(no_mangle)]
-pub extern "C" fn shelf_is_interleaved(stripe: &[u8]) -> usize
+pub fn shelf_is_interleaved(stripe: &[u8]) -> usize
     ensures { result ≡ verdict_number (interleaved stripe.now) }
 {
     numbers::of_verdict(repair::is_interleaved(stripe))
 }
 
 // Mends a stripe in one call and reports beside the answer. A Clash leaves stripe and marks as they were, a refusal the report too.
-#[unsafe(no_mangle)]
-pub extern "C" fn shelf_mend(
-    plan: usize,
-    stripe: &mut [u8],
-    marks: &mut [u64],
-    report: &mut [u8],
-) -> usize
+pub fn shelf_mend(plan: usize, stripe: &mut [u8], marks: &mut [u64], report: &mut [u8]) -> usize
     ensures value { result ≡ mend_number plan stripe.old marks.old report.old }
     ensures stripe_after { stripe.new ≡ mend_stripe_buffer plan stripe.old marks.old report.old }
     ensures marks_after { marks.new ≡ mend_marks_buffer plan stripe.old marks.old report.old }
@@ -123,8 +114,7 @@ pub extern "C" fn shelf_mend(
 }
 
 // Encodes data to a stripe. A refusal leaves the stripe as it was.
-#[unsafe(no_mangle)]
-pub extern "C" fn shelf_encode(plan: usize, data: &[u8], stripe: &mut [u8]) -> usize
+pub fn shelf_encode(plan: usize, data: &[u8], stripe: &mut [u8]) -> usize
     ensures value { result ≡ encode_refusal plan «data».now stripe.old }
     ensures stripe_after { stripe.new ≡ encode_stripe plan «data».now stripe.old }
 {
@@ -132,8 +122,7 @@ pub extern "C" fn shelf_encode(plan: usize, data: &[u8], stripe: &mut [u8]) -> u
 }
 
 // Takes the data out of a stripe. A refusal leaves the data buffer as it was.
-#[unsafe(no_mangle)]
-pub extern "C" fn shelf_extract(plan: usize, stripe: &[u8], data: &mut [u8]) -> usize
+pub fn shelf_extract(plan: usize, stripe: &[u8], data: &mut [u8]) -> usize
     ensures value { result ≡ extract_refusal plan stripe.now «data».old }
     ensures data_after { «data».new ≡ extract_data plan stripe.now «data».old }
 {
@@ -141,8 +130,7 @@ pub extern "C" fn shelf_extract(plan: usize, stripe: &[u8], data: &mut [u8]) -> 
 }
 
 // Reads a stripe file's stripe and marks. A refusal leaves both buffers as they were.
-#[unsafe(no_mangle)]
-pub extern "C" fn shelf_read_file(file: &[u8], stripe: &mut [u8], marks: &mut [u64]) -> usize
+pub fn shelf_read_file(file: &[u8], stripe: &mut [u8], marks: &mut [u64]) -> usize
     ensures value { result ≡ read_refusal file.now stripe.old marks.old }
     ensures stripe_after { stripe.new ≡ read_stripe file.now stripe.old marks.old }
     ensures marks_after { marks.new ≡ read_marks file.now stripe.old marks.old }
@@ -151,13 +139,7 @@ pub extern "C" fn shelf_read_file(file: &[u8], stripe: &mut [u8], marks: &mut [u
 }
 
 // Writes a stripe and its marks as a stripe file, 0 at each marked place. A refusal leaves the file buffer as it was.
-#[unsafe(no_mangle)]
-pub extern "C" fn shelf_write_file(
-    plan: usize,
-    stripe: &[u8],
-    marks: &[u64],
-    file: &mut [u8],
-) -> usize
+pub fn shelf_write_file(plan: usize, stripe: &[u8], marks: &[u64], file: &mut [u8]) -> usize
     ensures value { result ≡ write_refusal plan stripe.now marks.now file.old }
     ensures file_after { file.new ≡ write_file plan stripe.now marks.now file.old }
 {
@@ -174,8 +156,7 @@ fn put_room(room: &[u8; texts::ROOM], out: &mut [u8])
 }
 
 // Writes what `mend` prints for a file into `text`, zeros behind it, and how many bytes it is into `size`.
-#[unsafe(no_mangle)]
-pub extern "C" fn shelf_text(file: &[u8], text: &mut [u8], size: &mut [u8]) -> usize
+pub fn shelf_text(file: &[u8], text: &mut [u8], size: &mut [u8]) -> usize
     ensures value { result ≡ text_number text.old size.old }
     ensures text_after { text.new ≡ text_buffer file.now text.old size.old }
     ensures size_after { size.new ≡ text_size_buffer file.now text.old size.old }

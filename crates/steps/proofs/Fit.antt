@@ -8,7 +8,7 @@ use native.Mathlib.Omega.{arith}
 use lib.Dec.{T, eqb, ltb, leb, eqb→eq, eqb_refl, ltb→lt, lt→ltb, leb→le, le→leb}
 use lib.ListN.{length, take, drop, get_or, replicate, length-append, length-map, length-replicate, take-append-drop, get_or-append}
 use lib.Pow.{pow_pos}
-use Rattle.field.specs.Lists.{if◌then◌else◌, up_from}
+use Rattle.field.specs.Lists.{when◌then◌else◌, up_from}
 use Rattle.field.specs.Field.{size}
 use Rattle.field.proofs.Test.{both_left, both_right, both}
 use Rattle.field.proofs.Ring.{size-pos}
@@ -28,13 +28,13 @@ use Rattle.plans.proofs.Plans.{shape}
 
 -- ---- a choice by a test
 
-pub if-true : {A : Type 0} (b : Bool) (x y : A) → T b → (if b then x else y) ≡ x
-unfolding if◌then◌else◌
+pub if-true : {A : Type 0} (b : Bool) (x y : A) → T b → (when b then x else y) ≡ x
+unfolding when◌then◌else◌
 if-true true x y t = refl
 if-true false x y t = absurd t
 
-pub if-false : {A : Type 0} (b : Bool) (x y : A) → T (not b) → (if b then x else y) ≡ y
-unfolding if◌then◌else◌
+pub if-false : {A : Type 0} (b : Bool) (x y : A) → T (not b) → (when b then x else y) ≡ y
+unfolding when◌then◌else◌
 if-false true x y t = absurd t
 if-false false x y t = refl
 
@@ -44,8 +44,8 @@ pub eq→eqb : (m n : ℕ) → m ≡ n → T (eqb m n)
 eq→eqb m n e = subst (λ k. T (eqb m k)) e (eqb_refl m)
 
 -- a test in the order that is passed
-pub pass : (n : ℕ) (b : Bool) (rest : ℕ) → (if b then rest else suc n) ≡ 0 → T b × (rest ≡ 0)
-unfolding if◌then◌else◌
+pub pass : (n : ℕ) (b : Bool) (rest : ℕ) → (when b then rest else suc n) ≡ 0 → T b × (rest ≡ 0)
+unfolding when◌then◌else◌
 pass n true rest e = (tt, e)
 pass n false rest e = absurd (suc-ne-zero n e)
 

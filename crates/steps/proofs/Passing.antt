@@ -9,7 +9,7 @@ use native.Mathlib.Numerals.{add-one}
 use native.Mathlib.Omega.{arith}
 use lib.Dec.{T, T_not, not_T}
 use lib.ListN.{length, length-append}
-use Rattle.field.specs.Lists.{if◌then◌else◌, up_from}
+use Rattle.field.specs.Lists.{when◌then◌else◌, up_from}
 use Rattle.fills.specs.Lists.{any}
 use Rattle.fills.specs.Fill.{Fill, none, tied, one, is_none}
 use Rattle.fills.proofs.Tests.{In, is_true, is_false, any-in, in-any}
@@ -38,14 +38,14 @@ module _ {A : Type 0} (f : A → Fill) (g : A → List ℕ) (D : Bool) where
 
   -- the three cases of a level
   abbrev pub ends : List A → Learned
-  ends xs = if lacks xs then failing else if D then blocked else learned (map g xs)
+  ends xs = when lacks xs then failing else when D then blocked else learned (map g xs)
 
   -- each check has a filling
   abbrev pub Each : List A → Type 0
   Each xs = (x : A) → In x xs → f x ≡ none → ⊥
 
   by : List A → (c d : Bool) → Learned
-  by xs c d = if c then failing else if d then blocked else learned (map g xs)
+  by xs c d = when c then failing else when d then blocked else learned (map g xs)
 
   none-lacks : (xs : List A) → Each xs → lacks xs ≡ false
   none-lacks xs h =
@@ -56,20 +56,20 @@ module _ {A : Type 0} (f : A → Fill) (g : A → List ℕ) (D : Bool) where
   some-lacks xs x m e = in-any (λ x. is_none (f x)) xs m (subst (λ a. T (is_none a)) (sym e) tt)
 
   pub ends-failing : (xs : List A) (x : A) → In x xs → f x ≡ none → ends xs ≡ failing
-  unfolding if◌then◌else◌ by
+  unfolding when◌then◌else◌ by
   ends-failing xs x m e = ap (λ c. by xs c D) (is_true (lacks xs) (some-lacks xs x m e))
 
   pub ends-blocked : (xs : List A) → Each xs → T D → ends xs ≡ blocked
-  unfolding if◌then◌else◌ by
+  unfolding when◌then◌else◌ by
   ends-blocked xs h t = ap₂ (by xs) (none-lacks xs h) (is_true D t)
 
   pub ends-learned : (xs : List A) → Each xs → T (not D) → ends xs ≡ learned (map g xs)
-  unfolding if◌then◌else◌ by
+  unfolding when◌then◌else◌ by
   ends-learned xs h t = ap₂ (by xs) (none-lacks xs h) (is_false D t)
 
   -- and what each says
   pub blocked-told : (xs : List A) → ends xs ≡ blocked → T D
-  unfolding if◌then◌else◌ by
+  unfolding when◌then◌else◌ by
   blocked-told xs = go (lacks xs) D
     where
       go : (c d : Bool) → by xs c d ≡ blocked → T d
@@ -78,7 +78,7 @@ module _ {A : Type 0} (f : A → Fill) (g : A → List ℕ) (D : Bool) where
       go false false e = let z : ◌≡◌ {A = ℕ} 0 1 = cc in absurd (omega arith)
 
   pub learned-told : (xs : List A) (vs : List (List ℕ)) → ends xs ≡ learned vs → (map g xs ≡ vs) × T (not D) × Each xs
-  unfolding if◌then◌else◌ by
+  unfolding when◌then◌else◌ by
   learned-told xs vs e = let r = go (lacks xs) refl D e in (r.0, r.1, λ x m h. subst T r.2 (some-lacks xs x m h))
     where
       go : (c : Bool) → lacks xs ≡ c → (d : Bool) → by xs c d ≡ learned vs → (map g xs ≡ vs) × T (not d) × (lacks xs ≡ false)

@@ -11,7 +11,7 @@ use lib.Dec.{T, ltb, ltb→lt, lt→ltb, nltb→le}
 use lib.ListN.{length, get_or, length-set}
 use lib.Pow.{pow_pos}
 use lib.Seq.{length-sets, get_or-set_same, get_or-set_other}
-use Rattle.field.specs.Lists.{if◌then◌else◌, up_from}
+use Rattle.field.specs.Lists.{when◌then◌else◌, up_from}
 use Rattle.field.specs.Field.{Field, size, dot}
 use Rattle.field.proofs.Test.{both_left, both_right, both}
 use Rattle.field.proofs.Ring.{size-pos}
@@ -132,10 +132,10 @@ module _ (b : Bench) where
       go (suc n) f = (refl, refl)
 
   pub level-plan : (level_step b).bench.plan ≡ b.plan
-  unfolding if◌then◌else◌ level_step level_step_by unless_refused stepped raise
+  unfolding when◌then◌else◌ level_step level_step_by unless_refused stepped raise
   level-plan = go (bench_refusal b unasked) (ltb b.level (length P.levels)) (level_fill b)
     where
-      go : (n : ℕ) (c : Bool) (l : Learned) → (unless_refused n b (if c then level_step_by b l else stepped b Top)).bench.plan ≡ b.plan
+      go : (n : ℕ) (c : Bool) (l : Learned) → (unless_refused n b (when c then level_step_by b l else stepped b Top)).bench.plan ≡ b.plan
       go zero true failing = refl
       go zero true blocked = refl
       go zero true (learned cs) = refl
@@ -195,10 +195,10 @@ module _ (b : Bench) where
     unfolding row_step unless_refused
     row_step_lem r h = ap (λ n. unless_refused n b (row_step_by b r (row_fill b r))) (fit-bench b (ltb r P.rows) f (lt→ltb r P.rows h))
 
-    pub level-step : level_step b ≡ (if ltb b.level (length P.levels) then level_step_by b (level_fill b) else stepped b Top)
+    pub level-step : level_step b ≡ (when ltb b.level (length P.levels) then level_step_by b (level_fill b) else stepped b Top)
     unfolding unasked level_step unless_refused
     level-step =
-        ap (λ n. unless_refused n b (if ltb b.level (length P.levels) then level_step_by b (level_fill b) else stepped b Top))
+        ap (λ n. unless_refused n b (when ltb b.level (length P.levels) then level_step_by b (level_fill b) else stepped b Top))
         (fit-bench b unasked f tt)
 
     -- ---- a filled row
@@ -335,12 +335,12 @@ module _ (b : Bench) where
         go h (one row) e = sound-put r row h e
 
     pub sound-level : Sound (level_step b).bench
-    unfolding if◌then◌else◌ level_step_by stepped
+    unfolding when◌then◌else◌ level_step_by stepped
     sound-level =
         subst (λ c. Sound c.bench) (sym (level-step s.fit)) (go (ltb b.level (length P.levels)) refl (level_fill b) refl)
       where
         go : (c : Bool) → ltb b.level (length P.levels) ≡ c → (l : Learned) → level_fill b ≡ l
-            → Sound (if c then level_step_by b l else stepped b Top).bench
+            → Sound (when c then level_step_by b l else stepped b Top).bench
         go false q l e = s
         go true q failing e = s
         go true q blocked e = s

@@ -8,7 +8,7 @@ use borrow.Author.Tests.{lt-ltb, le-ltb, eq-eqb, ne_eqb}
 use lib.Dec.{ltb}
 use lib.ListN.{length, get_or, set}
 use lib.Seq.{set-get_or, set-set, get_or-set_same}
-use Rattle.field.specs.Lists.{if◌then◌else◌}
+use Rattle.field.specs.Lists.{when◌then◌else◌}
 use Rattle.fills.specs.Fill.{Fill, tied, none, one}
 use Rattle.plans.specs.Plan.{plan_of}
 use Rattle.steps.specs.Steps.{stepped, row_fill, put_row, row_step_by, Learned, blocked, failing, learned, level_fill, raise, level_step_by}
@@ -44,7 +44,7 @@ module _ (b : Bench) (fit : BenchFit b) (r : ℕ) (inside : r < (plan_of b.plan)
   after_step restored s = after_row (standing_of b r restored) s.answer s.bench
 
   row-turn : (restored : List ℕ) → take_turn (standing_of b r restored) ≡ after_step restored (row_step_by b r (row_fill b r))
-  unfolding take_turn if◌then◌else◌
+  unfolding take_turn when◌then◌else◌
   row-turn restored = rw (lt-ltb r (plan_of b.plan).rows inside) (ap (after_step restored) (row_step_lem b fit r inside))
 
   -- n turns more, after this one
@@ -64,44 +64,44 @@ module _ (b : Bench) (fit : BenchFit b) (r : ℕ) (inside : r < (plan_of b.plan)
   -- a row without marks is left as it is
   pub turn-whole : (row : List ℕ) → row_fill b r ≡ one row → get_or b.marks r 0 ≡ 0 → put_row b r row ≡ b → (n : ℕ) (restored : List ℕ)
       → turns (suc n) (standing_of b r restored) ≡ turns n (standing_of b (suc r) restored)
-  unfolding after_row row_step_by stepped go_on if◌then◌else◌
+  unfolding after_row row_step_by stepped go_on when◌then◌else◌
   turn-whole row e z same n restored =
       row-turns n restored (one row) e
-      ∙ ap (λ c. go_on (turns n) (after_step restored (stepped (put_row b r row) (if c then Whole else Filled)))) (eq-eqb (get_or b.marks r 0) 0 z)
+      ∙ ap (λ c. go_on (turns n) (after_step restored (stepped (put_row b r row) (when c then Whole else Filled)))) (eq-eqb (get_or b.marks r 0) 0 z)
       ∙ ap (λ c. turns n (standing_of c (suc r) restored)) same
 
   pub turn-filled : (row : List ℕ) → row_fill b r ≡ one row → (get_or b.marks r 0 ≡ 0 → ⊥) → (n k : ℕ) (restored : List ℕ) → pred b.level < length restored
       → turns (suc n) (standing_of b r (more b.level k restored)) ≡ turns n (standing_of (put_row b r row) (suc r) (more b.level (suc k) restored))
-  unfolding after_row row_step_by stepped go_on if◌then◌else◌
+  unfolding after_row row_step_by stepped go_on when◌then◌else◌
   turn-filled row e nz n k restored h =
       row-turns n (more b.level k restored) (one row) e
-      ∙ ap (λ c. go_on (turns n) (after_step (more b.level k restored) (stepped (put_row b r row) (if c then Whole else Filled)))) (ne_eqb (get_or b.marks r 0) 0 nz)
+      ∙ ap (λ c. go_on (turns n) (after_step (more b.level k restored) (stepped (put_row b r row) (when c then Whole else Filled)))) (ne_eqb (get_or b.marks r 0) 0 nz)
       ∙ ap (λ l. turns n (standing_of (put_row b r row) (suc r) l)) (more-one b.level k restored h)
 
 -- ---- the level step's turn
 
 module _ (b : Bench) (fit : BenchFit b) where
   level-turns : (n : ℕ) (restored : List ℕ) (s : Stepped)
-      → (if ltb b.level (length (plan_of b.plan).levels) then level_step_by b (level_fill b) else stepped b Top) ≡ s
+      → (when ltb b.level (length (plan_of b.plan).levels) then level_step_by b (level_fill b) else stepped b Top) ≡ s
       → turns (suc n) (standing_of b (plan_of b.plan).rows restored)
       ≡ go_on (turns n) (after_level (standing_of b (plan_of b.plan).rows restored) s.answer s.bench)
-  unfolding turns take_turn if◌then◌else◌
+  unfolding turns take_turn when◌then◌else◌
   level-turns n restored s e =
       rw (le-ltb (plan_of b.plan).rows (plan_of b.plan).rows (le_refl (plan_of b.plan).rows), level-step b fit ∙ e)
 
   pub turn-top : b.level ≡ length (plan_of b.plan).levels → (n : ℕ) (restored : List ℕ)
       → turns (suc n) (standing_of b (plan_of b.plan).rows restored) ≡ end (standing_of b (plan_of b.plan).rows restored)
-  unfolding if◌then◌else◌ stepped after_level go_on
+  unfolding when◌then◌else◌ stepped after_level go_on
   turn-top e n restored =
       level-turns n restored (stepped b Top)
-      (ap (λ c. if c then level_step_by b (level_fill b) else stepped b Top) (le-ltb b.level (length (plan_of b.plan).levels) (omega arith)))
+      (ap (λ c. when c then level_step_by b (level_fill b) else stepped b Top) (le-ltb b.level (length (plan_of b.plan).levels) (omega arith)))
 
   module _ (low : b.level < length (plan_of b.plan).levels) where
     below_top : (l : Learned) → level_fill b ≡ l
-        → (if ltb b.level (length (plan_of b.plan).levels) then level_step_by b (level_fill b) else stepped b Top) ≡ level_step_by b l
-    unfolding if◌then◌else◌
+        → (when ltb b.level (length (plan_of b.plan).levels) then level_step_by b (level_fill b) else stepped b Top) ≡ level_step_by b l
+    unfolding when◌then◌else◌
     below_top l e =
-        ap (λ c. if c then level_step_by b (level_fill b) else stepped b Top) (lt-ltb b.level (length (plan_of b.plan).levels) low)
+        ap (λ c. when c then level_step_by b (level_fill b) else stepped b Top) (lt-ltb b.level (length (plan_of b.plan).levels) low)
         ∙ ap (level_step_by b) e
 
     pub turn-blocked : level_fill b ≡ blocked → (n : ℕ) (restored : List ℕ)

@@ -1,6 +1,6 @@
 -- Rounds of steps. A round is taken turn by turn: rows 0 to R - 1, then the level step.
 use Rattle.std.specs.Prelude.{ℕ, zero, suc, pred, ◌+◌, List, ltb, get_or, set}
-use Rattle.field.specs.Lists.{if◌then◌else◌}
+use Rattle.field.specs.Lists.{when◌then◌else◌}
 use Rattle.plans.specs.Plan.{plan_of}
 use Rattle.steps.specs.Steps.{row_step, level_step}
 use Rattle.plans.specs.declared.Bench.{Bench}
@@ -55,7 +55,7 @@ unfoldable pub take_turn : Standing → Turn
 take_turn m =
     let r = row_step m.bench m.turn in
     let s = level_step m.bench in
-    if ltb m.turn (plan_of m.bench.plan).rows
+    when ltb m.turn (plan_of m.bench.plan).rows
     then after_row m r.answer r.bench
     else after_level m s.answer s.bench
 

@@ -1,7 +1,7 @@
 -- The bench and its steps.
 use Rattle.std.specs.Prelude.{ℕ, zero, suc, ◌*◌, ◌-◌, Bool, not, List, [], ◌∷◌, ◌++◌, map, eqb, ltb, length, take, drop, get_or, set, replicate}
 use Rattle.std.proofs.lemmas.List.Edits.{sets}
-use Rattle.field.specs.Lists.{if◌then◌else◌, up_from}
+use Rattle.field.specs.Lists.{when◌then◌else◌, up_from}
 use Rattle.fills.specs.Lists.{any, zeros}
 use Rattle.fills.specs.Fill.{dependent, Fill, none, tied, one, fill, is_none, vector_in}
 use Rattle.plans.specs.Plan.{Plan, plan_of, level_of, checks_to, row_at, marks_at, across}
@@ -68,7 +68,7 @@ put_row b r row = record {
 unfoldable pub row_step_by : Bench → ℕ → Fill → Stepped
 row_step_by b r none = stepped b Clash
 row_step_by b r tied = stepped b Tied
-row_step_by b r (one row) = stepped (put_row b r row) (if eqb (get_or b.marks r 0) 0 then Whole else Filled)
+row_step_by b r (one row) = stepped (put_row b r row) (when eqb (get_or b.marks r 0) 0 then Whole else Filled)
 
 unfoldable pub row_step : Bench → ℕ → Stepped
 row_step b r = unless_refused (bench_refusal b (ltb r (plan_of b.plan).rows)) b (row_step_by b r (row_fill b r))
@@ -96,8 +96,8 @@ unfoldable pub level_fill : Bench → Learned
 level_fill b =
     let P = plan_of b.plan in
     let L = level_of P (suc b.level) in
-    if any (λ c. is_none (check_fill b c)) L.checks then failing
-    else if dependent P.field L.weights (lossy P b.marks) then blocked
+    when any (λ c. is_none (check_fill b c)) L.checks then failing
+    else when dependent P.field L.weights (lossy P b.marks) then blocked
     else learned (map (λ c. vector_in (check_fill b c)) L.checks)
 
 -- the new sums of row r, one for each check
@@ -129,4 +129,4 @@ level_step_by b (learned cs) = stepped (raise b cs) Raised
 unfoldable pub level_step : Bench → Stepped
 level_step b =
     unless_refused (bench_refusal b unasked) b
-    (if ltb b.level (length (plan_of b.plan).levels) then level_step_by b (level_fill b) else stepped b Top)
+    (when ltb b.level (length (plan_of b.plan).levels) then level_step_by b (level_fill b) else stepped b Top)

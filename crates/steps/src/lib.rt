@@ -1,4 +1,6 @@
 // A bench started.
+#![tactic(auto)]
+
 pub mod copies;
 
 ghost use Rattle.std.specs.Prelude.{◌≡◌};

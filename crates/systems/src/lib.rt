@@ -2,6 +2,8 @@
 //
 // A system is a flat buffer of m rows of w = k + 1 symbols: the coefficients of k unknowns, then the right-hand side. A field is
 // given by its number `q`, and its table is lent.
+#![tactic(auto)]
+
 ghost use Rattle.std.specs.Prelude.{◌≡◌, ℕ, ◌+◌};
 ghost use Rattle.field.specs.Ours.{field_of};
 ghost use Rattle.equations.specs.System.{vec, ent, Consistency, Dependence, Solved};

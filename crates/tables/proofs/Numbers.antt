@@ -10,7 +10,7 @@ use lib.ListN.{length, take, drop}
 use lib.Dec.{T, leb, leb→le}
 use lib.Seq.{take_all, take_at, drop_at, length-take-le, sets-eq}
 use Rattle.field.specs.Field.{size, gf2, gf16, gf32, gf64, gf256}
-use Rattle.field.specs.Lists.{if◌then◌else◌, up_from}
+use Rattle.field.specs.Lists.{when◌then◌else◌, up_from}
 use Rattle.field.specs.Power.{orbit}
 use Rattle.field.specs.Ours.{field_of, products, powers, logarithms, table_of}
 use Rattle.fills.specs.Marks.{rows_of}
@@ -59,7 +59,7 @@ abbrev fit_tables : Plan → Bool
 fit_tables P = leb (length (check_table P) + length (table_of (size P.field))) check_room
 
 all_fit : T (all fit_tables (no_plan ∷ plans))
-unfolding if◌then◌else◌ up_from flat_map orbit size gf2 gf16 gf32 gf64 gf256 products powers logarithms table_of all all_ones bit_checks locations1 elements power_bits binary_plan plan1 plan2 plan5 locations3
+unfolding when◌then◌else◌ up_from flat_map orbit size gf2 gf16 gf32 gf64 gf256 products powers logarithms table_of all all_ones bit_checks locations1 elements power_bits binary_plan plan1 plan2 plan5 locations3
     powers3 plan3 locations4 powers4 plan4 no_plan checks_to check_table
 all_fit = tt
 

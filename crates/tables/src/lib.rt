@@ -1,5 +1,7 @@
 // Facts of a plan by its number, and the tables of its checks, weights and check places. What is a plan's own stands in its file. A number
 // that is no plan's has the plan with nothing in it.
+#![tactic(auto)]
+
 mod plan_1;
 mod plan_2;
 mod plan_3;

@@ -11,7 +11,7 @@ use borrow.Author.Tests.{lt-ltb, le-ltb, le-leb, lt-leb}
 use lib.Dec.{T, eqb, leb, ltb, leb→le, ltb→lt}
 use lib.ListN.{length, take, drop, get_or, replicate, length-append, length-replicate}
 use lib.Seq.{sets-eq, length-take-le, drop-drop}
-use Rattle.field.specs.Lists.{if◌then◌else◌, up_from}
+use Rattle.field.specs.Lists.{when◌then◌else◌, up_from}
 use Rattle.field.specs.Field.{size, gf2, gf16, gf32, gf64, gf256}
 use Rattle.field.proofs.Test.{both_left, both_right}
 use Rattle.fills.specs.Lists.{all, first, rest, beside}
@@ -48,11 +48,11 @@ put-padded n {i} {xs} p =
 -- ---- numbers below 100
 
 pub one-digit : (n : ℕ) → n < 10 → decimal n ≡ (48 + n % 10) ∷ []
-unfolding if◌then◌else◌ digits_in decimal
+unfolding when◌then◌else◌ digits_in decimal
 one-digit n h = rw (lt-ltb n 10 h)
 
 pub two_digits : (n : ℕ) → 10 ≤ n → n < 100 → decimal n ≡ (48 + n / 10) ∷ (48 + n % 10) ∷ []
-unfolding if◌then◌else◌ digits_in decimal
+unfolding when◌then◌else◌ digits_in decimal
 two_digits zero l h = absurd (omega arith)
 two_digits (suc n) l h =
     rw (le-ltb (suc n) 10 l, lt-ltb (suc n / 10) 10 (omega arith)) (ap (λ d. (48 + d) ∷ (48 + suc n % 10) ∷ []) (omega arith))
@@ -103,18 +103,18 @@ end-text p k r three =
 
 module _ (P : Plan) where
   pub one-digit-symbols : size P.field ≤ 16 → symbol_digits P ≡ 1
-  unfolding if◌then◌else◌ symbol_digits
+  unfolding when◌then◌else◌ symbol_digits
   one-digit-symbols h = rw (le-leb (size P.field) 16 h)
 
   pub two-digit-symbols : 16 < size P.field → symbol_digits P ≡ 2
-  unfolding if◌then◌else◌ symbol_digits
+  unfolding when◌then◌else◌ symbol_digits
   two-digit-symbols h = rw (lt-leb (size P.field) 16 h)
 
   pub plan-digits : Digits (symbol_digits P)
-  unfolding if◌then◌else◌ symbol_digits
+  unfolding when◌then◌else◌ symbol_digits
   plan-digits = go (leb (size P.field) 16)
     where
-      go : (b : Bool) → Digits (if b then 1 else 2)
+      go : (b : Bool) → Digits (when b then 1 else 2)
       go true = record { some = omega arith; few = omega arith }
       go false = record { some = omega arith; few = omega arith }
 
@@ -124,18 +124,18 @@ length-hexes zero x = refl
 length-hexes (suc n) x = length-append (hexes n (x / 16)) (hex (x % 16) ∷ []) ∙ omega (arith, length-hexes n (x / 16))
 
 pub length-symbol : (n : ℕ) (m : Bool) (x : ℕ) → length (symbol_text n m x) ≡ n
-unfolding if◌then◌else◌ symbol_text
+unfolding when◌then◌else◌ symbol_text
 length-symbol n true x = length-replicate {A = ℕ} n 63
 length-symbol n false x = length-hexes n x
 
 -- what is shown for the low digit of x
 abbrev digit_text : Bool → ℕ → ℕ
-digit_text m x = if m then 63 else hex (x % 16)
+digit_text m x = when m then 63 else hex (x % 16)
 
 -- a symbol of one digit, and of two, where b tells the mark
 module _ {n : ℕ} (x : ℕ) {m b : Bool} (e : b ≡ m) where
   pub one-shown : {low : ℕ} → n ≡ 1 → low ≡ digit_text b x → symbol_text n m x ≡ low ∷ []
-  unfolding if◌then◌else◌ hexes symbol_text
+  unfolding when◌then◌else◌ hexes symbol_text
   one-shown one l = rw (one, l, e) (go m)
     where
       go : (m : Bool) → symbol_text 1 m x ≡ digit_text m x ∷ []
@@ -143,7 +143,7 @@ module _ {n : ℕ} (x : ℕ) {m b : Bool} (e : b ≡ m) where
       go false = refl
 
   pub two-shown : {high low : ℕ} → Digits n → n ≢ 1 → high ≡ digit_text b (x / 16) → low ≡ digit_text b x → symbol_text n m x ≡ high ∷ low ∷ []
-  unfolding if◌then◌else◌ hexes symbol_text
+  unfolding when◌then◌else◌ hexes symbol_text
   two-shown d more h l = let two : n ≡ 2 = omega (arith, d.some, d.few) in rw (two, h, l, e) (go m)
     where
       go : (m : Bool) → symbol_text 2 m x ≡ digit_text m (x / 16) ∷ digit_text m x ∷ []
@@ -158,8 +158,8 @@ one-hex x l = ap (λ y. hex y ∷ []) (mod-eq_of_lt l)
 
 -- a row of such symbols has a character for each
 pub row-by-digits : (q : ℕ) → q ≤ 16 → (ms : List Bool) (xs : List ℕ) → T (unmarked_below q ms xs)
-    → shown 1 ms xs ≡ beside (λ m x. if m then 63 else hex x) ms xs
-unfolding if◌then◌else◌ all beside flat_map unmarked_below symbol_text shown
+    → shown 1 ms xs ≡ beside (λ m x. when m then 63 else hex x) ms xs
+unfolding when◌then◌else◌ all beside flat_map unmarked_below symbol_text shown
 row-by-digits q h [] xs t = refl
 row-by-digits q h (true ∷ ms) xs t = ap (λ l. 63 ∷ l) (row-by-digits q h ms (rest xs) t)
 row-by-digits q h (false ∷ ms) xs t =
@@ -201,5 +201,5 @@ line_size P = P.columns * symbol_digits P + 1
 
 pub lines-room : (p : ℕ) → (plan_of p).rows * line_size (plan_of p) ≤ grid_room
 lines-room p =
-    unfold if◌then◌else◌ size gf2 gf16 gf32 gf64 gf256 all binary_plan plan1 plan2 plan3 plan4 plan5 no_plan symbol_digits in
+    unfold when◌then◌else◌ size gf2 gf16 gf32 gf64 gf256 all binary_plan plan1 plan2 plan3 plan4 plan5 no_plan symbol_digits in
     leb→le _ grid_room (all-plans (λ P. leb (P.rows * line_size P) grid_room) tt p)

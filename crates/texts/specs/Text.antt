@@ -3,7 +3,7 @@ use Rattle.std.specs.Prelude.{ℕ, zero, suc, ◌+◌, ◌/◌, ◌%◌, Bool, e
 use Prim.Native.Char.{code}
 use Prim.Native.String.{String, [] as ε, ◌∷◌ as ◌∶◌}
 use mathlib.Core.List.{List, [], ◌∷◌, ◌++◌, flat_map}
-use Rattle.field.specs.Lists.{if◌then◌else◌, up_from}
+use Rattle.field.specs.Lists.{when◌then◌else◌, up_from}
 use Rattle.field.specs.Field.{size}
 use Rattle.fills.specs.Lists.{beside}
 use Rattle.plans.specs.Plan.{Plan, plan_of, row_at, marks_at}
@@ -25,7 +25,7 @@ bytes (c ∶ s) = code c ∷ bytes s
 
 unfoldable pub digits_in : (most : ℕ) → ℕ → List ℕ
 digits_in zero n = []
-digits_in (suc k) n = let high = digits_in k (n / 10) in (if ltb n 10 then [] else high) ++ ((48 + n % 10) ∷ [])
+digits_in (suc k) n = let high = digits_in k (n / 10) in (when ltb n 10 then [] else high) ++ ((48 + n % 10) ∷ [])
 
 -- decimal, without leading zeros
 unfoldable pub decimal : ℕ → List ℕ
@@ -33,7 +33,7 @@ decimal n = digits_in (suc n) n
 
 -- a lowercase hex digit, and the n low ones of a number, the high one first
 unfoldable pub hex : ℕ → ℕ
-hex x = if ltb x 10 then 48 + x else 87 + x
+hex x = when ltb x 10 then 48 + x else 87 + x
 
 unfoldable pub hexes : ℕ → ℕ → List ℕ
 hexes zero x = []
@@ -50,11 +50,11 @@ line_end = 10 ∷ []
 
 -- how many hex digits a symbol has
 unfoldable pub symbol_digits : Plan → ℕ
-symbol_digits P = if leb (size P.field) 16 then 1 else 2
+symbol_digits P = when leb (size P.field) 16 then 1 else 2
 
 -- a symbol by its n digits, each `?` at a place still marked
 unfoldable pub symbol_text : ℕ → Bool → ℕ → List ℕ
-symbol_text n m x = if m then replicate n 63 else hexes n x
+symbol_text n m x = when m then replicate n 63 else hexes n x
 
 -- a row's symbols
 unfoldable pub shown : ℕ → List Bool → List ℕ → List ℕ
@@ -97,7 +97,7 @@ mend_text p stripe marks =
 unfoldable pub printed : List ℕ → List ℕ
 printed file =
     let n = file_refusal file unasked in
-    if eqb n 0 then mend_text (plan_in file) (symbols_in file) (marks_in file) else item "refused " n ++ line_end
+    when eqb n 0 then mend_text (plan_in file) (symbols_in file) (marks_in file) else item "refused " n ++ line_end
 
 -- how many bytes a text has room for
 abbrev pub text_room : ℕ

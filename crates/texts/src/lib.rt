@@ -1,8 +1,10 @@
 // What is printed: numbers, rows, and the parts of a text's first line. Each function writes from `at` on and gives the place behind what
 // it wrote; the rest of `out` is unchanged.
+#![tactic(auto)]
+
 ghost use Rattle.std.specs.Prelude.{◌≡◌, ◌+◌, ◌/◌, ◌%◌, ◌^◌, eqb, length, take};
 ghost use mathlib.Core.List.{◌++◌, flat_map};
-ghost use Rattle.field.specs.Lists.{if◌then◌else◌};
+ghost use Rattle.field.specs.Lists.{when◌then◌else◌};
 ghost use Rattle.fills.specs.Marks.{bits_of};
 ghost use Rattle.plans.specs.Plan.{plan_of};
 ghost use Rattle.plans.specs.Answers.{place_values, end_values};
@@ -56,7 +58,7 @@ fn symbol_digits(plan: usize) -> usize
 
 // What is shown for the low hex digit of a number: the digit, lowercase, or `?` where it is marked.
 fn digit(marked: bool, number: u8) -> u8
-    ensures { result ≡ (if marked then 63 else hex (number % 16)) }
+    ensures { result ≡ (when marked then 63 else hex (number % 16)) }
 {
     let low = number % 16;
     if marked {

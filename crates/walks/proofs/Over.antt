@@ -10,7 +10,7 @@ use borrow.Author.Tests.{ltb-true, le-ltb, ne_eqb}
 use lib.Count.{ones_in, ones}
 use lib.Dec.{T, eqb, ltb}
 use lib.ListN.{length, get_or}
-use Rattle.field.specs.Lists.{if◌then◌else◌, up_from}
+use Rattle.field.specs.Lists.{when◌then◌else◌, up_from}
 use Rattle.field.proofs.Lists.{map-up-same}
 use Rattle.fills.specs.Lists.{all, only}
 use Rattle.fills.specs.Marks.{bits_of}
@@ -79,7 +79,7 @@ unfolding ones_in ones
 none-marked = refl
 
 all-marked : (k n : ℕ) → marked (map (λ r. true) (up_from k n)) ≡ n
-unfolding up_from if◌then◌else◌ only
+unfolding up_from when◌then◌else◌ only
 all-marked k zero = refl
 all-marked k (suc n) = ap suc (all-marked (suc k) n)
 

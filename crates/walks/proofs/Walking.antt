@@ -8,7 +8,7 @@ use native.Mathlib.Omega.{arith}
 use borrow.Author.Tests.{lt-ltb, le-ltb}
 use lib.ListN.{length, drop, get_or, set, length-map, length-set}
 use lib.Seq.{sets, length-sets, ext_get_or, get_or-take, get_or-drop, get_or-set_other}
-use Rattle.field.specs.Lists.{if◌then◌else◌}
+use Rattle.field.specs.Lists.{when◌then◌else◌}
 use Rattle.fills.specs.Marks.{bits_of}
 use Rattle.linear.specs.Answer.{answer_of, vector_of}
 use Rattle.fills.specs.Fill.{sums_of, Fill, tied, none, one, fill}
@@ -176,7 +176,7 @@ module _ (p t : ℕ) (sums symbols₀ marks₀ : List ℕ) where
     -- ---- the row's checks fail
 
     pub walked-clash : row_fill b row ≡ none → Walked (bench_of p t symbols₀ marks₀ sums) b row filled
-    unfolding if◌then◌else◌
+    unfolding when◌then◌else◌
     walked-clash e = record {
       ready = ready_of W.sound;
       upto = W.upto;
@@ -185,7 +185,7 @@ module _ (p t : ℕ) (sums symbols₀ marks₀ : List ℕ) where
       turned = λ n restored l. W.turned n restored l
           ∙ ap (λ k. turns k (standing_of b row (more t filled restored))) (next n)
           ∙ turn-none b W.sound.fit row inside e ((plan_of p).rows - (row + 1) + n) (more t filled restored)
-          ∙ ap (λ c. if c then clash (Row row t) else turns n (standing_of b (plan_of p).rows (more t filled restored))) (sym (lt-ltb row (plan_of p).rows inside));
+          ∙ ap (λ c. when c then clash (Row row t) else turns n (standing_of b (plan_of p).rows (more t filled restored))) (sym (lt-ltb row (plan_of p).rows inside));
     }
 
     -- one check was not passed
@@ -230,7 +230,7 @@ module _ (p t : ℕ) (sums symbols₀ marks₀ : List ℕ) where
   -- no row's checks fail
   pub walked_end : (symbols marks : List ℕ) (row filled : ℕ) → Walking p t sums symbols₀ marks₀ symbols marks row filled → row ≡ (plan_of p).rows
       → Walked (bench_of p t symbols₀ marks₀ sums) (bench_of p t symbols marks sums) row filled
-  unfolding if◌then◌else◌
+  unfolding when◌then◌else◌
   walked_end symbols marks row filled W e = record {
     ready = ready_of W.sound;
     upto = W.upto;
@@ -238,6 +238,6 @@ module _ (p t : ℕ) (sums symbols₀ marks₀ : List ℕ) where
     settled = λ all r h z. W.settled r h (λ one. omega arith) z;
     turned = λ n restored l. W.turned n restored l
         ∙ ap₂ (λ k r. turns k (standing_of (bench_of p t symbols marks sums) r (more t filled restored))) (omega arith) e
-        ∙ ap (λ c. if c then clash (Row row t) else turns n (standing_of (bench_of p t symbols marks sums) (plan_of p).rows (more t filled restored)))
+        ∙ ap (λ c. when c then clash (Row row t) else turns n (standing_of (bench_of p t symbols marks sums) (plan_of p).rows (more t filled restored)))
         (sym (le-ltb row (plan_of p).rows (omega arith)));
   }

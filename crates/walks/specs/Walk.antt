@@ -1,7 +1,7 @@
 -- The rows of a round, as their code is lent the parts of a bench, and what it says of them in terms of the turns.
 use Rattle.std.specs.Prelude.{ℕ, pred, ◌+◌, ◌*◌, ◌≤◌, ◌<◌, ◌≡◌, Bool, ◌&&◌, List, ltb, length, get_or}
 use Rattle.std.specs.Int.Count.{ones}
-use Rattle.field.specs.Lists.{if◌then◌else◌, up_from}
+use Rattle.field.specs.Lists.{when◌then◌else◌, up_from}
 use Rattle.fills.specs.Lists.{all}
 use Rattle.fills.specs.Fill.{sums_of}
 use Rattle.plans.specs.Plan.{Plan, plan_of, checks_to, row_at}
@@ -36,7 +36,7 @@ pub record Walked (b c : Bench) (row filled : ℕ) : Type 0 where
   pub settled : (plan_of b.plan).rows ≤ row → Settled c
   pub turned : (n : ℕ) (restored : List ℕ) → pred b.level < length restored
       → turns ((plan_of b.plan).rows + n) (standing_of b 0 restored)
-      ≡ (if ltb row (plan_of b.plan).rows then clash (Row row b.level) else turns n (standing_of c (plan_of b.plan).rows (more b.level filled restored)))
+      ≡ (when ltb row (plan_of b.plan).rows then clash (Row row b.level) else turns n (standing_of c (plan_of b.plan).rows (more b.level filled restored)))
 
 -- what the walk asks: the plan's tables, a bench that is ready, and above level 1 a settled one
 pub record WalkReady (p t : ℕ) (table numbers symbols marks sums : List ℕ) : Type 0 where

@@ -1,4 +1,6 @@
 // The rows of a round: row steps on one after the other, and whether any of them can change anything.
+#![tactic(auto)]
+
 ghost use Rattle.std.specs.Prelude.{◌≡◌, ◌≤◌, length, get_or};
 ghost use Rattle.fills.specs.Fill.{sums_of};
 ghost use Rattle.plans.specs.Plan.{plan_of, checks_to, row_at};

@@ -1,4 +1,6 @@
 // Bytes and bits: the test of a mark, bytes copied into a buffer, and numbers as bytes, low byte first.
+#![tactic(auto)]
+
 ghost use Rattle.std.specs.Prelude.{◌≡◌, ◌+◌, ◌*◌, ◌/◌, ◌%◌, ◌^◌, ◌≤◌, ◌<◌, eqb, length};
 ghost use mathlib.Core.List.{flat_map};
 ghost use Rattle.words.specs.Words.{word_bits, bytes_of, number_at, words_at};

@@ -1,0 +1,54 @@
+-- By the answer: once it is known, so are its values and their bytes. Assumes nothing.
+use mathlib.Core.List.{List}
+use mathlib.Core.Path.{◌≡◌, sym, ap, subst, ◌∙◌}
+use Prim.Native.Nat.{ℕ}
+use lib.Dec.{T}
+use Rattle.plans.specs.Plan.{plan_of}
+use Rattle.plans.specs.Answers.{end_values, answer_values, report_values}
+use Rattle.plans.specs.Refusal.{all_below}
+use Rattle.plans.specs.declared.Answer.{Answer}
+use Rattle.plans.specs.declared.Report.{Report}
+use Rattle.layout.specs.Layout.{answer_bytes, report_bytes}
+use Rattle.words.specs.Words.{byte_range}
+use Rattle.layout.proofs.report_bytes.Goals as goal
+
+-- what is known of the values and of the bytes of a report of plan p, once its answer is known
+
+values : (p : ℕ) → Report → Answer → List ℕ
+values p r a = answer_values a (end_values (plan_of p) r)
+
+small : (p : ℕ) (r : Report) {a : Answer} → r.answer ≡ a → T (all_below byte_range (report_values (plan_of p) r)) → T (all_below byte_range (values p r a))
+unfolding values report_values
+small p r e t = subst (λ a. T (all_below byte_range (values p r a))) e t
+
+is : (p : ℕ) (r : Report) {a : Answer} → r.answer ≡ a → answer_bytes a (values p r a) ≡ report_bytes (plan_of p) r
+unfolding values report_values report_bytes
+is p r e = sym (ap (λ a. answer_bytes a (values p r a)) e)
+
+pub end_bytes-requires : goal.end_bytes-requires
+unfolding values answer_values
+end_bytes-requires c = small c.args.plan c.args.report c.in-Restored.is c.requires
+
+pub end_bytes-requires-in-Stuck : goal.end_bytes-requires-in-Stuck
+unfolding values answer_values
+end_bytes-requires-in-Stuck c = small c.args.plan c.args.report c.in-Stuck.is c.requires
+
+pub clash_bytes-requires : goal.clash_bytes-requires
+unfolding values answer_values
+clash_bytes-requires c = small c.args.plan c.args.report c.in-Clash.is c.requires
+
+pub returns-in-Restored : goal.returns-in-Restored
+unfolding values answer_values answer_bytes
+returns-in-Restored c = c.end_bytes.ensures ∙ is c.args.plan c.args.report c.in-Restored.is
+
+pub returns-in-Stuck : goal.returns-in-Stuck
+unfolding values answer_values answer_bytes
+returns-in-Stuck c = c.end_bytes-in-Stuck.ensures ∙ is c.args.plan c.args.report c.in-Stuck.is
+
+pub returns-in-Clash : goal.returns-in-Clash
+unfolding values answer_values answer_bytes
+returns-in-Clash c = c.clash_bytes.ensures ∙ is c.args.plan c.args.report c.in-Clash.is
+
+pub returns-in-Refused : goal.returns-in-Refused
+unfolding values answer_bytes
+returns-in-Refused c = is c.args.plan c.args.report c.in-Refused.is
