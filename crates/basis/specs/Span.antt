@@ -1,4 +1,4 @@
--- Combinations of words over GF(2), and what it is to answer for k columns which they give: with `columnOf` of Words all that the contract
+-- Combinations of words over GF(2), and what it is to answer for k columns which they give: with `column_of` of Words all that the contract
 -- of `span` cites. Assumes nothing.
 use Rattle.std.specs.Prelude.{ℕ, zero, suc, ◌*◌, ◌%◌, ◌^◌, ◌≤◌, ◌<◌, ◌≡◌, Bool, true, false, ◌≢◌, List, length}
 use Rattle.field.specs.Field.{◌⊕◌}
