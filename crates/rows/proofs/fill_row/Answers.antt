@@ -7,7 +7,7 @@ use Rattle.rows.proofs.fill_row.Goals as goal
 
 pub returns-then-m-word : goal.returns-then-m-word
 returns-then-m-word c =
-    let e = too_many (record { facts = c.facts_of-facts.ensures; count = c.sums_to-m.ensures; asked = c.requires }) c.if-q-ne2.true c.if-m-word.true in
+    let e = too_many (record { facts = c.facts_of-facts.ensures; count = c.sums_to-m.ensures; asked = c.requires }) (omega arith) c.if-m-word.true in
     record { value = e.0; symbols_after = e.1 }
 
 pub overflow_mul-size : goal.overflow_mul-size

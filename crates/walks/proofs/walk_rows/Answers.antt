@@ -2,6 +2,7 @@
 use Prim.Native.Nat.{◌<◌}
 use mathlib.Core.Path.{◌∙◌}
 use native.Mathlib.Omega.{arith}
+use native.Mathlib.Decide.{ℕ_discrete}
 use lib.ListN.{length}
 use Rattle.plans.specs.Plan.{plan_of, checks_to}
 use Rattle.plans.specs.Rooms.{sum_room}
@@ -10,16 +11,17 @@ use Rattle.plans.proofs.Tables.{sums-most}
 use Rattle.steps.proofs.Fit.{fit-sums}
 use Rattle.steps.proofs.Sound.{sound-of}
 use Rattle.walks.proofs.Walking.{Tested, tested-first, tested-later, tested-within, walking_start, walking-tested, answered-tied, answered-one, walked-failed, answered-none, walked_end}
-use Rattle.walks.proofs.walk_rows.Goals.{then-level-eq1, else-level-eq1, then-word-eq0+else-loop-j-test, else-word-eq0+in-One, else-word-eq0+in-Tied}
+use Rattle.walks.proofs.walk_rows.Goals.{then-word-eq0+else-loop-j-test, else-word-eq0+in-One, else-word-eq0+in-Tied}
 use Rattle.walks.proofs.walk_rows.Goals as goal
 
 pub rows-init : goal.rows-init
-rows-init c =
-    let count : Tested c.args.plan c.args.level c.if-level-eq1.count = elim c.if-level-eq1.branch [
-      | then-level-eq1 v ↦ tested-first c.args.plan v.if-level-eq1.true (v.count-is ∙ v.sums_to-count.ensures)
-      | else-level-eq1 v ↦ tested-later c.args.plan v.if-level-eq1.false v.count-is
-    ] in
-    (count, walking_start _ _ _ _ _ (sound-of c.requires.ready) c.requires.settled)
+rows-init c = (
+  elim (ℕ_discrete c.args.level 1) [
+    | yes first ↦ tested-first c.args.plan first (grind arith)
+    | no later ↦ tested-later c.args.plan later (grind arith)
+  ],
+  walking_start _ _ _ _ _ (sound-of c.requires.ready) c.requires.settled,
+)
 
 pub overflow_add-row : goal.overflow_add-row
 overflow_add-row c =
