@@ -1,2 +1,2 @@
--- How much of the input decides what is printed.
+-- What reading promises, and how much of the input decides what is printed.
 pub mod Input

@@ -1,7 +1,7 @@
 -- What is known of a plan with a column of bits for each element of a field: one argument for plans 2 and 5. Assumes nothing.
-use mathlib.Core.Path.{◌≡◌, refl, sym, subst, ap, ◌∙◌}
+use mathlib.Core.Path.{◌≡◌, refl, subst, ◌∙◌}
 use mathlib.Core.List.{List, [], ◌∷◌, map, flat_map}
-use Prim.Native.Nat.{ℕ, zero, suc, pred, ◌+◌, ◌<◌}
+use Prim.Native.Nat.{ℕ, suc, pred, ◌+◌}
 use native.Mathlib.Omega.{arith}
 use lib.Dec.{T}
 use lib.ListN.{length, length-map, length-append}

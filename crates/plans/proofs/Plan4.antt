@@ -1,8 +1,6 @@
 -- What is known of plan 4: power sums 0 to 8, over bytes. Assumes nothing.
-use Rattle.field.proofs.Test.{both_right}
-use Rattle.field.proofs.Words.{fit, distinct}
 use Rattle.plans.specs.Plan.{locations4, powers4, weights4, plan4}
-use Rattle.plans.proofs.Known.{ℕ, T, lit<, List, [], ◌∷◌, map, flat_map, subst, arith, up_from, ◌⊕◌, size, double, times, mul, gf256, power, gf256-field, ◌&◌, all, all_ones, level_of, checks_to, tied_by_count, Columns, no_rows, plain-total, are_locations, power-sums, Known}
+use Rattle.plans.proofs.Known.{ℕ, T, lit<, List, [], ◌∷◌, map, flat_map, arith, up_from, ◌⊕◌, size, double, times, mul, gf256, power, gf256-field, ◌&◌, all, all_ones, level_of, checks_to, tied_by_count, Columns, no_rows, plain-total, are_locations, power-sums, Known}
 
 locations : T (are_locations gf256 locations4)
 unfolding up_from ◌⊕◌ size double times mul power gf256 locations4

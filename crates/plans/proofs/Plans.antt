@@ -10,7 +10,7 @@ use lib.Dec.{T, leb, ltb, leb→le, ltb→lt, nleb→lt, nltb→le}
 use lib.ListN.{length, get_or, get_or-eq_default}
 use lib.Seq.{take_all}
 use Rattle.field.specs.Lists.{up_from}
-use Rattle.field.proofs.Test.{both_left, both_right, both}
+use Rattle.field.proofs.Test.{both_left}
 use Rattle.field.proofs.Words.{Each, ◌&◌, each-get_or}
 use Rattle.fills.specs.Lists.{all}
 use Rattle.fills.proofs.Tests.{either}

@@ -1,5 +1,5 @@
 -- The plans. Row checks and weights are computed from the locations.
-use Rattle.std.specs.Prelude.{ℕ, pred, ◌+◌, ◌*◌, ◌/◌, ◌%◌, ◌^◌, Bool, not, ◌&&◌, ltb, leb, length, take, drop, get_or, replicate}
+use Rattle.std.specs.Prelude.{ℕ, pred, ◌+◌, ◌*◌, ◌/◌, ◌%◌, ◌^◌, Bool, not, ltb, length, take, drop, get_or, replicate}
 use mathlib.Core.List.{List, [], ◌∷◌, ◌++◌, map, flat_map}
 use Rattle.field.specs.Lists.{when◌then◌else◌, up_from, ◌to◌}
 use Rattle.field.specs.Field.{Field, size, dot, gf2, gf16, gf32, gf64, gf256}

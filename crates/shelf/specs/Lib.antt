@@ -1,2 +1,2 @@
--- What the calls under C names answer, and what they leave in the buffers.
+-- What the calls for scripts answer, and what they leave in the buffers.
 pub mod Calls

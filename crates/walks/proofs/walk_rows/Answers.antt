@@ -10,7 +10,7 @@ use Rattle.plans.proofs.Plans.{rows-most}
 use Rattle.plans.proofs.Tables.{sums-most}
 use Rattle.steps.proofs.Fit.{fit-sums}
 use Rattle.steps.proofs.Sound.{sound-of}
-use Rattle.walks.proofs.Walking.{Tested, tested-first, tested-later, tested-within, walking_start, walking-tested, answered-tied, answered-one, walked-failed, answered-none, walked_end}
+use Rattle.walks.proofs.Walking.{tested-first, tested-later, tested-within, walking_start, walking-tested, answered-tied, answered-one, walked-failed, answered-none, walked_end}
 use Rattle.walks.proofs.walk_rows.Goals.{then-word-eq0+else-loop-j-test, else-word-eq0+in-One, else-word-eq0+in-Tied}
 use Rattle.walks.proofs.walk_rows.Goals as goal
 

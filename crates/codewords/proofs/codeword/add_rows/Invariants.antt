@@ -1,6 +1,5 @@
 -- The invariant is that the rows passed and those to come make the whole total: row r stands from r * n on.
 use mathlib.Core.Path.{◌≡◌}
-use Prim.Native.Nat.{◌*◌}
 use lib.ListN.{length}
 use Rattle.field.specs.Ours.{field_of}
 use Rattle.codewords.proofs.Totals.{Adding}

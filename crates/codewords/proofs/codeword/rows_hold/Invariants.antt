@@ -1,5 +1,4 @@
 -- The invariant is that the sums of the rows passed are zero: row r stands from r * n on. The row that fails answers, or the end of the walk.
-use Prim.Native.Nat.{◌*◌}
 use Rattle.codewords.proofs.Holding.{RowsHolding}
 use Rattle.codewords.proofs.codeword.rows_hold.Given as goal
 

@@ -1,5 +1,4 @@
 -- The invariant is that the checks passed give 0: check i stands from i times v's length on. The test that fails answers, or the end of the walk.
-use lib.ListN.{length}
 use Rattle.field.specs.Ours.{field_of}
 use Rattle.plans.proofs.Scan.{Passing}
 use Rattle.codewords.proofs.Holding.{gives0}
