@@ -1,6 +1,6 @@
 -- In plan 4 every byte is a symbol, so that no test of symbols fails. Assumes nothing.
 use Prim.Native.Nat.{ℕ, ◌*◌}
-use mathlib.Core.Path.{◌≡◌, refl, sym, subst}
+use mathlib.Core.Path.{◌≡◌, sym, subst}
 use mathlib.Core.Logic.{◌≢◌}
 use mathlib.Core.Bool.{Bool, true, false, not, ◌&&◌, ◌||◌}
 use mathlib.Core.List.{List, [], ◌∷◌}
@@ -16,7 +16,6 @@ use Rattle.plans.specs.Plan.{plan4, plan_of, checks_to, row_at, marks_at, symbol
 use Rattle.plans.specs.Rooms.{sum_room}
 use Rattle.plans.specs.Refusal.{all_below, first_failed, symbols_fit, sums_at, sums_fit, lent_tests, lent_refusal, bench_tests, bench_refusal}
 use Rattle.plans.proofs.Refusals.{unmarked-below}
-use Rattle.plans.specs.declared.Bench.{Bench}
 use Rattle.words.specs.Words.{byte_range}
 use Rattle.steps.proofs.Fit.{fit-symbols, fit-sums, all_take, all_drop}
 use Rattle.codewords.specs.Codeword.{test_refusal}

@@ -2,14 +2,14 @@
 use mathlib.Core.Path.{◌≡◌, refl, sym, ap, ap₂, ◌∙◌, subst}
 use mathlib.Core.Logic.{◌⊎◌, inl, inr}
 use mathlib.Core.Bool.{Bool, true, false, ◌&&◌}
-use mathlib.Core.List.{List, [], ◌∷◌, map}
+use mathlib.Core.List.{List, [], ◌∷◌}
 use Prim.Native.Nat.{ℕ, zero, suc, ◌+◌, ◌*◌, ◌≤◌, ◌<◌}
 use native.Mathlib.Nat.{eq-zero-or-pos}
 use native.Mathlib.Omega.{arith}
 use lib.Dec.{T, eqb, leb}
 use lib.ListN.{length, take, drop, get_or}
 use lib.Seq.{get_or-take, take-take}
-use Rattle.field.specs.Lists.{when◌then◌else◌, up_from}
+use Rattle.field.specs.Lists.{when◌then◌else◌}
 use Rattle.field.proofs.Lists.{map-up-same}
 use Rattle.fills.specs.Lists.{same}
 use Rattle.fills.proofs.Tests.{same→eq}

@@ -10,7 +10,6 @@ use borrow.Author.Tests.{eqb-true}
 use lib.Dec.{T, eqb}
 use lib.ListN.{length, get_or}
 use Rattle.field.specs.Lists.{when◌then◌else◌}
-use Rattle.fills.specs.Lists.{only}
 use Rattle.plans.specs.Plan.{plan_of}
 use Rattle.steps.specs.Steps.{lossy, blocked, learned}
 use Rattle.steps.specs.Rounds.{Turn, on, end, clash}

@@ -10,7 +10,7 @@ use lib.Dec.{T, eqb, leb, ltb, ltb→lt, eqb→eq, le→leb}
 use lib.ListN.{length, get_or, take, drop, length-append, length-take, length-drop, take-append-drop}
 use lib.Seq.{drop_at, take_all, take-add, ext_get_or}
 use Rattle.field.specs.Lists.{when◌then◌else◌}
-use Rattle.field.proofs.Test.{both_left, both_right, both}
+use Rattle.field.proofs.Test.{both_left, both_right}
 use Rattle.field.proofs.Words.{EachBelow, ◌&◌}
 use Rattle.fills.specs.Lists.{all, same}
 use Rattle.fills.proofs.Tests.{is_true, same→eq, same_refl}

@@ -10,12 +10,10 @@ use lib.Dec.{T, eqb, leb, ltb, leb→le, lt→ltb}
 use lib.ListN.{length, take, get_or, set, replicate, length-set, length-map}
 use lib.Seq.{length-take-le}
 use Rattle.field.specs.Lists.{when◌then◌else◌, up_from}
-use Rattle.field.specs.Field.{size}
 use Rattle.field.proofs.Lists.{length_up}
 use Rattle.field.proofs.Test.{both}
 use Rattle.field.proofs.Words.{◌&◌}
 use Rattle.fills.specs.Lists.{all, only}
-use Rattle.fills.specs.Fill.{none}
 use Rattle.plans.specs.Plan.{Plan, plan_of, known}
 use Rattle.plans.specs.Rooms.{row_room}
 use Rattle.plans.specs.Answers.{answer_number, place_values, end_values, answer_values, report_values}

@@ -1,13 +1,12 @@
 -- Row r is cut out of the stripe, and there is room for its line. Assumes nothing.
 use mathlib.Core.Path.{◌≡◌, refl, sym, ap, ap₂, ◌∙◌, subst}
 use mathlib.Core.List.{List, ◌++◌}
-use Prim.Native.Nat.{ℕ, ◌+◌, ◌*◌, ◌<◌}
+use Prim.Native.Nat.{ℕ, ◌*◌, ◌<◌}
 use native.Mathlib.Nat.{add-mul, le_of_eq}
 use native.Mathlib.Omega.{arith}
 use lib.ListN.{length}
 use Rattle.field.proofs.Lists.{length_up}
-use Rattle.field.specs.Lists.{up_from}
-use Rattle.texts.specs.Text.{line_end, symbol_digits, shown, grid}
+use Rattle.texts.specs.Text.{line_end, shown, grid}
 use Rattle.texts.specs.Parts.{Digits}
 use Rattle.files.specs.Parts.{Symbols}
 use Rattle.plans.specs.Plan.{plan_of, row_at, marks_at}
