@@ -1,12 +1,14 @@
--- A loop that copies a list over zeros, for every length. Assumes nothing.
+-- A list copied over zeros, by a loop or at once, for every length. Assumes nothing.
 use mathlib.Core.Path.{◌≡◌, sym, ap, subst, ◌∙◌}
 use mathlib.Core.List.{List, [], ◌∷◌, ◌++◌}
 use Prim.Native.Nat.{ℕ, suc, ◌+◌, ◌-◌, ◌≤◌, ◌<◌}
-use native.Mathlib.Nat.{add-sub_of_le, sub-zero}
+use native.Mathlib.Nat.{add-sub_of_le, sub-zero, zero-add}
 use native.Mathlib.Numerals.{add-one}
 use native.Mathlib.Omega.{arith}
-use lib.ListN.{length, get_or, set, take, replicate, length-append, length-replicate}
-use lib.Seq.{length-take-le, take_all, take-suc, set-append_seam, append_snoc}
+use lib.ListN.{length, get_or, set, take, drop, replicate, length-append, length-replicate}
+use lib.Seq.{length-take-le, take_all, take-suc, set-append_seam, append_snoc, sets-eq}
+use Rattle.std.proofs.lemmas.List.{drop-replicate}
+use Rattle.words.specs.Written.{Put}
 use Rattle.plans.specs.Tables.{padded}
 
 pub length-padded : (n : ℕ) (xs : List ℕ) → length xs ≤ n → length (padded n xs) ≡ n
@@ -44,3 +46,11 @@ module _ (n : ℕ) (xs : List ℕ) (fits : length xs ≤ n) where
 
   pub padding-ends : {i : ℕ} {l : List ℕ} → Padding n xs i l → length xs ≤ i → l ≡ padded n xs
   padding-ends {i} h all = h.copied ∙ ap (padded n) (take_all i xs all)
+
+-- what was put at the front of zeros has zeros behind it
+pub put-padded : (n : ℕ) {i : ℕ} {xs l : List ℕ} → Put (replicate n 0) 0 xs i l → l ≡ padded n xs
+unfolding padded
+put-padded n {i} {xs} p =
+    let long = length-replicate {A = ℕ} n 0 in
+    p.written ∙ sets-eq xs (replicate n 0) 0 (omega (arith, p.reached, p.inside))
+    ∙ ap (λ t. xs ++ t) (ap (λ k. drop {A = ℕ} k (replicate n 0)) (zero-add (length xs)) ∙ drop-replicate (length xs) n 0)

@@ -10,6 +10,7 @@ pub use codewords::is_codeword;
 pub use encoding::extract;
 pub use interleaved::is_interleaved;
 pub use levels::level_step;
+use plans::SYMBOLS;
 pub use plans::{Answer, Bench, Outcome, Place, Report, Started, Step, Stepped, Verdict};
 pub use rows::row_step;
 use steps::copies;
@@ -30,7 +31,9 @@ pub fn mend(plan: usize, stripe: &mut [u8], marks: &mut [u64]) -> Report
     if walks::over_marked(plan, &marks[..]) {
         return rounds::end_report(plan, 1, [0; 3], &marks[..]);
     }
-    let mut symbols = copies::symbols_of(&stripe[..]);
+    // written in place: a function that gave the array back would take the room of a second one
+    let mut symbols = [0u8; SYMBOLS];
+    words::put(&stripe[..], &mut symbols, 0);
     let mut words = copies::words_of(&marks[..]);
     let report = rounds::rounds(plan, &mut symbols, &mut words);
     let answer = report.answer;

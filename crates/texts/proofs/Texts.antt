@@ -30,21 +30,6 @@ use Rattle.words.specs.Written.{Put}
 use Rattle.plans.proofs.Plans.{all-plans, shape}
 use Rattle.plans.proofs.Flat.{flat-length}
 
--- ---- zeros behind the text
-
-drop-zeros : (k n : ℕ) → drop {A = ℕ} k (replicate n 0) ≡ replicate (n - k) 0
-drop-zeros zero n = let e : n ≡ n - 0 = omega arith in ap (λ m. replicate m 0) e
-drop-zeros (suc k) zero = let e : 0 ≡ 0 - suc k = omega arith in ap (λ m. replicate m 0) e
-drop-zeros (suc k) (suc n) = let e : n - k ≡ suc n - suc k = omega arith in drop-zeros k n ∙ ap (λ m. replicate m 0) e
-
--- what was put at the front of zeros has zeros behind it
-pub put-padded : (n : ℕ) {i : ℕ} {xs l : List ℕ} → Put (replicate n 0) 0 xs i l → l ≡ padded n xs
-unfolding padded
-put-padded n {i} {xs} p =
-    let long = length-replicate {A = ℕ} n 0 in
-    p.written ∙ sets-eq xs (replicate n 0) 0 (omega (arith, p.reached, p.inside))
-    ∙ ap (λ t. xs ++ t) (ap (λ k. drop {A = ℕ} k (replicate n 0)) (zero-add (length xs)) ∙ drop-zeros (length xs) n)
-
 -- ---- numbers below 100
 
 pub one-digit : (n : ℕ) → n < 10 → decimal n ≡ (48 + n % 10) ∷ []

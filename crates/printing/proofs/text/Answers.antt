@@ -2,7 +2,7 @@
 use mathlib.Core.Path.{◌∙◌}
 use native.Mathlib.Nat.{zero-add}
 use Rattle.texts.specs.Text.{text_room}
-use Rattle.texts.proofs.Texts.{put-padded}
+use Rattle.plans.proofs.Padded.{put-padded}
 use Rattle.printing.proofs.text.Goals as goal
 
 pub returns : goal.returns

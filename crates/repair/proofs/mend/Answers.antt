@@ -2,7 +2,10 @@
 -- and all other ends are written back. Assumes nothing.
 use mathlib.Core.Path.{◌≡◌, sym, ◌∙◌}
 use native.Mathlib.Omega.{arith}
-use lib.ListN.{length}
+use Prim.Native.Nat.{ℕ}
+use lib.ListN.{length, length-replicate}
+use Rattle.words.proofs.Writing.{put-length}
+use Rattle.plans.proofs.Padded.{put-padded}
 use Rattle.plans.specs.Rooms.{row_room, symbol_room}
 use Rattle.plans.proofs.Plans.{rows-most, symbols-most}
 use Rattle.steps.proofs.Fit.{lent-fit}
@@ -26,23 +29,24 @@ returns-then-over_marked c =
     let m = mends-over _ _ _ _ c.lent_refusal-refused.ensures c.if-refused-ne0.false (sym c.over_marked.ensures ∙ c.if-over_marked.true) _ c.end_report.ensures in
     record { value = m.0; stripe_after = m.1.0; marks_after = m.1.1 }
 
-pub symbols_of-symbols-requires : goal.symbols_of-symbols-requires
-symbols_of-symbols-requires c = omega (arith, (lent-fit _ _ _ (sym c.lent_refusal-refused.ensures ∙ c.if-refused-ne0.false)).long, symbols-most c.args.plan)
+pub put-requires : goal.put-requires
+put-requires c =
+    omega (arith, (lent-fit _ _ _ (sym c.lent_refusal-refused.ensures ∙ c.if-refused-ne0.false)).long, symbols-most c.args.plan, length-replicate {A = ℕ} symbol_room 0)
 
 pub words_of-words-requires : goal.words_of-words-requires
 words_of-words-requires c = omega (arith, (lent-fit _ _ _ (sym c.lent_refusal-refused.ensures ∙ c.if-refused-ne0.false)).words, rows-most c.args.plan)
 
 pub rounds-report-requires : goal.rounds-report-requires
-rounds-report-requires c = start-ready _ _ _ _ c.lent_refusal-refused.ensures c.if-refused-ne0.false c.symbols_of-symbols.ensures c.words_of-words.ensures
+rounds-report-requires c = start-ready _ _ _ _ c.lent_refusal-refused.ensures c.if-refused-ne0.false (put-padded symbol_room c.put.ensures) c.words_of-words.ensures
 
 pub returns-then-is_clash : goal.returns-then-is_clash
 returns-then-is_clash c =
-    let m = mends-clash _ _ _ _ c.lent_refusal-refused.ensures c.if-refused-ne0.false _ _ _ (ended-lent _ _ _ _ c.lent_refusal-refused.ensures c.symbols_of-symbols.ensures c.words_of-words.ensures _ _ _ c.rounds-report.ensures) (sym c.if-is_clash.true ∙ c.is_clash.ensures) in
+    let m = mends-clash _ _ _ _ c.lent_refusal-refused.ensures c.if-refused-ne0.false _ _ _ (ended-lent _ _ _ _ c.lent_refusal-refused.ensures (put-padded symbol_room c.put.ensures) c.words_of-words.ensures _ _ _ c.rounds-report.ensures) (sym c.if-is_clash.true ∙ c.is_clash.ensures) in
     record { value = m.0; stripe_after = m.1.0; marks_after = m.1.1 }
 
 pub put_symbols-requires : goal.put_symbols-requires
 put_symbols-requires c =
-    let room : length c.symbols_of-symbols.result ≡ symbol_room = search rules in
+    let room : length c.put.new.out ≡ symbol_room = put-length c.put.ensures ∙ length-replicate {A = ℕ} symbol_room 0 in
     omega (arith, (lent-fit _ _ _ (sym c.lent_refusal-refused.ensures ∙ c.if-refused-ne0.false)).long, symbols-most c.args.plan, c.rounds-report.auto.symbols, room)
 
 pub put_words-requires : goal.put_words-requires
@@ -52,5 +56,5 @@ put_words-requires c =
 
 pub returns : goal.returns
 returns c =
-    let m = mends-end _ _ _ _ c.lent_refusal-refused.ensures c.if-refused-ne0.false _ _ _ (ended-lent _ _ _ _ c.lent_refusal-refused.ensures c.symbols_of-symbols.ensures c.words_of-words.ensures _ _ _ c.rounds-report.ensures) (sym c.if-is_clash.false ∙ c.is_clash.ensures) in
+    let m = mends-end _ _ _ _ c.lent_refusal-refused.ensures c.if-refused-ne0.false _ _ _ (ended-lent _ _ _ _ c.lent_refusal-refused.ensures (put-padded symbol_room c.put.ensures) c.words_of-words.ensures _ _ _ c.rounds-report.ensures) (sym c.if-is_clash.false ∙ c.is_clash.ensures) in
     record { value = m.0; stripe_after = c.put_symbols.ensures ∙ m.1.0; marks_after = c.put_words.ensures ∙ m.1.1 }
