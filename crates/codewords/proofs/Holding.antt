@@ -3,63 +3,162 @@ use mathlib.Core.Path.{◌≡◌, refl, sym, ap, ap₂, ◌∙◌, subst, fun_ex
 use mathlib.Core.Bool.{Bool, true, false, ◌&&◌, and_assoc, and_comm}
 use mathlib.Core.List.{List, [], ◌∷◌, ◌++◌, map, map-map, flat_map}
 use Prim.Native.Nat.{ℕ, zero, suc, ◌+◌, ◌*◌, ◌-◌, ◌≤◌, ◌<◌}
-use native.Mathlib.Nat.{le_trans, min-le_left, add-mul}
+use native.Mathlib.Nat.{add-mul, mul-le-mul, le_of_eq}
 use native.Mathlib.Omega.{arith}
-use borrow.Author.Tests.{eq-eqb, ne_eqb}
-use lib.Dec.{eqb}
-use lib.ListN.{length, get_or, take, drop, replicate, length-append, length-take, length-drop}
-use lib.Seq.{take_at, length-take-le}
+use lib.Dec.{T, eqb, ltb→lt, lt→ltb, lit<}
+use lib.ListN.{length, get_or, take, drop, replicate}
+use lib.Seq.{length-take-le}
 use Rattle.field.specs.Lists.{up_from}
-use Rattle.field.specs.Field.{Field, size, dot}
+use Rattle.field.specs.Field.{Field, size, dot, gf32, gf64}
 use Rattle.field.specs.Ours.{field_of}
 use Rattle.field.proofs.Laws.{IsField}
-use Rattle.field.proofs.Fields.{our-field}
+use Rattle.field.proofs.Words.{Each, ◌&◌}
 use Rattle.fills.specs.Lists.{all, vanish}
-use Rattle.fills.specs.Marks.{rows_of}
 use Rattle.fills.specs.Fill.{sums_of}
-use Rattle.plans.specs.Plan.{Plan, Level, plan_of, no_level, level_of, checks_to, row_at, across}
+use Rattle.words.proofs.Stores.{flat_append}
+use Rattle.plans.specs.Plan.{Plan, Level, binary_plan, plan1, plan2, plan3, plan4, plan5, known, plan_of, no_level, level_of, checks_to, row_at, across}
+use Rattle.plans.specs.Rooms.{column_room, sum_room}
+use Rattle.plans.specs.Tables.{check_table, weight_table}
+use Rattle.plans.proofs.Plans.{of-known, columns-most}
+use Rattle.plans.proofs.Scan.{Passing, passing-none, passing-more, passing-all, up-false}
+use Rattle.plans.proofs.Flat.{between, flat, Rows, rows-length}
+use Rattle.plans.proofs.Tables.{checks-before, checks-more, sums-more, sums-most, checks-fit, weights-at}
+use Rattle.plans.proofs.Parts.{part, part_of, part_length, rows-of, map-up-shift}
+use Rattle.tables.specs.Tables.{FactsOf}
+use Rattle.tables.specs.declared.Facts.{Facts}
+use Rattle.tables.proofs.Numbers.{numbers, row_within}
 use Rattle.codewords.specs.Codeword.{rows_hold, totals_hold, is_codeword}
-use Rattle.codewords.specs.Asked.{Tested, AtLevel, RowsIn, with_rows, total_row}
-use Rattle.plans.specs.Rooms.{column_room, weight_room, check_room}
-use Rattle.plans.specs.Tables.{weight_table}
-use Rattle.plans.proofs.Plans.{columns-most}
-use Rattle.plans.proofs.Sizes.{checks-room, checks-length, weights-room, weights-length}
-use Rattle.plans.proofs.Rows.{row-end}
-use Rattle.plans.proofs.Scan.{Passing, passing-more, passing-all, up-false}
-use Rattle.plans.proofs.Flat.{row_in}
-use Rattle.plans.proofs.Tables.{checks-in, level-checks-in, weights-in, checks-more, sums-more}
-use Rattle.plans.proofs.Parts.{part, part_of, part_length, rows-from, rows-of, rows-front, map-up-shift}
-use Rattle.tables.proofs.Numbers.{Numbers, Weighing, own-products, row_within}
-use Rattle.codewords.proofs.Walk.{all_map}
+use Rattle.codewords.specs.Asked.{all_rows, with_rows, total_row}
+use Rattle.codewords.proofs.Walk.{all_map, Wide, rows-again, Cutting, cutting-rows}
 use Rattle.codewords.proofs.Totals.{dot-total}
 
 -- ---- checks that give 0
 
--- check i gives 0
-unfoldable pub gives0 : Field → (checks v : List ℕ) → ℕ → Bool
-gives0 F checks v i = eqb (dot F (take (length v) (drop (i * length v) checks)) v) 0
+-- a check gives 0
+unfoldable pub gives0 : Field → (v check : List ℕ) → Bool
+gives0 F v check = eqb (dot F check v) 0
 
-module _ (F : Field) (checks : List ℕ) (m : ℕ) (v : List ℕ) where
-  vanish-walk : vanish (sums_of F (rows_of m (length v) checks) v) ≡ all (gives0 F checks v) (up_from 0 m)
-  unfolding gives0 vanish sums_of
-  vanish-walk =
-      ap (λ cs. vanish (sums_of F cs v)) (rows-of m (length v) checks)
-      ∙ ap (all (λ x. eqb x 0)) (map-map _ _ (up_from 0 m)) ∙ all_map (λ x. eqb x 0) _ (up_from 0 m)
+-- every check does
+unfoldable pub all_give0 : Field → (checks v : List ℕ) → Bool
+all_give0 F checks v = vanish (sums_of F (all_rows (length v) checks) v)
 
-  module _ {i sum : ℕ} (more : i < m) (e : sum ≡ dot F (part (i * length v) (length v) checks) v) where
-    its : sum ≡ dot F (take (length v) (drop (i * length v) checks)) v
-    its = e ∙ ap (λ c. dot F c v) (part_of (i * length v) (length v) checks)
+pub give0-walk : (F : Field) (checks v : List ℕ) → all (gives0 F v) (all_rows (length v) checks) ≡ all_give0 F checks v
+unfolding gives0 all_give0 vanish sums_of
+give0-walk F checks v = sym (all_map (λ x. eqb x 0) (λ c. dot F c v) (all_rows (length v) checks))
 
-    pub vanish-turns : sum ≡ 0 → Passing (gives0 F checks v) m i → Passing (gives0 F checks v) m (i + 1)
-    unfolding gives0
-    vanish-turns z w = passing-more w more (eq-eqb _ 0 (sym its ∙ z))
+-- of no symbols every sum is 0
+none-gives : (F : Field) (rows : List (List ℕ)) → true ≡ all (gives0 F []) rows
+unfolding all gives0 dot
+none-gives F [] = refl
+none-gives F ([] ∷ rows) = none-gives F rows
+none-gives F ((c ∷ cs) ∷ rows) = none-gives F rows
 
-    pub vanish-fails : (sum ≡ 0 → ⊥) → false ≡ vanish (sums_of F (rows_of m (length v) checks) v)
-    unfolding gives0
-    vanish-fails nz = sym (vanish-walk ∙ up-false _ m i more (ne_eqb _ 0 (λ z. nz (its ∙ z))))
+pub none-give : (F : Field) (checks v : List ℕ) → length v ≡ 0 → true ≡ all_give0 F checks v
+none-give F checks [] e = none-gives F (all_rows 0 checks) ∙ give0-walk F checks []
+none-give F checks (x ∷ xs) e = absurd (omega (arith, e))
 
-  pub vanish-ends : {i : ℕ} → m ≤ i → Passing (gives0 F checks v) m i → true ≡ vanish (sums_of F (rows_of m (length v) checks) v)
-  vanish-ends end w = sym (vanish-walk ∙ passing-all w end)
+-- ---- the checks in the table
+
+-- a known plan has rows and columns
+pub rows-pos : (p : ℕ) → T (known p) → 0 < (plan_of p).rows
+unfolding known
+rows-pos p k = ltb→lt 0 (plan_of p).rows k
+
+pub columns-pos : (p : ℕ) → T (known p) → 0 < (plan_of p).columns
+unfolding up_from size gf32 gf64 binary_plan plan1 plan2 plan3 plan4 plan5 plan_of
+columns-pos = of-known (λ p. 0 < (plan_of p).columns) (lit< tt & lit< tt & lit< tt & lit< tt & lit< tt & tt)
+
+pub has-rows : (p : ℕ) → 0 < (plan_of p).rows → T (known p)
+unfolding known
+has-rows p h = lt→ltb 0 (plan_of p).rows h
+
+each_front : {A : Type 0} (Q : A → Type 0) (a b : List A) → Each Q (a ++ b) → Each Q a
+each_front Q [] b e = tt
+each_front Q (x ∷ a) b e = (e.0, each_front Q a b e.1)
+
+each_behind : {A : Type 0} (Q : A → Type 0) (a b : List A) → Each Q (a ++ b) → Each Q b
+each_behind Q [] b e = e
+each_behind Q (x ∷ a) b e = each_behind Q a b e.1
+
+pub wide-rows : (q n : ℕ) (rows : List (List ℕ)) → Rows q n rows → Wide n rows
+wide-rows q n [] r = tt
+wide-rows q n (row ∷ rows) r = (r.0.0, wide-rows q n rows r.1)
+
+module _ (p t : ℕ) where
+  abbrev P : Plan
+  P = plan_of p
+
+  -- the checks of level t + 1
+  abbrev own : List (List ℕ)
+  own = (level_of P (suc t)).checks
+
+  abbrev behind : List (List ℕ)
+  behind = flat_map (λ (L : Level). L.checks) (drop (suc t) P.levels)
+
+  all-checks : checks_to P (length P.levels) ≡ (checks_to P t ++ own) ++ behind
+  all-checks = checks-before P (suc t) ∙ ap (λ cs. cs ++ behind) (checks-more P t)
+
+  both-fit : Rows (size P.field) P.columns (checks_to P t ++ own)
+  both-fit = each_front _ (checks_to P t ++ own) behind (rw all-checks at (checks-fit p))
+
+  front-long : length (flat (checks_to P t)) ≡ length (checks_to P t) * P.columns
+  front-long = rows-length _ _ (checks_to P t) (each_front _ (checks_to P t) own both-fit)
+
+  own-fit : Rows (size P.field) P.columns own
+  own-fit = each_behind _ (checks_to P t) own both-fit
+
+  own-long : length (flat own) ≡ length own * P.columns
+  own-long = rows-length _ _ own own-fit
+
+  the-table : check_table P ≡ (flat (checks_to P t) ++ flat own) ++ flat behind
+  unfolding check_table
+  the-table =
+      ap flat all-checks ∙ flat_append (λ row. row) (checks_to P t ++ own) behind
+      ∙ ap (λ l. l ++ flat behind) (flat_append (λ row. row) (checks_to P t) own)
+
+  -- they stand in the table from where those before them end
+  pub level-part : take (length (checks_to P (suc t)) * P.columns - length (checks_to P t) * P.columns) (drop (length (checks_to P t) * P.columns) (check_table P)) ≡ flat own
+  level-part =
+      let size : length (checks_to P (suc t)) * P.columns - length (checks_to P t) * P.columns ≡ length (flat own) =
+      omega (arith, own-long, ap (λ k. k * P.columns) (sums-more P t) ∙ add-mul (length (checks_to P t)) (length own) P.columns) in
+      ap₂ (λ n k. take n (drop k (check_table P))) size (sym front-long)
+      ∙ ap (λ l. take (length (flat own)) (drop (length (flat (checks_to P t))) l)) the-table
+      ∙ between (flat (checks_to P t)) (flat own) (flat behind)
+
+  -- their sums of a vector as long as a row
+  pub level-sums : 0 < P.columns → (F : Field) (v : List ℕ) → length v ≡ P.columns → all_give0 F (flat own) v ≡ vanish (sums_of F own v)
+  unfolding all_give0
+  level-sums pos F v long =
+      ap (λ cs. vanish (sums_of F cs v)) (ap (λ n. all_rows n (flat own)) long ∙ rows-again pos own (wide-rows _ _ own own-fit))
+
+-- the checks of any levels are few
+pub sums-fit : (p t : ℕ) → length (checks_to (plan_of p) t) * (plan_of p).columns ≤ sum_room * column_room
+sums-fit p t = mul-le-mul (sums-most p t) (columns-most p)
+
+-- the same by the level's number
+module _ (p : ℕ) {level : ℕ} (above : 1 ≤ level) where
+  behind-first : suc (level - 1) ≡ level
+  behind-first = omega arith
+
+  pub level-checks : let P = plan_of p in
+      take (length (checks_to P level) * P.columns - length (checks_to P (level - 1)) * P.columns) (drop (length (checks_to P (level - 1)) * P.columns) (check_table P))
+      ≡ flat (level_of P level).checks
+  level-checks =
+      let P = plan_of p in
+      let first : ℕ = length (checks_to P (level - 1)) * P.columns in
+      ap (λ n. take (length (checks_to P n) * P.columns - first) (drop first (check_table P))) (sym behind-first)
+      ∙ level-part p (level - 1) ∙ ap (λ n. flat (level_of P n).checks) behind-first
+
+  pub level-vanishes : 0 < (plan_of p).columns → (F : Field) (v : List ℕ) → length v ≡ (plan_of p).columns
+      → all_give0 F (flat (level_of (plan_of p) level).checks) v ≡ vanish (sums_of F (level_of (plan_of p) level).checks v)
+  level-vanishes pos F v long =
+      subst (λ n. all_give0 F (flat (level_of (plan_of p) n).checks) v ≡ vanish (sums_of F (level_of (plan_of p) n).checks v)) behind-first
+      (level-sums p (level - 1) pos F v long)
+
+  -- the checks of the levels below end before those of this one
+  pub checks-order : length (checks_to (plan_of p) (level - 1)) ≤ length (checks_to (plan_of p) level)
+  checks-order =
+      subst (λ n. length (checks_to (plan_of p) (level - 1)) ≤ length (checks_to (plan_of p) n)) behind-first (omega (arith, sums-more (plan_of p) (level - 1)))
 
 -- ---- rows
 
@@ -67,50 +166,44 @@ module _ (F : Field) (checks : List ℕ) (m : ℕ) (v : List ℕ) where
 unfoldable pub row_holds : Plan → List ℕ → ℕ → Bool
 row_holds P stripe r = vanish (sums_of P.field (level_of P 1).checks (row_at P stripe r))
 
--- the level-1 sums of the rows before r are zero
-pub record RowsHolding (p q rows n m : ℕ) (stripe : List ℕ) (r : ℕ) : Type 0 where
-  pub is : Numbers p q rows n
-  pub its-size : q ≡ size (plan_of p).field
-  pub count : m ≡ length (checks_to (plan_of p) 1)
-  pub walk : Passing (row_holds (plan_of p) stripe) (plan_of p).rows r
-
-module _ {p q rows n m r : ℕ} {table checks stripe : List ℕ} (ask : Tested (plan_of p) table checks stripe) (more : r < rows)
-    (s : RowsHolding p q rows n m stripe r) where
-  row-long : length (part (r * n) n stripe) ≡ n
-  row-long = part_length (r * n) n stripe (row_within s.is ask.long more)
-
-  pub rows-checks : RowsIn q table m (length (part (r * n) n stripe)) checks
-  rows-checks = record { products = own-products ask.lent s.its-size; room = rw (row-long, s.count, s.is.wide, ask.lent.checks) (checks-room p 1) }
-
+module _ (p : ℕ) {f : Facts} (is : FactsOf (plan_of p) f) (stripe : List ℕ) (long : (plan_of p).rows * (plan_of p).columns ≤ length stripe)
+    (r : ℕ) (more : r < f.rows) where
   within : r < (plan_of p).rows
-  within = rw s.is.high at more
+  within = rw is.rows at more
 
-  -- the first m checks are level 1's
-  first-checks : rows_of m n checks ≡ (level_of (plan_of p) 1).checks
-  unfolding checks_to flat_map
-  first-checks = rows-of m n checks ∙ rw (s.count, s.is.wide, ask.lent.checks) (checks-in p 1 ∙ checks-more (plan_of p) 0)
+  its-known : T (known p)
+  its-known = has-rows p (omega (arith, within))
 
-  row_is : part (r * n) n stripe ≡ row_at (plan_of p) stripe r
-  unfolding row_at
-  row_is = part_of (r * n) n stripe ∙ ap (λ k. take k (drop (r * k) stripe)) s.is.wide
+  abbrev row : List ℕ
+  row = part (r * f.columns) f.columns stripe
 
-  module _ {b : Bool} (e : b ≡ vanish (sums_of (field_of q) (rows_of m (length (part (r * n) n stripe)) checks) (part (r * n) n stripe))) where
+  row-long : length row ≡ (plan_of p).columns
+  row-long = part_length (r * f.columns) f.columns stripe (row_within (numbers p is) long more) ∙ is.columns
+
+  pub row-pos : 0 < length row
+  row-pos = omega (arith, row-long, columns-pos p its-known)
+
+  module _ {checks : List ℕ} (lent : checks ≡ flat (level_of (plan_of p) 1).checks) {b : Bool} (e : b ≡ all_give0 (field_of f.field) checks row) where
     its-row : b ≡ row_holds (plan_of p) stripe r
-    unfolding row_holds
+    unfolding row_holds row_at
     its-row =
-        e ∙ ap₂ (λ cs v. vanish (sums_of (field_of q) cs v)) (ap (λ k. rows_of m k checks) row-long ∙ first-checks) row_is
-        ∙ ap (λ F. vanish (sums_of F (level_of (plan_of p) 1).checks (row_at (plan_of p) stripe r))) s.is.field
+        let P = plan_of p in
+        e ∙ ap (λ checks. all_give0 (field_of f.field) checks row) lent
+        ∙ level-sums p 0 (columns-pos p its-known) (field_of f.field) row row-long
+        ∙ ap₂ (λ F v. vanish (sums_of F (level_of P 1).checks v)) is.field.names
+        (part_of (r * f.columns) f.columns stripe ∙ ap (λ n. take n (drop (r * n) stripe)) is.columns)
 
-    pub rows-turn : b ≡ true → RowsHolding p q rows n m stripe (r + 1)
-    rows-turn t = record { is = s.is; its-size = s.its-size; count = s.count; walk = passing-more s.walk within (sym its-row ∙ t) }
+    pub rows-turn : b ≡ true → Passing (row_holds (plan_of p) stripe) (plan_of p).rows r → Passing (row_holds (plan_of p) stripe) (plan_of p).rows (r + 1)
+    rows-turn good s = passing-more s within (sym its-row ∙ good)
 
     pub rows-fail : b ≡ false → false ≡ rows_hold (plan_of p) stripe
     unfolding row_holds rows_hold
-    rows-fail f = sym (up-false (row_holds (plan_of p) stripe) _ r within (sym its-row ∙ f))
+    rows-fail bad = sym (up-false (row_holds (plan_of p) stripe) _ r within (sym its-row ∙ bad))
 
-pub rows_end : {p q rows n m r : ℕ} {stripe : List ℕ} → rows ≤ r → RowsHolding p q rows n m stripe r → true ≡ rows_hold (plan_of p) stripe
+pub rows-end : (p : ℕ) {f : Facts} → FactsOf (plan_of p) f → (stripe : List ℕ) {r : ℕ} → f.rows ≤ r → Passing (row_holds (plan_of p) stripe) (plan_of p).rows r
+    → true ≡ rows_hold (plan_of p) stripe
 unfolding row_holds rows_hold
-rows_end end s = sym (passing-all s.walk (omega (arith, s.is.high)))
+rows-end p is stripe end s = sym (passing-all s (omega (arith, is.rows)))
 
 -- ---- totals
 
@@ -136,10 +229,9 @@ vanish-turned f (x ∷ xs) ys =
     ap₂ ◌&&◌ (all_map (λ z. eqb z 0) (f x) ys) (vanish-turned f xs ys)
     ∙ all_both (λ y. eqb (f x y) 0) (λ y. vanish (map (λ x. f x y) xs)) ys
 
--- the sums of total i of level t + 1 are zero
-unfoldable pub total_holds : Plan → List ℕ → ℕ → ℕ → Bool
-total_holds P stripe t i =
-    vanish (sums_of P.field (level_of P (suc t)).checks (total_row P.field (row_in P.rows (weight_table P (suc t)) i) P.columns stripe))
+-- the sums of one weighted total are zero
+unfoldable pub total_holds : Plan → Level → List ℕ → List ℕ → Bool
+total_holds P L stripe weights = vanish (sums_of P.field L.checks (total_row P.field weights P.columns stripe))
 
 -- the weighted total of the rows' sums is the sum of their weighted total
 total-of-sums : (P : Plan) → IsField P.field → (stripe check weights : List ℕ) → length weights ≤ P.rows
@@ -150,138 +242,68 @@ total-of-sums P K stripe check weights few =
     ∙ ap (λ rows. dot P.field weights (map (dot P.field check) rows)) (rows-of P.rows P.columns stripe)
     ∙ ap (dot P.field weights) (map-map _ _ (up_from 0 P.rows)))
 
-totals-walk : (p t : ℕ) → IsField (plan_of p).field → (stripe : List ℕ) → let P = plan_of p in
-    totals_hold P stripe (level_of P (suc t)) ≡ all (total_holds P stripe t) (up_from 0 (length (level_of P (suc t)).weights))
-unfolding total_holds totals_hold sums_of
-totals-walk p t K stripe =
-    let P = plan_of p in
-    let L = level_of P (suc t) in
-    let weights : ℕ → List ℕ = row_in P.rows (weight_table P (suc t)) in
-    vanish-turned (λ c w. dot P.field w (across P stripe c)) L.checks L.weights
-    ∙ ap (all (λ w. vanish (map (λ c. dot P.field w (across P stripe c)) L.checks))) (sym (weights-in p (suc t)))
-    ∙ all_map (λ w. vanish (map (λ c. dot P.field w (across P stripe c)) L.checks)) weights _
-    ∙ ap (λ f. all f (up_from 0 (length L.weights)))
-    (fun_ext (λ i. ap (λ f. vanish (map f L.checks)) (fun_ext (λ c. total-of-sums P K stripe c (weights i) (rw length-take (min-le_left _ _))))))
+pub totals-walk : (P : Plan) (L : Level) → IsField P.field → (stripe : List ℕ) → Wide P.rows L.weights
+    → all (total_holds P L stripe) L.weights ≡ totals_hold P stripe L
+unfolding all total_holds totals_hold sums_of
+totals-walk P L K stripe wide =
+    go L.weights wide ∙ sym (vanish-turned (λ c w. dot P.field w (across P stripe c)) L.checks L.weights)
+  where
+    go : (ws : List (List ℕ)) → Wide P.rows ws
+        → all (λ w. vanish (map (λ c. dot P.field c (total_row P.field w P.columns stripe)) L.checks)) ws
+        ≡ all (λ w. vanish (map (λ c. dot P.field w (across P stripe c)) L.checks)) ws
+    go [] wide = refl
+    go (w ∷ ws) wide =
+        ap₂ ◌&&◌ (ap (λ f. vanish (map f L.checks)) (fun_ext (λ c. sym (total-of-sums P K stripe c w (le_of_eq wide.0))))) (go ws wide.1)
 
 take-zeros : (n m : ℕ) → n ≤ m → take {A = ℕ} n (replicate m 0) ≡ replicate n 0
 take-zeros zero m h = refl
 take-zeros (suc n) zero h = absurd (omega arith)
 take-zeros (suc n) (suc m) h = ap (λ l. 0 ∷ l) (take-zeros n m (omega arith))
 
--- the checks of levels 1 to t end within the longest table
-pub checks-end : {p q rows n k : ℕ} → Numbers p q rows n → (t : ℕ) → k ≡ length (checks_to (plan_of p) t) → k * n ≤ check_room
-checks-end {p} {q} {rows} {n} {k} is t count = rw (count, is.wide) (le_trans (checks-room p t) (checks-length p))
+-- ---- totals, one after the other
 
--- the sums of the totals before i are zero
-pub record TotalsHolding (p t q rows n : ℕ) (weights : List ℕ) (totals first last : ℕ) (stripe : List ℕ) (i : ℕ) : Type 0 where
-  pub by : Weighing p t q rows n weights totals
-  pub its-size : q ≡ size (plan_of p).field
-  pub from : first ≡ length (checks_to (plan_of p) t)
-  pub to : last ≡ length (checks_to (plan_of p) (suc t))
-  pub walk : Passing (total_holds (plan_of p) stripe t) (length (level_of (plan_of p) (suc t)).weights) i
+-- a total of zeros, as long as a row
+abbrev pub none : ℕ → List ℕ
+none n = take n (replicate column_room 0)
 
-module _ {p t q rows n totals first last i : ℕ} {weights table checks stripe : List ℕ} (ask : AtLevel (plan_of p) t table checks stripe)
-    (s : TotalsHolding p t q rows n weights totals first last stripe i) where
-  -- the checks of level t + 1
-  abbrev pub own : List ℕ
-  own = take (last * n - first * n) (drop (first * n) checks)
+pub none-length : (p : ℕ) {n : ℕ} → n ≡ (plan_of p).columns → length (none n) ≡ n
+none-length p {n} e = length-take-le n (replicate column_room 0) (rw e (columns-most p))
 
-  count : last - first ≡ length (level_of (plan_of p) (suc t)).checks
-  count = omega (arith, s.from, s.to, sums-more (plan_of p) t)
+-- the weights of a level, from the table
+pub weights-cut : (p level : ℕ) → T (known p) → IsField (plan_of p).field → (stripe : List ℕ) → let P = plan_of p in let L = level_of P level in
+    Cutting P.rows (total_holds P L stripe) (totals_hold P stripe L) (weight_table P level)
+unfolding weight_table
+weights-cut p level k K stripe =
+    let P = plan_of p in
+    let L = level_of P level in
+    let wide : Wide P.rows L.weights = wide-rows _ _ L.weights (weights-at p level).fit in
+    cutting-rows (rows-pos p k) L.weights wide (totals-walk P L K stripe wide)
 
-  pub totals-order : first ≤ last
-  totals-order = omega (arith, s.from, s.to, sums-more (plan_of p) t)
+module _ (p : ℕ) {f : Facts} (is : FactsOf (plan_of p) f) (k : T (known p)) (stripe : List ℕ) (long : (plan_of p).rows * (plan_of p).columns ≤ length stripe)
+    (weights : List ℕ) (high : length weights ≡ (plan_of p).rows) where
+  pub rows-inside : length weights * length (none f.columns) ≤ length stripe
+  rows-inside = rw (high, none-length p is.columns, is.columns) long
 
-  span : last * n ≡ first * n + (last - first) * n
-  span = let e : last ≡ first + (last - first) = omega (arith, totals-order) in ap (λ k. k * n) e ∙ add-mul first (last - first) n
+  module _ {total : List ℕ} (kept : length total ≡ length (none f.columns))
+      (made : total ≡ with_rows (field_of f.field) weights (length (none f.columns)) stripe (none f.columns)) where
+    total-long : length total ≡ (plan_of p).columns
+    total-long = kept ∙ none-length p is.columns ∙ is.columns
 
-  pub totals-part : first * n ≤ last * n
-  totals-part = omega (arith, span)
+    pub total-pos : 0 < length total
+    total-pos = omega (arith, total-long, columns-pos p k)
 
-  pub totals-room : last * n ≤ length checks
-  totals-room = rw (s.to, s.by.is.wide, ask.tested.lent.checks) (checks-room p (suc t))
+    total-is : total ≡ total_row (plan_of p).field weights (plan_of p).columns stripe
+    unfolding total_row
+    total-is =
+        made ∙ ap₂ (λ n z. with_rows (field_of f.field) weights n stripe z) (none-length p is.columns) (take-zeros f.columns column_room (rw is.columns (columns-most p)))
+        ∙ ap₂ (λ F n. with_rows F weights n stripe (replicate n 0)) is.field.names is.columns
 
-  own-checks : rows_of (last - first) n own ≡ (level_of (plan_of p) (suc t)).checks
-  own-checks =
-      let size : last * n - first * n ≡ (last - first) * n = omega (arith, span) in
-      ap (λ k. rows_of (last - first) n (take k (drop (first * n) checks))) size ∙ rows-front (last - first) n (drop (first * n) checks)
-      ∙ rows-from first (last - first) n checks ∙ rw (count, s.from, s.by.is.wide, ask.tested.lent.checks) (level-checks-in p t)
-
-  module _ (more : i < totals) where
-    pub weights-end : i * rows + rows ≤ weight_room
-    weights-end = le_trans (row-end rows more) (rw (s.by.count, s.by.is.high) (weights-room p (suc t)))
-
-    pub weights-within : i * rows + rows ≤ length weights
-    weights-within = rw (s.by.weighs, weights-length p (suc t)) weights-end
-
-    abbrev pub own-weights : List ℕ
-    own-weights = part (i * rows) rows weights
-
-    pub total-room : n ≤ column_room
-    total-room = rw s.by.is.wide (columns-most p)
-
-    pub zero-length : length (take n (replicate {A = ℕ} column_room 0)) ≡ n
-    zero-length = length-take-le n (replicate column_room 0) total-room
-
-    pub totals-rows : RowsIn q table (length own-weights) (length (take n (replicate {A = ℕ} column_room 0))) stripe
-    totals-rows = record {
-      products = own-products ask.tested.lent s.its-size;
-      room = rw (part_length (i * rows) rows weights weights-within, zero-length, s.by.is.high, s.by.is.wide) ask.tested.long;
-    }
-
-    -- what the rows are added to
-    module _ {new : List ℕ} (kept : length new ≡ length (take n (replicate {A = ℕ} column_room 0)))
-        (made : new ≡ with_rows (field_of q) own-weights (length (take n (replicate {A = ℕ} column_room 0))) stripe (take n (replicate column_room 0))) where
-      abbrev pub total : List ℕ
-      total = new ++ drop n (replicate column_room 0)
-
-      pub total-long : n ≤ length total
-      total-long = simp length-append (omega (arith, kept, zero-length))
-
-      pub total-length : length (take n total) ≡ n
-      total-length = length-take-le n total total-long
-
-      total-is : take n total ≡ total_row (field_of q) own-weights n stripe
-      unfolding total_row
-      total-is = take_at new _ n (kept ∙ zero-length) ∙ made ∙ ap₂ (λ k z. with_rows (field_of q) own-weights k stripe z) zero-length (take-zeros n column_room total-room)
-
-      pub totals-checks : RowsIn q table (last - first) (length (take n total)) own
-      totals-checks =
-          let e : length own ≡ last * n - first * n = length-take-le _ (drop (first * n) checks) (simp length-drop (omega (arith, totals-room))) in
-          record { products = own-products ask.tested.lent s.its-size; room = rw (total-length, e) (omega (arith, span)) }
-
-      module _ {b : Bool} (e : b ≡ vanish (sums_of (field_of q) (rows_of (last - first) (length (take n total)) own) (take n total))) where
-        its-total : b ≡ total_holds (plan_of p) stripe t i
-        unfolding total_holds
-        its-total =
-            let P = plan_of p in
-            let checks-of = (level_of P (suc t)).checks in
-            e ∙ ap₂ (λ cs v. vanish (sums_of (field_of q) cs v)) (ap (λ k. rows_of (last - first) k own) total-length ∙ own-checks) total-is
-            ∙ ap₂ (λ F l. vanish (sums_of F checks-of (total_row F (part (i * rows) rows l) n stripe))) s.by.is.field s.by.weighs
-            ∙ ap (λ l. vanish (sums_of P.field checks-of (total_row P.field l n stripe))) (part_of (i * rows) rows _)
-            ∙ ap₂ (λ R k. vanish (sums_of P.field checks-of (total_row P.field (row_in R (weight_table P (suc t)) i) k stripe)))
-            s.by.is.high s.by.is.wide
-
-        within-totals : i < length (level_of (plan_of p) (suc t)).weights
-        within-totals = rw s.by.count at more
-
-        pub totals-turn : b ≡ true → TotalsHolding p t q rows n weights totals first last stripe (i + 1)
-        totals-turn good = record {
-          by = s.by;
-          its-size = s.its-size;
-          from = s.from;
-          to = s.to;
-          walk = passing-more s.walk within-totals (sym its-total ∙ good);
-        }
-
-        pub totals-fail : b ≡ false → false ≡ totals_hold (plan_of p) stripe (level_of (plan_of p) (suc t))
-        totals-fail bad =
-            sym (totals-walk p t (subst IsField s.by.is.field (our-field q)) stripe ∙ up-false _ _ i within-totals (sym its-total ∙ bad))
-
-pub totals-end : {p t q rows n totals first last i : ℕ} {weights stripe : List ℕ} → totals ≤ i
-    → TotalsHolding p t q rows n weights totals first last stripe i → true ≡ totals_hold (plan_of p) stripe (level_of (plan_of p) (suc t))
-totals-end {p} {t} {q} {stripe = stripe} all s =
-    sym (totals-walk p t (subst IsField s.by.is.field (our-field q)) stripe ∙ passing-all s.walk (omega (arith, s.by.count)))
+    pub its-total : {level : ℕ} → 1 ≤ level → {checks : List ℕ} → checks ≡ flat (level_of (plan_of p) level).checks
+        → all_give0 (field_of f.field) checks total ≡ total_holds (plan_of p) (level_of (plan_of p) level) stripe weights
+    unfolding total_holds
+    its-total {level} above lent =
+        ap (λ checks. all_give0 (field_of f.field) checks total) lent ∙ level-vanishes p above (columns-pos p k) (field_of f.field) total total-long
+        ∙ ap₂ (λ F v. vanish (sums_of F (level_of (plan_of p) level).checks v)) is.field.names total-is
 
 -- ---- levels
 
@@ -301,36 +323,40 @@ levels-behind [] = refl
 levels-behind (L ∷ ls) =
     let e : suc (length ls) - 1 ≡ length ls = omega arith in ap (λ n. map (λ t. get_or ls t no_level) (up_from 0 n)) e ∙ get_or-all no_level ls
 
--- the totals of the levels before t + 1 are zero
-pub record LevelsHolding (p last : ℕ) (stripe : List ℕ) (t : ℕ) : Type 0 where
-  pub count : last ≡ length (plan_of p).levels
-  pub least : 1 ≤ t
-  pub walk : Passing (level_holds (plan_of p) stripe) (last - 1) (t - 1)
+-- the totals of the levels below this one are zero
+pub record LevelsHolding (p : ℕ) (stripe : List ℕ) (level : ℕ) : Type 0 where
+  pub above : 2 ≤ level
+  pub walk : Passing (level_holds (plan_of p) stripe) (length (plan_of p).levels - 1) (level - 2)
 
-module _ {p last t : ℕ} {stripe : List ℕ} (s : LevelsHolding p last stripe t) where
-  levels-walk : all (level_holds (plan_of p) stripe) (up_from 0 (last - 1)) ≡ all (totals_hold (plan_of p) stripe) (drop 1 (plan_of p).levels)
+module _ (p : ℕ) (stripe : List ℕ) where
+  levels-walk : all (level_holds (plan_of p) stripe) (up_from 0 (length (plan_of p).levels - 1)) ≡ all (totals_hold (plan_of p) stripe) (drop 1 (plan_of p).levels)
   unfolding level_holds level_of
   levels-walk =
       let P = plan_of p in
-      ap (λ n. all (level_holds P stripe) (up_from 0 (n - 1))) s.count
-      ∙ sym (all_map (totals_hold P stripe) (λ t. get_or P.levels (suc t) no_level) (up_from 0 (length P.levels - 1)))
+      sym (all_map (totals_hold P stripe) (λ t. get_or P.levels (suc t) no_level) (up_from 0 (length P.levels - 1)))
       ∙ ap (all (totals_hold P stripe)) (levels-behind P.levels)
 
-  module _ (more : t < last) {b : Bool} (e : b ≡ totals_hold (plan_of p) stripe (level_of (plan_of p) (suc t))) where
-    its-level : level_holds (plan_of p) stripe (t - 1) ≡ b
-    unfolding level_holds
-    its-level = let k : suc (t - 1) ≡ t = omega (arith, s.least) in ap (λ k. totals_hold (plan_of p) stripe (level_of (plan_of p) (suc k))) k ∙ sym e
+  pub levels-start : LevelsHolding p stripe 2
+  levels-start = record { above = omega arith; walk = passing-none }
 
-    pub levels-turn : b ≡ true → LevelsHolding p last stripe (t + 1)
-    levels-turn good =
-        let k : t - 1 + 1 ≡ t + 1 - 1 = omega (arith, s.least) in
-        record { count = s.count; least = omega arith; walk = subst (Passing _ (last - 1)) k (passing-more s.walk (omega (arith, s.least)) (its-level ∙ good)) }
+  module _ {level : ℕ} (s : LevelsHolding p stripe level) where
+    module _ (more : level < length (plan_of p).levels + 1) {b : Bool} (e : b ≡ totals_hold (plan_of p) stripe (level_of (plan_of p) level)) where
+      its-level : level_holds (plan_of p) stripe (level - 2) ≡ b
+      unfolding level_holds
+      its-level =
+          let k : suc (suc (level - 2)) ≡ level = omega (arith, s.above) in
+          ap (λ k. totals_hold (plan_of p) stripe (level_of (plan_of p) k)) k ∙ sym e
 
-    pub levels-fail : b ≡ false → false ≡ all (totals_hold (plan_of p) stripe) (drop 1 (plan_of p).levels)
-    levels-fail bad = sym (up-false _ _ (t - 1) (omega (arith, s.least)) (its-level ∙ bad)) ∙ levels-walk
+      pub levels-turn : b ≡ true → LevelsHolding p stripe (level + 1)
+      levels-turn good =
+          let k : level - 2 + 1 ≡ level + 1 - 2 = omega (arith, s.above) in
+          record { above = omega (arith, s.above); walk = subst (Passing _ _) k (passing-more s.walk (omega (arith, s.above)) (its-level ∙ good)) }
 
-  pub levels-end : last ≤ t → true ≡ all (totals_hold (plan_of p) stripe) (drop 1 (plan_of p).levels)
-  levels-end end = sym (passing-all s.walk (omega (arith, s.least))) ∙ levels-walk
+      pub levels-fail : b ≡ false → false ≡ all (totals_hold (plan_of p) stripe) (drop 1 (plan_of p).levels)
+      levels-fail bad = sym (up-false _ _ (level - 2) (omega (arith, s.above)) (its-level ∙ bad)) ∙ levels-walk
+
+    pub levels-end : length (plan_of p).levels + 1 ≤ level → true ≡ all (totals_hold (plan_of p) stripe) (drop 1 (plan_of p).levels)
+    levels-end end = sym (passing-all s.walk (omega (arith, s.above))) ∙ levels-walk
 
 -- ---- the test
 

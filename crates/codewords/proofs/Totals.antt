@@ -1,8 +1,7 @@
 -- The rows' weighted total: the loops that add it up, and its sums. Assumes nothing.
 use mathlib.Core.Path.{◌≡◌, refl, sym, ap, ap₂, ◌∙◌, subst}
-use mathlib.Core.Logic.{◌≢◌}
 use mathlib.Core.List.{List, [], ◌∷◌, map}
-use Prim.Native.Nat.{ℕ, zero, suc, ◌+◌, ◌*◌, ◌≤◌, ◌<◌}
+use Prim.Native.Nat.{ℕ, zero, suc, ◌+◌, ◌*◌, ◌-◌, ◌≤◌, ◌<◌}
 use native.Mathlib.Nat.{zero-mul, suc-mul, zero-add, add-zero, le_of_eq}
 use native.Mathlib.Numerals.{add-one}
 use native.Mathlib.Omega.{arith}
@@ -10,12 +9,13 @@ use lib.Bits.{bit_and, and_mask}
 use lib.Dec.{lit<}
 use lib.ListN.{length, get_or, set, take, drop, replicate, length-map, get_or-map, drop_of_length-le}
 use lib.Seq.{take_all, drop-cons, drop-drop, drop-paste, get_or-drop}
-use Rattle.field.specs.Lists.{when◌then◌else◌}
 use Rattle.field.specs.Field.{◌⊕◌, Field, size, mul, dot, gf2, gf16, gf256}
 use Rattle.field.specs.Ours.{field_of}
+use Rattle.field.specs.declared.Gf.{Gf}
+use Rattle.field.specs.declared.Gf.TheVariants.{Two, Sixteen, Bytes}
 use Rattle.field.proofs.Sum.{⊕-assoc, ⊕-zero, zero-⊕}
 use Rattle.field.proofs.Ring.{one-low}
-use Rattle.field.proofs.Fields.{field-256}
+use Rattle.field.proofs.Fields.{our-field}
 use Rattle.field.proofs.Laws.{IsField, mul-zero}
 use Rattle.fills.specs.Marks.{rows_of}
 use Rattle.fills.specs.Lists.{plus}
@@ -26,21 +26,16 @@ use Rattle.codewords.specs.Asked.{with_rows, total_row}
 
 -- ---- one row
 
--- the product with 1 is the field's bits
-pub record Bits (q bits : ℕ) : Type 0 where
-  pub plain : (x : ℕ) → bit_and x bits ≡ mul (field_of q) 1 x
+-- of a symbol the field's bits count
+pub size-small : (q : Gf) → size (field_of q) - 1 < 256
+unfolding size gf2 gf16 gf256 field_of
+size-small Two = lit< tt
+size-small Sixteen = lit< tt
+size-small Bytes = lit< tt
 
-pub bits-2 : {q bits : ℕ} → q ≡ 2 → bits ≡ 1 → Bits q bits
-unfolding when◌then◌else◌ size gf2 field_of
-bits-2 e b = record { plain = λ x. rw (e, b) (and_mask x 1 ∙ sym (one-low gf2 (lit< tt) x)) }
-
-pub bits-16 : {q bits : ℕ} → q ≡ 16 → bits ≡ 15 → Bits q bits
-unfolding when◌then◌else◌ size gf16 field_of
-bits-16 e b = record { plain = λ x. rw (e, b) (and_mask x 4 ∙ sym (one-low gf16 (lit< tt) x)) }
-
-pub bits-256 : {q bits : ℕ} → q ≢ 2 → q ≢ 16 → bits ≡ 255 → Bits q bits
-unfolding size gf256
-bits-256 {q} two sixteen b = record { plain = λ x. rw (field-256 q two sixteen, b) (and_mask x 8 ∙ sym (one-low gf256 (lit< tt) x)) }
+pub plain-product : (q : Gf) (x : ℕ) → bit_and x (size (field_of q) - 1) ≡ mul (field_of q) 1 x
+unfolding size
+plain-product q x = and_mask x (field_of q).width ∙ sym (one-low (field_of q) (our-field q).one-lt x)
 
 module _ (F : Field) (w : ℕ) (row total₀ : List ℕ) (same : length row ≡ length total₀) where
   abbrev added : List ℕ

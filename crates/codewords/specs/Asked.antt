@@ -1,32 +1,12 @@
--- What the functions of the codeword test ask and make.
-use Rattle.std.specs.Prelude.{ℕ, ◌*◌, ◌≤◌, ◌<◌, ◌≡◌, List, [], ◌∷◌, map, length, take, drop, replicate}
+-- What the functions of the codeword test make.
+use Rattle.std.specs.Prelude.{ℕ, ◌/◌, List, [], ◌∷◌, map, length, take, drop, replicate}
 use Rattle.field.specs.Field.{Field, mul}
-use Rattle.field.specs.Ours.{table_of}
 use Rattle.fills.specs.Lists.{plus}
-use Rattle.plans.specs.Plan.{Plan}
-use Rattle.tables.specs.Tables.{Lent}
+use Rattle.fills.specs.Marks.{rows_of}
 
--- ---- what is lent
-
--- both tables of a plan, with a stripe of its symbols
-pub record Tested (P : Plan) (table checks stripe : List ℕ) : Type 0 where
-  pub lent : Lent P table checks
-  pub long : P.rows * P.columns ≤ length stripe
-
--- for level t + 1
-pub record AtLevel (P : Plan) (t : ℕ) (table checks stripe : List ℕ) : Type 0 where
-  pub tested : Tested P table checks stripe
-  pub level : t < length P.levels
-
--- field q's table, with m rows of n numbers
-pub record RowsIn (q : ℕ) (table : List ℕ) (m n : ℕ) (l : List ℕ) : Type 0 where
-  pub products : table ≡ table_of q
-  pub room : m * n ≤ length l
-
--- with a row as long as the total
-pub record RowAndTotal (q : ℕ) (table row total : List ℕ) : Type 0 where
-  pub products : table ≡ table_of q
-  pub same : length row ≡ length total
+-- a flat list as rows of n numbers, as many as it has
+unfoldable pub all_rows : ℕ → List ℕ → List (List ℕ)
+all_rows n l = rows_of (length l / n) n l
 
 -- ---- the rows' weighted total
 

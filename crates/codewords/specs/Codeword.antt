@@ -1,13 +1,11 @@
 -- The rule of the code, and the codeword test.
-use Rattle.std.specs.Prelude.{ℕ, Bool, ◌&&◌, List, [], ◌∷◌, eqb, drop}
+use Rattle.std.specs.Prelude.{ℕ, Bool, ◌&&◌, List, [], ◌∷◌, eqb, drop, Result, Ok, Err}
 use Rattle.field.specs.Lists.{when◌then◌else◌, up_from}
 use Rattle.field.specs.Field.{size}
 use Rattle.fills.specs.Lists.{all, vanish}
 use Rattle.fills.specs.Fill.{sums_of}
 use Rattle.plans.specs.Plan.{Plan, Level, plan_of, known, level_of, row_at, across}
 use Rattle.plans.specs.Refusal.{stripe_fits, all_below, first_failed}
-use Rattle.plans.specs.declared.Verdict.{Verdict}
-use Rattle.plans.specs.declared.Verdict.TheVariants.{Yes, No, Refused as Untested}
 
 -- ---- the rule of the code
 
@@ -27,7 +25,7 @@ test_refusal p stripe =
     let P = plan_of p in
     first_failed ((10, known p) ∷ (11, stripe_fits P stripe) ∷ (13, all_below (size P.field) stripe) ∷ [])
 
-unfoldable pub tested : ℕ → List ℕ → Verdict
+unfoldable pub tested : ℕ → List ℕ → Result Bool ℕ
 tested p stripe =
     let n = test_refusal p stripe in
-    when eqb n 0 then when is_codeword (plan_of p) stripe then Yes else No else Untested n
+    when eqb n 0 then Ok (is_codeword (plan_of p) stripe) else Err n

@@ -1,149 +1,130 @@
 // The codeword test: the rows' level-1 sums and each level's weighted totals. It changes nothing.
-ghost use Rattle.std.specs.Prelude.{◌≡◌, map, suc, ◌*◌, ◌≤◌, length};
+ghost use Rattle.std.specs.Prelude.{◌≡◌, map, ◌*◌, ◌≤◌, ◌<◌, length};
+ghost use mathlib.Core.List.{flat_map};
 ghost use Rattle.field.specs.Field.{mul};
 ghost use Rattle.field.specs.Ours.{field_of};
 ghost use Rattle.fills.specs.Lists.{vanish, plus};
 ghost use Rattle.fills.specs.Fill.{sums_of};
-ghost use Rattle.fills.specs.Marks.{rows_of};
 ghost use Rattle.plans.specs.Plan.{plan_of, level_of};
 ghost use Rattle.codewords.specs.Codeword.{rows_hold, totals_hold, is_codeword};
-ghost use Rattle.codewords.specs.Asked.{RowsIn, RowAndTotal, Tested, AtLevel, with_rows};
+ghost use Rattle.codewords.specs.Asked.{all_rows, with_rows};
 
-use plans::{CHECKS, COLUMNS};
+use field::Gf;
+use plans::COLUMNS;
 
-// Whether each of the first m checks gives 0 with v. A check is as long as v.
-pub fn vanishes(q: usize, table: &[u8], checks: &[u8], m: usize, v: &[u8]) -> bool
-    requires { RowsIn q table.now m (length v.now) checks.now }
-    ensures { result ≡ vanish (sums_of (field_of q) (rows_of m (length v.now) checks.now) v.now) }
+// Whether each check gives 0 with v. The checks stand one behind the other, each as long as v.
+pub fn vanishes(q: Gf, checks: &[u8], v: &[u8]) -> bool
+    ensures { result ≡ vanish (sums_of (field_of q) (all_rows (length v.now) checks.now) v.now) }
 {
-    let n = v.len();
-    for i in 0..m {
-        let start = i * n;
-        let end = start + n;
-        if field::dot(q, table, &checks[start..end], v) != 0 {
+    if v.is_empty() {
+        return true;
+    }
+    for check in checks.chunks_exact(v.len()) {
+        if q.dot(check, v) != 0 {
             return false;
         }
     }
     true
 }
 
+// The row checks of a level, one behind the other.
+fn level_checks(plan: usize, level: usize) -> &'static [u8]
+    requires { 1 ≤ level }
+    ensures { result.now ≡ flat_map (λ row. row) (level_of (plan_of plan) level).checks }
+{
+    let columns = tables::facts_of(plan).columns;
+    let first = tables::sums_to(plan, level - 1) * columns;
+    let last = tables::sums_to(plan, level) * columns;
+    &tables::checks(plan)[first..last]
+}
+
+// A stripe's length is asked by each of these: a type that knew it would have to know the plan.
+
 // Whether every row's level-1 sums are zero, row by row.
-pub fn rows_hold(plan: usize, table: &[u8], checks: &[u8], stripe: &[u8]) -> bool
-    requires { Tested (plan_of plan) table.now checks.now stripe.now }
+pub fn rows_hold(plan: usize, stripe: &[u8]) -> bool
+    requires { (plan_of plan).rows * (plan_of plan).columns ≤ length stripe.now }
     ensures { result ≡ rows_hold (plan_of plan) stripe.now }
 {
     let facts = tables::facts_of(plan);
-    let q = facts.field;
-    let rows = facts.rows;
-    let n = facts.columns;
-    let m = tables::sums_to(plan, 1);
-    for r in 0..rows {
-        let start = r * n;
-        let end = start + n;
-        if !vanishes(q, table, checks, m, &stripe[start..end]) {
+    let columns = facts.columns;
+    let checks = level_checks(plan, 1);
+    // by number: a plan that is none has rows of no columns, which are no chunks
+    for r in 0..facts.rows {
+        let start = r * columns;
+        if !vanishes(facts.field, checks, &stripe[start..start + columns]) {
             return false;
         }
     }
     true
 }
 
-// Adds each symbol of a row of weight 1 to the total, without products. Of a symbol the field's bits count. The row is as long as the total.
-pub fn add_plain(q: usize, row: &[u8], total: &mut [u8])
-    requires { length row.now ≡ length total.old }
-    ensures { total.new ≡ plus total.old (map (mul (field_of q) 1) row.now) }
+// A symbol times its row's weight. Under weight 1 it makes no product: the field's bits count.
+fn weighted(q: Gf, weight: u8, symbol: u8) -> u8
+    ensures { result ≡ mul (field_of q) weight symbol }
 {
-    let bits = match q {
-        2 => 1,
-        16 => 15,
-        _ => 255,
-    };
-    for c in 0..row.len() {
-        total[c] = total[c] ^ row[c] & bits;
+    if weight == 1 {
+        symbol & (q.size() - 1) as u8
+    } else {
+        q.product(weight, symbol)
     }
 }
 
 // Adds each symbol of a row, times the row's weight, to the total. The row is as long as the total.
-fn add_times(q: usize, table: &[u8], weight: u8, row: &[u8], total: &mut [u8])
-    requires { RowAndTotal q table.now row.now total.old }
+fn add_row(q: Gf, weight: u8, row: &[u8], total: &mut [u8])
+    requires { length row.now ≡ length total.old }
     ensures { total.new ≡ plus total.old (map (mul (field_of q) weight) row.now) }
 {
-    for c in 0..row.len() {
-        total[c] = total[c] ^ field::product(q, table, weight, row[c]);
+    // by place: of what an adapter of `iter_mut` writes a proof learns nothing
+    for (c, symbol) in row.iter().enumerate() {
+        total[c] ^= weighted(q, weight, *symbol);
     }
 }
 
 // Adds rows, one behind the other, to the total, each times its weight. A row is as long as the total.
-pub fn add_rows(q: usize, table: &[u8], weights: &[u8], symbols: &[u8], total: &mut [u8])
-    requires { RowsIn q table.now (length weights.now) (length total.old) symbols.now }
+pub fn add_rows(q: Gf, weights: &[u8], symbols: &[u8], total: &mut [u8])
+    requires { length weights.now * length total.old ≤ length symbols.now }
     ensures { total.new ≡ with_rows (field_of q) weights.now (length total.old) symbols.now total.old }
 {
-    let n = total.len();
-    for r in 0..weights.len() {
-        let start = r * n;
-        let end = start + n;
-        let weight = weights[r];
-        if weight == 1 {
-            add_plain(q, &symbols[start..end], total);
-        } else {
-            add_times(q, table, weight, &symbols[start..end], total);
-        }
+    // rows by number: those of no columns are no chunks
+    let columns = total.len();
+    for (r, weight) in weights.iter().enumerate() {
+        let start = r * columns;
+        add_row(q, *weight, &symbols[start..start + columns], total);
     }
 }
 
-// Whether each weighted total of the rows' sums at level t + 1 is zero: these are the sums of the rows' weighted totals.
-fn totals_hold(plan: usize, t: usize, table: &[u8], checks: &[u8], stripe: &[u8]) -> bool
-    requires { AtLevel (plan_of plan) t table.now checks.now stripe.now }
-    ensures { result ≡ totals_hold (plan_of plan) stripe.now (level_of (plan_of plan) (suc t)) }
+// Whether each weighted total of the rows' sums at a level is zero: these are the sums of the rows' weighted totals.
+fn totals_hold(plan: usize, level: usize, stripe: &[u8]) -> bool
+    requires long { (plan_of plan).rows * (plan_of plan).columns ≤ length stripe.now }
+    requires above { 1 ≤ level }
+    requires within { level ≤ length (plan_of plan).levels }
+    ensures { result ≡ totals_hold (plan_of plan) stripe.now (level_of (plan_of plan) level) }
 {
     let facts = tables::facts_of(plan);
-    let q = facts.field;
-    let rows = facts.rows;
-    let n = facts.columns;
-    let weights = tables::weights(plan, t + 1);
-    let totals = tables::totals(plan, t + 1);
-    let first = tables::sums_to(plan, t);
-    let last = tables::sums_to(plan, t + 1);
-    let from = first * n;
-    let to = last * n;
-    for i in 0..totals {
-        let start = i * rows;
-        let end = start + rows;
-        let mut total = [0u8; COLUMNS];
-        add_rows(q, table, &weights[start..end], stripe, &mut total[..n]);
-        if !vanishes(q, table, &checks[from..to], last - first, &total[..n]) {
+    let checks = level_checks(plan, level);
+    for weights in tables::weights(plan, level).chunks_exact(facts.rows) {
+        let mut room = [0u8; COLUMNS];
+        let total = &mut room[..facts.columns];
+        add_rows(facts.field, weights, stripe, total);
+        if !vanishes(facts.field, checks, total) {
             return false;
         }
     }
     true
 }
 
-// Whether a stripe of the plan's length is a codeword, by the plan's tables: first the rows, then the totals of every level from 2 on.
-fn holds_by(plan: usize, table: &[u8], checks: &[u8], stripe: &[u8]) -> bool
-    requires { Tested (plan_of plan) table.now checks.now stripe.now }
-    ensures { result ≡ is_codeword (plan_of plan) stripe.now }
-{
-    if !rows_hold(plan, table, checks, stripe) {
-        return false;
-    }
-    let facts = tables::facts_of(plan);
-    let last = facts.levels;
-    for t in 1..last {
-        if !totals_hold(plan, t, table, checks, stripe) {
-            return false;
-        }
-    }
-    true
-}
-
-// Whether a stripe of the plan's length is a codeword.
+// Whether a stripe of the plan's length is a codeword: first the rows, then the totals of every level from 2 on.
 pub fn holds(plan: usize, stripe: &[u8]) -> bool
     requires { (plan_of plan).rows * (plan_of plan).columns ≤ length stripe.now }
     ensures { result ≡ is_codeword (plan_of plan) stripe.now }
 {
-    let facts = tables::facts_of(plan);
-    let mut room = [0u8; CHECKS];
-    let size = tables::put_checks(plan, &mut room);
-    let end = tables::put_table(facts.field, &mut room, size);
-    let lent = &room[..end];
-    holds_by(plan, &lent[size..], &lent[..size], stripe)
+    if !rows_hold(plan, stripe) {
+        return false;
+    }
+    for level in 2..=tables::facts_of(plan).levels {
+        if !totals_hold(plan, level, stripe) {
+            return false;
+        }
+    }
+    true
 }

@@ -4,28 +4,24 @@
 pub mod codeword;
 
 ghost use Rattle.std.specs.Prelude.{◌≡◌};
+ghost use Rattle.plans.specs.Answers.{numbered};
 ghost use Rattle.codewords.specs.Codeword.{tested};
 
-use plans::Verdict;
+use plans::Refusal;
 
 // Whether a stripe is a codeword: every row's level-1 sums are zero, and so are the totals of every further level.
-pub fn is_codeword(plan: usize, stripe: &[u8]) -> Verdict
-    ensures { result ≡ tested plan stripe.now }
+pub fn is_codeword(plan: usize, stripe: &[u8]) -> Result<bool, Refusal>
+    ensures { numbered result ≡ tested plan stripe.now }
 {
     if !tables::is_known(plan) {
-        return Verdict::Refused(10);
+        return Err(Refusal::UnknownPlan);
     }
     let facts = tables::facts_of(plan);
-    let size = facts.symbols;
-    if stripe.len() != size {
-        return Verdict::Refused(11);
+    if stripe.len() != facts.symbols {
+        return Err(Refusal::WrongLength);
     }
-    let q = facts.field;
-    if !refusals::all_below(q, stripe) {
-        return Verdict::Refused(13);
+    if !refusals::all_below(facts.field.size(), stripe) {
+        return Err(Refusal::NoSymbol);
     }
-    if codeword::holds(plan, stripe) {
-        return Verdict::Yes;
-    }
-    Verdict::No
+    Ok(codeword::holds(plan, stripe))
 }

@@ -8,17 +8,17 @@ use native.Mathlib.Omega.{arith}
 use lib.Dec.{T}
 use lib.ListN.{length, get_or}
 use lib.Seq.{get_or-take}
+use Rattle.std.specs.Prelude.{Ok}
 use Rattle.fills.proofs.Choices.{Inside}
 use Rattle.plans.specs.Plan.{plan_of, row_at, marks_at}
 use Rattle.steps.specs.Steps.{fresh}
 use Rattle.repair.specs.Mending.{turn_report, turn_stripe, turn_marks, mend_report, mend_marks}
 use Rattle.rounds.specs.Reports.{end_report}
 use Rattle.plans.specs.declared.Bench.{Bench}
-use Rattle.plans.specs.declared.Report.{Report}
 use Rattle.plans.proofs.Rows.{marks-length}
 use Rattle.steps.proofs.Fit.{lent-fit, fresh-mark}
 use Rattle.demands.specs.Words.{Codeword, Agree, Fit, walk, Quiet, rounds}
-use Rattle.demands.specs.Fewer.{MarksInside, EndsClear, row_after, NoWorse, FewerNeverHurt}
+use Rattle.demands.specs.Fewer.{MarksInside, EndsClear, row_after, level_reached, NoWorse, FewerNeverHurt}
 use Rattle.demands.proofs.Alike.{mark-at}
 use Rattle.demands.proofs.Held.{Held, held-fresh, held-unmarked}
 use Rattle.demands.proofs.Order.{RowInside, Below, below-unmarked, fewer-marks}
@@ -53,7 +53,7 @@ record LeftBy (p : ℕ) (X stripe marks : List ℕ) : Type 0 where
   leads : walk (rounds (plan_of p) (length (plan_of p).levels)) (fresh p stripe marks) ≡ bench
   words : (r : ℕ) → r < (plan_of p).rows → get_or (mend_marks p stripe marks) r 0 ≡ get_or bench.marks r 0
   rows : (r : ℕ) → r < (plan_of p).rows → row_after p stripe marks r ≡ row_at (plan_of p) bench.symbols r
-  level : (mend_report p stripe marks).level ≡ bench.level
+  level : level_reached (mend_report p stripe marks) ≡ bench.level
 
 left_by : (p : ℕ) (X stripe marks : List ℕ) → Codeword p X → Fit p stripe marks → Agree p marks X stripe → LeftBy p X stripe marks
 unfolding end_report turn_report turn_stripe turn_marks
@@ -72,7 +72,7 @@ left_by p X stripe marks word fit agree =
       rows = λ r l.
           ap (λ Y. row_at (plan_of p) Y r) (stripe-turn p stripe marks fit ∙ ap (λ t. turn_stripe t stripe) e.1)
           ∙ row-left p stripe marks fit m there r l;
-      level = ap (λ (r : Report). r.level) (report-turn p stripe marks fit ∙ ap turn_report e.1);
+      level = ap level_reached (report-turn p stripe marks fit ∙ ap (λ t. Ok (turn_report t)) e.1);
     }
 
 -- a row without marks at the end is the codeword's

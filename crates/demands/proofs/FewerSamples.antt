@@ -7,6 +7,7 @@ use mathlib.Core.List.{List, [], ◌∷◌, flat_map}
 use Prim.Native.Nat.{ℕ}
 use lib.Dec.{T, T_not, ltb, ltb→lt, nltb→le}
 use lib.ListN.{length, get_or, replicate, set, get_or-eq_default}
+use Rattle.std.specs.Prelude.{Ok}
 use Rattle.field.specs.Lists.{when◌then◌else◌, up_from, ◌to◌}
 use Rattle.field.specs.Field.{◌⊕◌, size, double, times, mul, dot, gf2, gf16}
 use Rattle.field.proofs.Test.{below, at}
@@ -73,9 +74,9 @@ fewer-losses =
 
 -- under the second set row 2 alone is restored, and level 1 is reached; under the first row 0 is restored too, and level 2 is reached
 pub fewer-restored :
-    (mend_report 1 more_stripe more_marks ≡ record { answer = Stuck; level = 1; rows = 1 ∷ 0 ∷ 0 ∷ []; left = 2 })
+    (mend_report 1 more_stripe more_marks ≡ Ok (record { answer = Stuck; level = 1; rows = 1 ∷ 0 ∷ 0 ∷ []; left = 2 }))
     × (mend_marks 1 more_stripe more_marks ≡ 3 ∷ 48 ∷ 0 ∷ []) × (mend_stripe 1 more_stripe more_marks ≡ more_stripe)
-    × (mend_report 1 back_stripe back_marks ≡ record { answer = Restored; level = 2; rows = 1 ∷ 1 ∷ 0 ∷ []; left = 0 })
+    × (mend_report 1 back_stripe back_marks ≡ Ok (record { answer = Restored; level = 2; rows = 1 ∷ 1 ∷ 0 ∷ []; left = 0 }))
     × (mend_marks 1 back_stripe back_marks ≡ 0 ∷ 0 ∷ 0 ∷ []) × (mend_stripe 1 back_stripe back_marks ≡ example_after)
 unfolding when◌then◌else◌ up_from ◌⊕◌ size double times mul dot gf2 flat_map
     any all only same zeros vanish first rest bits_of sums_of options before choices loose dependent fillings fill_by fill

@@ -9,6 +9,7 @@ use native.Mathlib.Nat.{zero-add, le_of_eq}
 use native.Mathlib.Omega.{arith}
 use lib.Dec.{T, eqb, ltb, eqb→eq, lt→ltb}
 use lib.ListN.{length, get_or, length-map}
+use Rattle.std.specs.Prelude.{Ok}
 use Rattle.field.specs.Lists.{when◌then◌else◌, up_from}
 use Rattle.field.specs.Field.{dot}
 use Rattle.fills.specs.Lists.{vanish, first, rest}
@@ -21,9 +22,9 @@ use Rattle.fills.proofs.Filling.{fill-true}
 use Rattle.plans.specs.Plan.{Plan, Level, known, plan_of, level_of, checks_to, row_at, marks_at, across}
 use Rattle.plans.specs.Refusal.{all_below, sums_at}
 use Rattle.plans.specs.Rooms.{sum_room}
-use Rattle.steps.specs.Steps.{fresh, stepped, row_fill, put_row, row_step_by, row_step, lossy, check_fill, blocked, learned, level_fill, raise, level_step_by, level_step}
+use Rattle.steps.specs.Steps.{Stepped, fresh, stepped, row_fill, put_row, row_step_by, row_step, lossy, check_fill, blocked, learned, level_fill, raise, level_step_by, level_step}
 use Rattle.plans.specs.declared.Bench.{Bench}
-use Rattle.plans.specs.declared.Stepped.{Stepped}
+use Rattle.plans.specs.declared.Step.{Step}
 use Rattle.plans.specs.declared.Step.TheVariants.{Top}
 use Rattle.plans.proofs.Rows.{of-rows, row-end, row-length, marks-length}
 use Rattle.steps.proofs.Levels.{checks-first, checks-suc, checks-le, sums-length}
@@ -263,17 +264,17 @@ module _ (p : ℕ) (X : List ℕ) (b : Bench) (h : Held p X b) where
   pub row-fills : (r : ℕ) → r < Q.rows → RowFree p b.level b.marks r → (row_step b r).bench ≡ put_row b r (row_at Q X r)
   unfolding row_step_by stepped
   row-fills r l i =
-      ap (λ (s : Stepped). s.bench)
+      ap (λ (s : Stepped Step). s.bench)
       (row_step_lem b h.sound.fit r (subst (λ q. r < (plan_of q).rows) (sym h.plan) l)
       ∙ ap (row_step_by b r) (row-finds r l ∙ if-false (row_tied p b.level b.marks r) tied (one (row_at Q X r)) i))
 
   pub level-learns : b.level < length Q.levels → LevelFree p b.level b.marks → (level_step b).bench ≡ raise b (word_sums p b.level X)
   unfolding level_step_by stepped
   level-learns low i =
-      ap (λ (s : Stepped). s.bench)
+      ap (λ (s : Stepped Step). s.bench)
       (level-step b h.sound.fit
-      ∙ ap (λ q. when ltb b.level (length (plan_of q).levels) then level_step_by b (level_fill b) else stepped b Top) h.plan
-      ∙ if-true (ltb b.level (length Q.levels)) (level_step_by b (level_fill b)) (stepped b Top) (lt→ltb b.level (length Q.levels) low)
+      ∙ ap (λ q. when ltb b.level (length (plan_of q).levels) then level_step_by b (level_fill b) else stepped b (Ok Top)) h.plan
+      ∙ if-true (ltb b.level (length Q.levels)) (level_step_by b (level_fill b)) (stepped b (Ok Top)) (lt→ltb b.level (length Q.levels) low)
       ∙ ap (level_step_by b)
       (level-finds low ∙ if-false (level_tied p b.level b.marks) blocked (learned (word_sums p b.level X)) i))
 

@@ -10,6 +10,7 @@ use borrow.Author.Tests.{eqb-true}
 use lib.Dec.{T, T_not, eqb, ltb, eqb→eq}
 use lib.ListN.{length, take, drop, get_or, replicate, length-map, drop_of_length-le}
 use lib.Seq.{take-add, take-length, length-take-le, get_or-take}
+use Rattle.std.specs.Prelude.{Ok, Err}
 use Rattle.field.specs.Lists.{when◌then◌else◌, up_from}
 use Rattle.field.specs.Field.{size}
 use Rattle.field.proofs.Test.{both}
@@ -18,6 +19,7 @@ use Rattle.fills.specs.Lists.{all, only}
 use Rattle.fills.specs.Fill.{sums_of, dependent}
 use Rattle.fills.proofs.Tests.{either, all_append}
 use Rattle.fills.proofs.Weights.{marked}
+use Rattle.plans.specs.Answers.{answered}
 use Rattle.plans.specs.Plan.{Plan, plan_of, level_of, checks_to, row_at, marks_at}
 use Rattle.plans.specs.Refusal.{all_below, lent_refusal}
 use Rattle.steps.specs.Steps.{lossy}
@@ -27,9 +29,8 @@ use Rattle.rounds.specs.Reports.{rows_left, end_report, bare}
 use Rattle.codewords.specs.Codeword.{rows_hold, totals_hold, is_codeword}
 use Rattle.plans.specs.declared.Bench.{Bench}
 use Rattle.plans.specs.declared.Answer.{Answer}
-use Rattle.plans.specs.declared.Answer.TheVariants.{Restored, Stuck, Clash, Refused}
+use Rattle.plans.specs.declared.Answer.TheVariants.{Restored, Stuck, Clash}
 use Rattle.plans.specs.declared.Place.{Place}
-use Rattle.plans.specs.declared.Report.{Report}
 use Rattle.plans.proofs.Rows.{row-end, row-length, rows_ext, marks-length}
 use Rattle.steps.proofs.Fit.{if-true, RowFits, lent-fit}
 use Rattle.steps.proofs.Sound.{blocked-dependent}
@@ -192,22 +193,30 @@ module _ (p : ℕ) (stripe marks : List ℕ) (fit : Fit p stripe marks) (m : Sta
 
 module _ (p : ℕ) (stripe marks : List ℕ) where
   -- an answer that is no refusal
-  pub not-refused : (a : Answer) → (mend_report p stripe marks).answer ≡ a → ((n : ℕ) → Refused n ≡ a → ⊥) → Fit p stripe marks
-  unfolding when◌then◌else◌ mend_report bare
-  not-refused a e other = go (eqb (lent_refusal p stripe marks) 0) refl e
+  pub not-refused : (a : Answer) → answered (mend_report p stripe marks) ≡ Ok a → Fit p stripe marks
+  unfolding when◌then◌else◌ answered mend_report
+  not-refused a e = go (eqb (lent_refusal p stripe marks) 0) refl e
     where
       go : (z : Bool) → eqb (lent_refusal p stripe marks) 0 ≡ z
-          → (when z then turn_report (mended p stripe marks) else bare (Refused (lent_refusal p stripe marks))).answer ≡ a → Fit p stripe marks
+          → answered (when z then Ok (turn_report (mended p stripe marks)) else Err (lent_refusal p stripe marks)) ≡ Ok a → Fit p stripe marks
       go true q e = eqb-true (lent_refusal p stripe marks) 0 q
-      go false q e = absurd (other (lent_refusal p stripe marks) e)
+      go false q e = let z : ◌≡◌ {A = ℕ} 0 1 = cc in absurd (omega arith)
 
   module _ (fit : Fit p stripe marks) where
     lent : T (eqb (lent_refusal p stripe marks) 0)
     lent = rw fit tt
 
-    pub report-turn : mend_report p stripe marks ≡ turn_report (mended p stripe marks)
+    pub report-turn : mend_report p stripe marks ≡ Ok (turn_report (mended p stripe marks))
     unfolding mend_report
-    report-turn = if-true (eqb (lent_refusal p stripe marks) 0) (turn_report (mended p stripe marks)) (bare (Refused (lent_refusal p stripe marks))) lent
+    report-turn = if-true (eqb (lent_refusal p stripe marks) 0) (Ok (turn_report (mended p stripe marks))) (Err (lent_refusal p stripe marks)) lent
+
+    -- so its answer is the rounds'
+    pub answer-turn : answered (mend_report p stripe marks) ≡ Ok (turn_report (mended p stripe marks)).answer
+    unfolding answered
+    answer-turn = ap answered report-turn
+
+    pub turn-answer : {a : Answer} → answered (mend_report p stripe marks) ≡ Ok a → (turn_report (mended p stripe marks)).answer ≡ a
+    turn-answer e = cc (answer-turn, e)
 
     pub stripe-turn : mend_stripe p stripe marks ≡ turn_stripe (mended p stripe marks) stripe
     unfolding mend_stripe
@@ -218,12 +227,11 @@ module _ (p : ℕ) (stripe marks : List ℕ) where
     marks-turn = if-true (eqb (lent_refusal p stripe marks) 0) (turn_marks (mended p stripe marks) marks) marks lent
 
   -- a Clash is the rounds'
-  pub clash-turn : (place : Place) → (mend_report p stripe marks).answer ≡ Clash place
+  pub clash-turn : (place : Place) → answered (mend_report p stripe marks) ≡ Ok (Clash place)
       → Fit p stripe marks × (mended p stripe marks ≡ clash place)
   unfolding when◌then◌else◌ turn_report end_report bare
   clash-turn place e =
-      let fit = not-refused (Clash place) e (λ n q. let z : ◌≡◌ {A = ℕ} 0 1 = cc in omega arith) in
-      (fit, go (mended p stripe marks) (ap (λ (r : Report). r.answer) (sym (report-turn fit)) ∙ e))
+      let fit = not-refused (Clash place) e in (fit, go (mended p stripe marks) (turn-answer fit e))
     where
       neither : (z : Bool) → (when z then Restored else Stuck) ≡ Clash place → ⊥
       neither true a = let z : ◌≡◌ {A = ℕ} 0 1 = cc in omega arith

@@ -3,18 +3,17 @@ use mathlib.Core.Path.{◌≡◌, refl}
 use mathlib.Core.Logic.{◌≢◌}
 use Prim.Native.Nat.{ℕ, zero, suc}
 use lib.Dec.{not_T, eqb, eqb→eq}
+use Rattle.std.specs.Prelude.{Err}
 use Rattle.field.specs.Lists.{when◌then◌else◌}
 use Rattle.plans.specs.Plan.{no_plan, plan_of, known}
 use Rattle.plans.specs.Refusal.{first_failed, bench_refusal, lent_refusal, bench_tests}
-use Rattle.steps.specs.Steps.{empty, started_by, started, stepped, unless_refused, row_step, level_step}
+use Rattle.steps.specs.Steps.{Stepped, empty, started_by, started, stepped, unless_refused, row_step, level_step}
 use Rattle.repair.specs.Mending.{mend_report, mend_stripe, mend_marks}
 use Rattle.encoding.specs.Data.{encode_refusal, extract_refusal, extract_data}
 use Rattle.repair.specs.Encoding.{encode_stripe}
 use Rattle.files.specs.File.{write_refusal, write_file, read_refusal, read_stripe, read_marks}
 use Rattle.plans.specs.declared.Bench.{Bench}
-use Rattle.plans.specs.declared.Stepped.{Stepped}
-use Rattle.plans.specs.declared.Step.TheVariants.{Refused}
-use Rattle.plans.specs.declared.Outcome.TheVariants.{Refused as Undone}
+use Rattle.plans.specs.declared.Step.{Step}
 use Rattle.steps.proofs.Fit.{if-false}
 use Rattle.demands.specs.Refused.{MendRefused, EncodeRefused, ExtractRefused, ReadRefused, WriteRefused, RowRefused, LevelRefused, StartRefused, EmptyRefused}
 
@@ -44,7 +43,7 @@ unfolding write_file
 write-refused p stripe marks file h = stays (write_refusal p stripe marks file) _ _ h
 
 -- a refused step
-bench-stays : (n : ℕ) (b : Bench) (s : Stepped) → n ≢ 0 → unless_refused n b s ≡ stepped b (Refused n)
+bench-stays : (n : ℕ) (b : Bench) (s : Stepped Step) → n ≢ 0 → unless_refused n b s ≡ stepped b (Err n)
 unfolding unless_refused
 bench-stays zero b s h = absurd (h refl)
 bench-stays (suc n) b s h = refl
@@ -61,7 +60,7 @@ pub start-refused : StartRefused
 unfolding started started_by
 start-refused p stripe marks h = go (lent_refusal p stripe marks) h
   where
-    go : (n : ℕ) → n ≢ 0 → started_by n p stripe marks ≡ record { bench = empty; answer = Undone n }
+    go : (n : ℕ) → n ≢ 0 → started_by n p stripe marks ≡ stepped empty (Err n)
     go zero h = absurd (h refl)
     go (suc n) h = refl
 

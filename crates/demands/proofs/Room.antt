@@ -9,6 +9,7 @@ use native.Mathlib.Omega.{arith}
 use lib.Dec.{T, eqb, ltb, ltb→lt, nltb→le}
 use lib.ListN.{length, take, drop, get_or, set, length-append, length-map, length-take, length-drop}
 use lib.Seq.{sets, drop-drop, drop-set-lt, take-set-lt, take-take, get_or-take, ext_get_or, length-sets}
+use Rattle.std.specs.Prelude.{Ok}
 use Rattle.field.specs.Lists.{when◌then◌else◌, up_from}
 use Rattle.field.specs.Field.{size, dot}
 use Rattle.field.proofs.Lists.{get_or-map-below, map-up-same}
@@ -19,10 +20,10 @@ use Rattle.fills.proofs.Tests.{either}
 use Rattle.plans.specs.Plan.{Plan, Level, known, plan_of, level_of, checks_to, row_at, marks_at, across}
 use Rattle.plans.specs.Refusal.{unasked, marks_fit, all_below, unmarked_below, symbols_fit, sums_at, sums_fit, level_fits, bench_refusal, first_failed, bench_tests}
 use Rattle.plans.specs.Rooms.{sum_room}
-use Rattle.steps.specs.Steps.{stepped, unless_refused, row_fill, put_row, row_step_by, row_step, lossy, check_fill, Learned, blocked, failing, learned, level_fill, new_sums, raise, level_step_by, level_step}
+use Rattle.steps.specs.Steps.{Stepped, stepped, unless_refused, row_fill, put_row, row_step_by, row_step, lossy, check_fill, Learned, blocked, failing, learned, level_fill, new_sums, raise, level_step_by, level_step}
 use Rattle.steps.specs.Parts.{bench_of}
 use Rattle.plans.specs.declared.Bench.{Bench}
-use Rattle.plans.specs.declared.Stepped.{Stepped}
+use Rattle.plans.specs.declared.Step.{Step}
 use Rattle.plans.specs.declared.Step.TheVariants.{Whole, Filled, Top}
 use Rattle.plans.proofs.Rows.{row-end}
 use Rattle.words.proofs.Stores.{take-sets, drop-sets-before, sets-out}
@@ -57,7 +58,7 @@ by-step S b same put raised (on_row r) = go (bench_refusal b (ltb r (plan_of b.p
 by-step S b same put raised on_level = go (bench_refusal b unasked) refl (ltb b.level (length (plan_of b.plan).levels)) refl (level_fill b) refl
   where
     go : (n : ℕ) → bench_refusal b unasked ≡ n → (low : Bool) → ltb b.level (length (plan_of b.plan).levels) ≡ low
-        → (a : Learned) → level_fill b ≡ a → S (unless_refused n b (when low then level_step_by b a else stepped b Top)).bench
+        → (a : Learned) → level_fill b ≡ a → S (unless_refused n b (when low then level_step_by b a else stepped b (Ok Top))).bench
     go (suc n) e low q a d = same
     go zero e false q a d = same
     go zero e true q blocked d = same
@@ -78,7 +79,7 @@ module _ (R : Bench → Bench → Type 0) (b : Bench) (s m u : List ℕ) (own : 
   abbrev other : Bench
   other = with b s m u
 
-  unless-same : (n : ℕ) (x y : Stepped) → (n ≡ 0 → SameStep R x y) → SameStep R (unless_refused n b x) (unless_refused n other y)
+  unless-same : (n : ℕ) (x y : Stepped Step) → (n ≡ 0 → SameStep R x y) → SameStep R (unless_refused n b x) (unless_refused n other y)
   unfolding unless_refused stepped
   unless-same zero x y f = f refl
   unless-same (suc n) x y f = record { answer = refl; bench = own }
@@ -97,7 +98,7 @@ module _ (R : Bench → Bench → Type 0) (b : Bench) (s m u : List ℕ) (own : 
       go : BenchFit b → r < our.rows → (a : Fill) → row_fill b r ≡ a → SameStep R (row_step_by b r a) (row_step_by other r a)
       go f l tied e = record { answer = refl; bench = own }
       go f l none e = record { answer = refl; bench = own }
-      go f l (one row) e = record { answer = ap (λ w. when eqb w 0 then Whole else Filled) (fills l).1; bench = puts f l row e }
+      go f l (one row) e = record { answer = ap (λ w. Ok (when eqb w 0 then Whole else Filled)) (fills l).1; bench = puts f l row e }
 
   pub level-steps : level_fill b ≡ level_fill other
       → (BenchFit b → b.level < length our.levels → (cs : List (List ℕ)) → level_fill b ≡ learned cs → R (raise b cs) (raise other cs))
@@ -109,8 +110,8 @@ module _ (R : Bench → Bench → Type 0) (b : Bench) (s m u : List ℕ) (own : 
       (unless-same (bench_refusal b unasked) (end b low (level_fill b)) (end other low (level_fill other)) (λ e.
       subst (λ a. SameStep R (end b low (level_fill b)) (end other low a)) learns (go (bench-fit b unasked e).0 low refl (level_fill b) refl)))
     where
-      end : Bench → Bool → Learned → Stepped
-      end b low a = when low then level_step_by b a else stepped b Top
+      end : Bench → Bool → Learned → Stepped Step
+      end b low a = when low then level_step_by b a else stepped b (Ok Top)
 
       go : BenchFit b → (low : Bool) → ltb b.level (length our.levels) ≡ low → (a : Learned) → level_fill b ≡ a
           → SameStep R (end b low a) (end other low a)

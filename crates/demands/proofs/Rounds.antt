@@ -11,6 +11,7 @@ use lib.Arith.{le→nltb}
 use lib.Dec.{T, eqb, ltb, ltb→lt, lt→ltb, nltb→le}
 use lib.ListN.{length, get_or, set, replicate}
 use lib.Seq.{set-get_or}
+use Rattle.std.specs.Prelude.{Ok}
 use Rattle.field.specs.Lists.{when◌then◌else◌, up_from}
 use Rattle.field.specs.Field.{size}
 use Rattle.fills.specs.Fill.{sums_of, Fill, none, tied, one, fill}
@@ -20,11 +21,11 @@ use Rattle.fills.proofs.Filling.{Means, in-dependent, fill-means, fill_one}
 use Rattle.fills.proofs.Weights.{marked}
 use Rattle.plans.specs.Plan.{Plan, plan_of, checks_to, row_at, marks_at}
 use Rattle.plans.specs.Refusal.{all_below, sums_at}
-use Rattle.steps.specs.Steps.{fresh, stepped, row_fill, put_row, row_step_by, row_step, Learned, blocked, failing, learned, level_fill, raise, level_step_by, level_step}
+use Rattle.steps.specs.Steps.{Stepped, fresh, stepped, row_fill, put_row, row_step_by, row_step, Learned, blocked, failing, learned, level_fill, raise, level_step_by, level_step}
 use Rattle.steps.specs.Rounds.{Standing, Turn, on, end, clash, more, after_row, after_level, take_turn, go_on, turns}
 use Rattle.repair.specs.Mending.{mended}
 use Rattle.plans.specs.declared.Bench.{Bench}
-use Rattle.plans.specs.declared.Stepped.{Stepped}
+use Rattle.plans.specs.declared.Step.{Step}
 use Rattle.plans.specs.declared.Step.TheVariants.{Whole, Filled, Top}
 use Rattle.plans.proofs.Rows.{row-length, row-again, marks-length}
 use Rattle.steps.proofs.Fit.{if-true, if-false}
@@ -128,10 +129,10 @@ module _ (b : Bench) (s : Sound b) (r : ℕ) (l : r < (plan_of b.plan).rows) whe
   -- a step on a settled row changes nothing
   settled-row : Settled b.plan b r → (row_step b r).bench ≡ b
   unfolding row_fill row_step_by stepped marks_at all_below
-  settled-row (inl e) = ap (λ (c : Stepped). c.bench) (row_step_lem b s.fit r l ∙ ap (row_step_by b r) e)
+  settled-row (inl e) = ap (λ (c : Stepped Step). c.bench) (row_step_lem b s.fit r l ∙ ap (row_step_by b r) e)
   settled-row (inr (z, e)) =
       let clear : marked ms ≡ 0 = rw z (clear-unmarked P.columns) in
-      ap (λ (c : Stepped). c.bench)
+      ap (λ (c : Stepped Step). c.bench)
       (row_step_lem b s.fit r l
       ∙ ap (row_step_by b r) (fill_one P.field C target ms v (unmarked-independent P.field C ms clear)
       record {
@@ -253,7 +254,7 @@ module _ (p : ℕ) (stripe marks : List ℕ) (fit : Fit p stripe marks) where
       row_goes : (a : Fill) → row_fill b k ≡ a → Goes (Round n) Out (after_row m (row_step_by b k a).answer (row_step_by b k a).bench)
       unfolding when◌then◌else◌ after_row row_fill row_step_by stepped put_row
       row_goes tied e =
-          next_row b (ap (λ (c : Stepped). c.bench) (row_step_lem b i.reached.sound.fit k (own-rows l) ∙ ap (row_step_by b k) e)) refl i.reached
+          next_row b (ap (λ (c : Stepped Step). c.bench) (row_step_lem b i.reached.sound.fit k (own-rows l) ∙ ap (row_step_by b k) e)) refl i.reached
           (inl e) (λ r j h. h) m.restored
       row_goes none e = λ X word agree.
           never-none (row_tied p b.level b.marks k) (row_at Q X k) (sym (row-finds p X b (i.reached.held X word agree) k l) ∙ e)
@@ -263,7 +264,7 @@ module _ (p : ℕ) (stripe marks : List ℕ) (fit : Fit p stripe marks) where
           c = put_row b k row
 
           filled : (row_step b k).bench ≡ c
-          filled = ap (λ (c : Stepped). c.bench) (row_step_lem b i.reached.sound.fit k (own-rows l) ∙ ap (row_step_by b k) e)
+          filled = ap (λ (c : Stepped Step). c.bench) (row_step_lem b i.reached.sound.fit k (own-rows l) ∙ ap (row_step_by b k) e)
 
           next : (counts : List ℕ) → Round n record { bench = c; turn = suc k; restored = counts }
           next =
@@ -271,7 +272,7 @@ module _ (p : ℕ) (stripe marks : List ℕ) (fit : Fit p stripe marks) where
               (put-settled b i.reached.sound k (own-rows l) row e)
               (λ r j. put-settled-other b i.reached.sound k (own-rows l) row e r (λ q. omega (arith, q)))
 
-          by : (z : Bool) → eqb (get_or b.marks k 0) 0 ≡ z → Goes (Round n) Out (after_row m (when z then Whole else Filled) c)
+          by : (z : Bool) → eqb (get_or b.marks k 0) 0 ≡ z → Goes (Round n) Out (after_row m (Ok (when z then Whole else Filled)) c)
           by true q = next m.restored
           by false q = next (more b.level 1 m.restored)
 
@@ -281,7 +282,7 @@ module _ (p : ℕ) (stripe marks : List ℕ) (fit : Fit p stripe marks) where
           subst (Goes (Round n) Out)
           (sym (if-true (ltb k (plan_of b.plan).rows) (after_row m (row_step b k).answer (row_step b k).bench)
           (after_level m (level_step b).answer (level_step b).bench) (lt→ltb k (plan_of b.plan).rows (own-rows l))
-          ∙ ap (λ (s : Stepped). after_row m s.answer s.bench) (row_step_lem b i.reached.sound.fit k (own-rows l))))
+          ∙ ap (λ (s : Stepped Step). after_row m s.answer s.bench) (row_step_lem b i.reached.sound.fit k (own-rows l))))
           (row_goes (row_fill b k) refl)
 
     -- ---- the level step's turn
@@ -314,23 +315,23 @@ module _ (p : ℕ) (stripe marks : List ℕ) (fit : Fit p stripe marks) where
           quiet on_level = still
 
       step_by : (low : Bool) → ltb b.level top ≡ low → (a : Learned) → level_fill b ≡ a
-          → level_step b ≡ (when low then level_step_by b a else stepped b Top)
+          → level_step b ≡ (when low then level_step_by b a else stepped b (Ok Top))
       step_by low t a e =
           level-step b i.reached.sound.fit
-          ∙ ap (λ q. when ltb b.level (length (plan_of q).levels) then level_step_by b (level_fill b) else stepped b Top) i.reached.plan
-          ∙ ap₂ (λ c l. when c then level_step_by b l else stepped b Top) t e
+          ∙ ap (λ q. when ltb b.level (length (plan_of q).levels) then level_step_by b (level_fill b) else stepped b (Ok Top)) i.reached.plan
+          ∙ ap₂ (λ c l. when c then level_step_by b l else stepped b (Ok Top)) t e
 
       level-goes : (low : Bool) → ltb b.level top ≡ low → (a : Learned) → level_fill b ≡ a
           → Goes (Round n) Out (after_level m (level_step b).answer (level_step b).bench)
       unfolding when◌then◌else◌ after_level level_step_by stepped raise
       level-goes low t a e =
-          subst (λ (s : Stepped). Goes (Round n) Out (after_level m s.answer s.bench)) (sym (step_by low t a e)) (go low t a e)
+          subst (λ (s : Stepped Step). Goes (Round n) Out (after_level m s.answer s.bench)) (sym (step_by low t a e)) (go low t a e)
         where
           go : (low : Bool) → ltb b.level top ≡ low → (a : Learned) → level_fill b ≡ a
-              → (let s = when low then level_step_by b a else stepped b Top in Goes (Round n) Out (after_level m s.answer s.bench))
+              → (let s = when low then level_step_by b a else stepped b (Ok Top) in Goes (Round n) Out (after_level m s.answer s.bench))
           go false t a e =
-              ends (λ h. absurd (subst T t (lt→ltb b.level top h))) (ap (λ (c : Stepped). c.bench) (step_by false t a e))
-          go true t blocked e = ends (λ h. e) (ap (λ (c : Stepped). c.bench) (step_by true t blocked e))
+              ends (λ h. absurd (subst T t (lt→ltb b.level top h))) (ap (λ (c : Stepped Step). c.bench) (step_by false t a e))
+          go true t blocked e = ends (λ h. e) (ap (λ (c : Stepped Step). c.bench) (step_by true t blocked e))
           go true t failing e = λ X word agree.
               never-failing (level_tied p b.level b.marks) (word_sums p b.level X)
               (sym (level-finds p X b (i.reached.held X word agree) (ltb-true b.level top t)) ∙ e)
@@ -339,7 +340,7 @@ module _ (p : ℕ) (stripe marks : List ℕ) (fit : Fit p stripe marks) where
             turn-le = zero-le;
             left = omega (arith, i.left, suc-mul b.level (suc Q.rows));
             leads =
-                ap (walk (moves Q.rows n 0)) (sym (ap (λ (c : Stepped). c.bench) (step_by true t (learned cs) e)))
+                ap (walk (moves Q.rows n 0)) (sym (ap (λ (c : Stepped Step). c.bench) (step_by true t (learned cs) e)))
                 ∙ ap (λ ms. walk ms b) (sym (moves-level Q.rows n k (omega arith))) ∙ i.leads;
             settled = λ r h. absurd (not-suc-le-zero h);
           }

@@ -7,6 +7,8 @@ use native.Mathlib.Omega.{arith}
 use lib.Count.{ones, ones_in}
 use lib.Dec.{T, ltb}
 use lib.ListN.{length, get_or, replicate, set}
+use Rattle.std.specs.Prelude.{Result, Ok}
+use Rattle.plans.specs.Answers.{answered}
 use Rattle.field.specs.Lists.{when◌then◌else◌, up_from, weight}
 use Rattle.field.specs.Field.{◌⊕◌, size, double, times, mul, dot, gf2}
 use Rattle.fills.specs.Lists.{any, all, only, same, zeros, vanish, first, rest, beside}
@@ -136,14 +138,14 @@ other-quiet = subst Quiet (sym example-walks.0) end_quiet
 
 module _ (i : ℕ) where
   -- what mending answers in case i
-  abbrev answers : List Case → Answer
-  answers cs = get_or (map (λ (c : Case). c.report.answer) cs) i Stuck
+  abbrev answers : List Case → Result Answer ℕ
+  answers cs = get_or (map (λ (c : Case). answered c.report) cs) i (Ok Stuck)
 
-pub answered :
-    ((mend_report 1 example_stripe example_marks).answer ≡ Restored) × ((mend_report 1 blank (row1 (0 ∷ 1 ∷ 3 ∷ 6 ∷ []))).answer ≡ Stuck)
-    × ((mend_report 1 (set blank 0 1) (0 ∷ 0 ∷ 0 ∷ [])).answer ≡ Clash (Row 0 1))
-unfolding restored stuck clashed unchanged blank_restored cases done
-answered = (ap (answers 1) sheet.mending, ap (answers 3) sheet.mending, ap (answers 7) sheet.mending)
+pub answer-samples :
+    (answered (mend_report 1 example_stripe example_marks) ≡ Ok Restored) × (answered (mend_report 1 blank (row1 (0 ∷ 1 ∷ 3 ∷ 6 ∷ []))) ≡ Ok Stuck)
+    × (answered (mend_report 1 (set blank 0 1) (0 ∷ 0 ∷ 0 ∷ [])) ≡ Ok (Clash (Row 0 1)))
+unfolding answered restored stuck clashed unchanged blank_restored cases done
+answer-samples = (ap (answers 1) sheet.mending, ap (answers 3) sheet.mending, ap (answers 7) sheet.mending)
 
 -- and a codeword that agrees with what is Stuck: the stripe itself
 pub blank-word : Codeword 1 blank

@@ -5,6 +5,8 @@ use mathlib.Core.List.{List, [], ◌∷◌, ◌++◌, flat_map}
 use Prim.Native.Nat.{ℕ, zero, suc, ◌*◌}
 use lib.Dec.{T}
 use lib.ListN.{length, replicate, set}
+use Rattle.std.specs.Prelude.{Ok}
+use Rattle.plans.specs.Answers.{answered}
 use Rattle.field.specs.Lists.{when◌then◌else◌, up_from}
 use Rattle.field.specs.Field.{◌⊕◌, size, double, times, mul, dot, gf16}
 use Rattle.field.specs.Power.{power}
@@ -70,12 +72,12 @@ lost-fit = refl
 -- its first turn restores row 0; and a Clash: one symbol of row 0 is not 0
 pub mends :
     (turns 1 (begun 3 lost_first first_mark) ≡ on (standing_of (fresh 3 blank3 (replicate 8 0)) 1 (1 ∷ 0 ∷ 0 ∷ [])))
-    × ((mend_report 3 (set blank3 0 1) (replicate 8 0)).answer ≡ Clash (Row 0 1))
+    × (answered (mend_report 3 (set blank3 0 1) (replicate 8 0)) ≡ Ok (Clash (Row 0 1)))
 unfolding when◌then◌else◌ up_from ◌⊕◌ size double times mul dot gf16 power flat_map
     any all only same zeros vanish first rest bits_of sums_of options before choices loose dependent fillings fill_by fill
     all_ones locations3 powers3 plan3 known plan_of no_level level_of checks_to row_at marks_at
     first_failed unasked stripe_fits words_fit marks_fit all_below unmarked_below symbols_fit sums_at sums_fit level_fits lent_tests lent_refusal bench_tests bench_refusal
-    fresh stepped unless_refused row_fill put_row row_step_by row_step more after_row take_turn go_on turns mended bare turn_report mend_report
+    fresh stepped unless_refused row_fill put_row row_step_by row_step more after_row take_turn go_on turns mended bare turn_report answered mend_report
     blank3 lost_first first_mark beside one_of_each
 mends = (refl, refl)
 

@@ -9,28 +9,29 @@ use native.Mathlib.Omega.{arith}
 use borrow.Author.Tests.{eqb-true}
 use lib.Dec.{T, eqb}
 use lib.ListN.{length, get_or}
+use Rattle.std.specs.Prelude.{Ok}
 use Rattle.field.specs.Lists.{when◌then◌else◌}
+use Rattle.plans.specs.Answers.{answered}
 use Rattle.plans.specs.Plan.{plan_of}
 use Rattle.steps.specs.Steps.{lossy, blocked, learned}
 use Rattle.steps.specs.Rounds.{Turn, on, end, clash}
 use Rattle.repair.specs.Mending.{mended, turn_report, turn_stripe, turn_marks, mend_report, mend_stripe}
 use Rattle.rounds.specs.Reports.{rows_left, end_report, bare}
 use Rattle.plans.specs.declared.Bench.{Bench}
-use Rattle.plans.specs.declared.Report.{Report}
 use Rattle.plans.specs.declared.Answer.TheVariants.{Restored, Stuck}
 use Rattle.steps.proofs.Fit.{if-true}
 use Rattle.demands.specs.Words.{Codeword, Agree, Fit}
 use Rattle.demands.specs.Second.{IsRestored, RestoredMeans, ClashMeans, StuckMeans}
 use Rattle.demands.proofs.Held.{Held, row_tied, level_tied, word_sums, held-level, level-finds}
-use Rattle.demands.proofs.Left.{none-lossy, agrees-left, is-restored, not-refused, report-turn, stripe-turn, marks-turn, clash-turn}
+use Rattle.demands.proofs.Left.{none-lossy, agrees-left, is-restored, not-refused, answer-turn, turn-answer, stripe-turn, marks-turn, clash-turn}
 use Rattle.demands.proofs.Rounds.{settled-tied, Out, mended-out}
 use Rattle.demands.proofs.Leaving.{mending-by}
 
 pub restored-means : RestoredMeans
 unfolding when◌then◌else◌ turn_report end_report bare turn_stripe turn_marks
 restored-means p stripe marks e =
-    let fit = not-refused p stripe marks Restored e (λ n q. let z : ◌≡◌ {A = ℕ} 0 1 = cc in omega arith) in
-    go fit (mended p stripe marks) refl (mended-out p stripe marks fit) (ap (λ (r : Report). r.answer) (sym (report-turn p stripe marks fit)) ∙ e)
+    let fit = not-refused p stripe marks Restored e in
+    go fit (mended p stripe marks) refl (mended-out p stripe marks fit) (turn-answer p stripe marks fit e)
   where
     go : (fit : Fit p stripe marks) (t : Turn) → mended p stripe marks ≡ t → Out p stripe marks fit t → (turn_report t).answer ≡ Restored
         → IsRestored p stripe marks
@@ -65,17 +66,17 @@ pub restores : (p : ℕ) (X stripe marks : List ℕ) → Codeword p X → Fit p 
     → ((t : ℕ) (M : List ℕ) → 0 < t → t ≤ length (plan_of p).levels
     → ((r : ℕ) → r < (plan_of p).rows → (get_or M r 0 ≡ 0) ⊎ ((get_or M r 0 ≡ get_or marks r 0) × T (row_tied p t M r)))
     → (t < length (plan_of p).levels → T (level_tied p t M)) → (r : ℕ) → r < (plan_of p).rows → get_or M r 0 ≡ 0)
-    → ((mend_report p stripe marks).answer ≡ Restored) × (mend_stripe p stripe marks ≡ X)
+    → (answered (mend_report p stripe marks) ≡ Ok Restored) × (mend_stripe p stripe marks ≡ X)
 unfolding turn_report end_report turn_stripe turn_marks rows_left lossy
 restores p X stripe marks word fit agree none-tied = go (mended p stripe marks) refl (mended-out p stripe marks fit)
   where
     go : (t : Turn) → mended p stripe marks ≡ t → Out p stripe marks fit t
-        → ((mend_report p stripe marks).answer ≡ Restored) × (mend_stripe p stripe marks ≡ X)
+        → (answered (mend_report p stripe marks) ≡ Ok Restored) × (mend_stripe p stripe marks ≡ X)
     go (on m) q h = absurd h
     go (clash place) q h = absurd (h X word agree)
     go (end m) q h = (
-      ap (λ (r : Report). r.answer) (report-turn p stripe marks fit ∙ ap turn_report q)
-          ∙ if-true (eqb (rows_left b) 0) Restored Stuck (rw none_left tt),
+      answer-turn p stripe marks fit ∙ ap (λ t. Ok (turn_report t).answer) q
+          ∙ ap Ok (if-true (eqb (rows_left b) 0) Restored Stuck (rw none_left tt)),
       sym ((is-restored p stripe marks fit m h none_left (stripe-turn p stripe marks fit ∙ ap (λ t. turn_stripe t stripe) q)
           (marks-turn p stripe marks fit ∙ ap (λ t. turn_marks t marks) q)).only X word agree),
     )

@@ -9,6 +9,7 @@ use native.Mathlib.Omega.{arith}
 use lib.Dec.{T, eqb, ltb, eqb→eq}
 use lib.ListN.{length, take, get_or, set, replicate, length-append, length-take}
 use lib.Seq.{sets, length-sets, get_or-set_other, get_or-take}
+use Rattle.std.specs.Prelude.{Result, Ok, Err}
 use Rattle.field.specs.Lists.{when◌then◌else◌}
 use Rattle.field.specs.Field.{dot}
 use Rattle.fills.specs.Lists.{zeros}
@@ -19,23 +20,21 @@ use Rattle.fills.proofs.Filling.{fill-alike}
 use Rattle.plans.specs.Plan.{Plan, Level, known, plan_of, level_of, checks_to, row_at, marks_at, marks_of, across}
 use Rattle.plans.specs.Rooms.{symbol_room}
 use Rattle.plans.specs.Refusal.{marks_fit, sums_at, sums_fit, level_fits, lent_refusal, bench_refusal, first_failed, bench_tests}
-use Rattle.steps.specs.Steps.{fresh, empty, started_by, started, row_fill, put_row, row_step, lossy, check_fill, level_fill, raise, level_step}
+use Rattle.steps.specs.Steps.{Stepped, stepped, fresh, empty, started_by, started, row_fill, put_row, row_step, lossy, check_fill, level_fill, raise, level_step}
 use Rattle.steps.specs.Rounds.{Standing, Turn, on, end, clash, more, next_row, after_row, after_level, take_turn, go_on, turns}
 use Rattle.repair.specs.Mending.{mended, turn_report, turn_stripe, turn_marks, mend_stripe}
-use Rattle.rounds.specs.Reports.{rows_left, end_report, bare}
+use Rattle.rounds.specs.Reports.{rows_left, end_report}
 use Rattle.steps.specs.Parts.{bench_of, standing_of}
 use Rattle.plans.specs.declared.Bench.{Bench}
-use Rattle.plans.specs.declared.Stepped.{Stepped}
 use Rattle.plans.specs.declared.Step.{Step}
-use Rattle.plans.specs.declared.Step.TheVariants.{Whole, Filled, Tied, Raised, Blocked, Top, Clash, Refused}
+use Rattle.plans.specs.declared.Step.TheVariants.{Whole, Filled, Tied, Raised, Blocked, Top, Clash}
 use Rattle.plans.specs.declared.Place.{Place}
-use Rattle.plans.specs.declared.Answer.TheVariants.{Refused as Unmended}
 use Rattle.plans.proofs.Rows.{of-rows, row_other, marks-length}
 use Rattle.steps.proofs.Fit.{lent-fit, fresh-mark, fresh-row}
 use Rattle.steps.proofs.Passing.{ends}
 use Rattle.steps.proofs.Sound.{filled_row}
 use Rattle.demands.specs.Words.{Fit, on_row, on_level, SameStep}
-use Rattle.demands.specs.Silence.{SameUnmarked, SameButMarks, SameStart, SilentStart, SilentRowStep, SilentLevelStep, SilentWalk, SameMending, SilentMending}
+use Rattle.demands.specs.Silence.{SameUnmarked, SameButMarks, SilentStart, SilentRowStep, SilentLevelStep, SilentWalk, SameMending, SilentMending}
 use Rattle.demands.proofs.Alike.{alike_refl, alike-unmarked, rows_agree, clear-unmarked, unmarked-in}
 use Rattle.demands.proofs.Blind.{sets-alike, append-behind, row-le, row-lengths, row-equal, marks-same, rows_alike, symbols-same, lent_same}
 use Rattle.demands.proofs.Room.{row-steps, level-steps}
@@ -84,11 +83,11 @@ fresh-same p marks s t h fit =
     }
 
 pub silent-start : SilentStart
-unfolding started started_by
+unfolding stepped started_by started
 silent-start p marks s t h =
-    subst (λ n. SameStart (started p s marks) (started_by n p t marks)) (lent_same p marks s t h) (go (lent_refusal p s marks) refl)
+    subst (λ n. SameStep SameButMarks (started p s marks) (started_by n p t marks)) (lent_same p marks s t h) (go (lent_refusal p s marks) refl)
   where
-    go : (n : ℕ) → lent_refusal p s marks ≡ n → SameStart (started_by n p s marks) (started_by n p t marks)
+    go : (n : ℕ) → lent_refusal p s marks ≡ n → SameStep SameButMarks (started_by n p s marks) (started_by n p t marks)
     go zero e = record { answer = refl; bench = fresh-same p marks s t h e }
     go (suc n) e = record { answer = refl; bench = same_refl empty }
 
@@ -225,7 +224,7 @@ module _ (m : Standing) (t : List ℕ) (h : SameUnmarked m.bench.plan m.bench.ma
   abbrev n : Standing
   n = standing_of other m.turn m.restored
 
-  after-row : (x y : Stepped) → SameStep SameButMarks x y → SameTurn (after_row m x.answer x.bench) (after_row n y.answer y.bench)
+  after-row : (x y : Stepped Step) → SameStep SameButMarks x y → SameTurn (after_row m x.answer x.bench) (after_row n y.answer y.bench)
   unfolding after_row
   after-row x y e =
       subst (λ a. SameTurn (after_row m x.answer x.bench) (after_row n a y.bench)) e.answer (go x.answer)
@@ -233,17 +232,17 @@ module _ (m : Standing) (t : List ℕ) (h : SameUnmarked m.bench.plan m.bench.ma
       next : (restored : List ℕ) → SameTurn (next_row m x.bench restored) (next_row n y.bench restored)
       next restored = same-on (standing_of x.bench (suc m.turn) restored) y.bench e.bench
 
-      go : (a : Step) → SameTurn (after_row m a x.bench) (after_row n a y.bench)
-      go Clash = same-clash _
-      go Filled = next (more mine.level 1 m.restored)
-      go Whole = next m.restored
-      go Tied = next m.restored
-      go Raised = next m.restored
-      go Blocked = next m.restored
-      go Top = next m.restored
-      go (Refused k) = next m.restored
+      go : (a : Result Step ℕ) → SameTurn (after_row m a x.bench) (after_row n a y.bench)
+      go (Ok Clash) = same-clash _
+      go (Ok Filled) = next (more mine.level 1 m.restored)
+      go (Ok Whole) = next m.restored
+      go (Ok Tied) = next m.restored
+      go (Ok Raised) = next m.restored
+      go (Ok Blocked) = next m.restored
+      go (Ok Top) = next m.restored
+      go (Err k) = next m.restored
 
-  after-level : (x y : Stepped) → SameStep SameButMarks x y → SameTurn (after_level m x.answer x.bench) (after_level n y.answer y.bench)
+  after-level : (x y : Stepped Step) → SameStep SameButMarks x y → SameTurn (after_level m x.answer x.bench) (after_level n y.answer y.bench)
   unfolding after_level
   after-level x y e =
       subst (λ a. SameTurn (after_level m x.answer x.bench) (after_level n a y.bench)) e.answer (go x.answer)
@@ -251,21 +250,21 @@ module _ (m : Standing) (t : List ℕ) (h : SameUnmarked m.bench.plan m.bench.ma
       stop : SameTurn (end m) (end n)
       stop = same_end m other record { plan = refl; level = refl; marks = refl; sums = refl; stripe = h; beyond = beyond }
 
-      go : (a : Step) → SameTurn (after_level m a x.bench) (after_level n a y.bench)
-      go Raised = same-on (standing_of x.bench 0 m.restored) y.bench e.bench
-      go Clash = same-clash _
-      go Blocked = stop
-      go Top = stop
-      go Whole = stop
-      go Filled = stop
-      go Tied = stop
-      go (Refused k) = stop
+      go : (a : Result Step ℕ) → SameTurn (after_level m a x.bench) (after_level n a y.bench)
+      go (Ok Raised) = same-on (standing_of x.bench 0 m.restored) y.bench e.bench
+      go (Ok Clash) = same-clash _
+      go (Ok Blocked) = stop
+      go (Ok Top) = stop
+      go (Ok Whole) = stop
+      go (Ok Filled) = stop
+      go (Ok Tied) = stop
+      go (Err k) = stop
 
   own_turn : SameTurn (take_turn m) (take_turn n)
   unfolding when◌then◌else◌ take_turn
   own_turn = go (ltb m.turn (plan_of mine.plan).rows)
     where
-      taken : Bool → (m : Standing) (r s : Stepped) → Turn
+      taken : Bool → (m : Standing) (r s : Stepped Step) → Turn
       taken z m r s = when z then after_row m r.answer r.bench else after_level m s.answer s.bench
 
       go : (z : Bool)
@@ -341,7 +340,7 @@ module _ (p : ℕ) (marks s t : List ℕ) (h : SameUnmarked p marks s t) (fit : 
       let fit' : Fit p t marks = sym (lent_same p marks s t h) ∙ fit in
       let l = left-same (mended p s marks) (mended p t marks) mended-same (mended-out p s marks fit) in
       record {
-        report = report-turn p s marks fit ∙ l.report ∙ sym (report-turn p t marks fit');
+        report = report-turn p s marks fit ∙ ap Ok l.report ∙ sym (report-turn p t marks fit');
         marks-left = marks-turn p s marks fit ∙ l.left ∙ sym (marks-turn p t marks fit');
         stripes =
             subst (λ ms. SameUnmarked p ms (mend_stripe p s marks) (mend_stripe p t marks)) (sym (marks-turn p s marks fit))
@@ -357,7 +356,7 @@ silent-mending p marks s t h =
           let f = mend-refused p s marks (λ e. omega (arith, e)) in
           let g = mend-refused p t marks (λ e. omega (arith, lent_same p marks s t h, e)) in
           record {
-            report = f.report ∙ ap (λ n. bare (Unmended n)) (lent_same p marks s t h) ∙ sym g.report;
+            report = f.report ∙ ap Err (lent_same p marks s t h) ∙ sym g.report;
             marks-left = f.marks_stay ∙ sym g.marks_stay;
             stripes =
                 subst (λ ms. SameUnmarked p ms (mend_stripe p s marks) (mend_stripe p t marks)) (sym f.marks_stay)

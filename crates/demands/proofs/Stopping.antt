@@ -8,17 +8,18 @@ use native.Mathlib.Omega.{arith}
 use lib.Arith.{le→nltb}
 use lib.Dec.{eqb, ltb, ltb→lt, lt→ltb, nltb→le}
 use lib.ListN.{length, get_or}
+use Rattle.std.specs.Prelude.{Ok, Err}
 use Rattle.field.specs.Lists.{when◌then◌else◌}
 use Rattle.fills.specs.Fill.{Fill, tied, none, one}
 use Rattle.fills.proofs.Tests.{either}
 use Rattle.plans.specs.Plan.{plan_of}
-use Rattle.steps.specs.Steps.{fresh, stepped, row_fill, put_row, row_step_by, row_step, Learned, blocked, failing, learned, level_fill, level_step_by, level_step}
+use Rattle.steps.specs.Steps.{Stepped, fresh, stepped, row_fill, put_row, row_step_by, row_step, Learned, blocked, failing, learned, level_fill, level_step_by, level_step}
 use Rattle.steps.specs.Rounds.{Standing, Turn, on, end, clash, after_row, after_level, take_turn, go_on, turns}
 use Rattle.steps.specs.Parts.{standing_of}
 use Rattle.repair.specs.Mending.{mended}
 use Rattle.plans.specs.declared.Bench.{Bench}
-use Rattle.plans.specs.declared.Stepped.{Stepped}
-use Rattle.plans.specs.declared.Step.TheVariants.{Whole, Filled, Top, Refused}
+use Rattle.plans.specs.declared.Step.{Step}
+use Rattle.plans.specs.declared.Step.TheVariants.{Whole, Filled, Top}
 use Rattle.steps.proofs.Fit.{if-true, if-false}
 use Rattle.steps.proofs.Sound.{Sound, sound-fresh, row_keeps, level-plan, row_step_lem, level-step, sound-row, sound-level}
 use Rattle.demands.specs.Words.{Fit}
@@ -27,21 +28,21 @@ use Rattle.demands.proofs.Rounds.{Goes, Out, mended-out}
 
 -- ---- a step on a fit bench is not refused
 
-row-accepted : (b : Bench) (r : ℕ) (f : Fill) (n : ℕ) → (row_step_by b r f).answer ≢ Refused n
+row-accepted : (b : Bench) (r : ℕ) (f : Fill) (n : ℕ) → (row_step_by b r f).answer ≢ Err n
 unfolding when◌then◌else◌ row_step_by stepped
 row-accepted b r tied n e = let z : ◌≡◌ {A = ℕ} 0 1 = cc in omega arith
 row-accepted b r none n e = let z : ◌≡◌ {A = ℕ} 0 1 = cc in omega arith
 row-accepted b r (one row) n e = by (eqb (get_or b.marks r 0) 0) e
   where
-    by : (z : Bool) → (when z then Whole else Filled) ≢ Refused n
+    by : (z : Bool) → Ok (when z then Whole else Filled) ≢ Err n
     by true e = let z : ◌≡◌ {A = ℕ} 0 1 = cc in omega arith
     by false e = let z : ◌≡◌ {A = ℕ} 0 1 = cc in omega arith
 
 -- a level step below the last level, and at it
-abbrev level_by : Bench → (low : Bool) → Learned → Stepped
-level_by b low a = when low then level_step_by b a else stepped b Top
+abbrev level_by : Bench → (low : Bool) → Learned → Stepped Step
+level_by b low a = when low then level_step_by b a else stepped b (Ok Top)
 
-level-accepted : (b : Bench) (low : Bool) (a : Learned) (n : ℕ) → (level_by b low a).answer ≢ Refused n
+level-accepted : (b : Bench) (low : Bool) (a : Learned) (n : ℕ) → (level_by b low a).answer ≢ Err n
 unfolding when◌then◌else◌ level_step_by stepped
 level-accepted b false a n e = let z : ◌≡◌ {A = ℕ} 0 1 = cc in omega arith
 level-accepted b true blocked n e = let z : ◌≡◌ {A = ℕ} 0 1 = cc in omega arith
@@ -76,28 +77,28 @@ module _ (p : ℕ) where
       row_is : row_step b k ≡ row_step_by b k (row_fill b k)
       row_is = row_step_lem b g.sound.fit k own_row
 
-      row_next : (s : Stepped) → row_step b k ≡ s → (restored : List ℕ) → Going (standing_of s.bench (suc k) restored)
+      row_next : (s : Stepped Step) → row_step b k ≡ s → (restored : List ℕ) → Going (standing_of s.bench (suc k) restored)
       row_next s e restored =
-          subst (λ (s : Stepped). Going (standing_of s.bench (suc k) restored)) e
+          subst (λ (s : Stepped Step). Going (standing_of s.bench (suc k) restored)) e
           record { sound = sound-row b g.sound k; plan = (row_keeps b k).0 ∙ g.plan }
 
       row_goes : (f : Fill) → row_step b k ≡ row_step_by b k f → Next m (after_row m (row_step_by b k f).answer (row_step_by b k f).bench)
       unfolding when◌then◌else◌ after_row row_step_by stepped
       row_goes tied e = row_next (row_step_by b k tied) e _
-      row_goes none e = clash-in-row l (ap (λ (s : Stepped). s.answer) e)
+      row_goes none e = clash-in-row l (ap (λ (s : Stepped Step). s.answer) e)
       row_goes (one row) e = by (eqb (get_or b.marks k 0) 0) e
         where
-          by : (z : Bool) → row_step b k ≡ stepped (put_row b k row) (when z then Whole else Filled)
-              → Next m (after_row m (when z then Whole else Filled) (put_row b k row))
-          by true e = row_next (stepped (put_row b k row) Whole) e _
-          by false e = row_next (stepped (put_row b k row) Filled) e _
+          by : (z : Bool) → row_step b k ≡ stepped (put_row b k row) (Ok (when z then Whole else Filled))
+              → Next m (after_row m (Ok (when z then Whole else Filled)) (put_row b k row))
+          by true e = row_next (stepped (put_row b k row) (Ok Whole)) e _
+          by false e = row_next (stepped (put_row b k row) (Ok Filled)) e _
 
       turn-row : Next m (take_turn m)
       unfolding take_turn
       turn-row =
           subst (Next m)
           (sym (if-true (ltb k (plan_of b.plan).rows) (after_row m (row_step b k).answer (row_step b k).bench) (after_level m (level_step b).answer (level_step b).bench)
-          (lt→ltb k (plan_of b.plan).rows own_row) ∙ ap (λ (s : Stepped). after_row m s.answer s.bench) row_is))
+          (lt→ltb k (plan_of b.plan).rows own_row) ∙ ap (λ (s : Stepped Step). after_row m s.answer s.bench) row_is))
           (row_goes (row_fill b k) row_is)
 
     -- ---- the level step's
@@ -109,11 +110,11 @@ module _ (p : ℕ) where
       level-goes : (low : Bool) (a : Learned) → level_step b ≡ level_by b low a
           → Next m (after_level m (level_by b low a).answer (level_by b low a).bench)
       unfolding when◌then◌else◌ after_level level_step_by stepped
-      level-goes false a e = at_top full (ap (λ (s : Stepped). s.answer) e)
-      level-goes true blocked e = at-blocked full (ap (λ (s : Stepped). s.answer) e)
-      level-goes true failing e = clash-across full (ap (λ (s : Stepped). s.answer) e)
+      level-goes false a e = at_top full (ap (λ (s : Stepped Step). s.answer) e)
+      level-goes true blocked e = at-blocked full (ap (λ (s : Stepped Step). s.answer) e)
+      level-goes true failing e = clash-across full (ap (λ (s : Stepped Step). s.answer) e)
       level-goes true (learned cs) e =
-          subst (λ (s : Stepped). Going (standing_of s.bench 0 m.restored)) e
+          subst (λ (s : Stepped Step). Going (standing_of s.bench 0 m.restored)) e
           record { sound = sound-level b g.sound; plan = level-plan b ∙ g.plan }
 
       turn_level : Next m (take_turn m)
@@ -122,7 +123,7 @@ module _ (p : ℕ) where
           subst (Next m)
           (sym (if-false (ltb k (plan_of b.plan).rows) (after_row m (row_step b k).answer (row_step b k).bench) (after_level m (level_step b).answer (level_step b).bench)
           (le→nltb k (plan_of b.plan).rows (subst (λ q. (plan_of q).rows ≤ k) (sym g.plan) full))
-          ∙ ap (λ (s : Stepped). after_level m s.answer s.bench) level-is))
+          ∙ ap (λ (s : Stepped Step). after_level m s.answer s.bench) level-is))
           (level-goes (ltb b.level (length (plan_of b.plan).levels)) (level_fill b) level-is)
 
     turn-next : Next m (take_turn m)
@@ -133,16 +134,16 @@ module _ (p : ℕ) where
         ]
 
     -- the step whose turn it is is not refused
-    accepted : (n : ℕ) → (next_step p m).answer ≢ Refused n
+    accepted : (n : ℕ) → (next_step p m).answer ≢ Err n
     unfolding next_step
     accepted n =
         elim (either (ltb k (plan_of p).rows)) [
           | inl t ↦
               let l = ltb→lt k (plan_of p).rows t in
-              subst (λ (s : Stepped). s.answer ≢ Refused n) (sym (if-true (ltb k (plan_of p).rows) (row_step b k) (level_step b) t ∙ row_is l))
+              subst (λ (s : Stepped Step). s.answer ≢ Err n) (sym (if-true (ltb k (plan_of p).rows) (row_step b k) (level_step b) t ∙ row_is l))
               (row-accepted b k (row_fill b k) n)
           | inr t ↦
-              subst (λ (s : Stepped). s.answer ≢ Refused n) (sym (if-false (ltb k (plan_of p).rows) (row_step b k) (level_step b) t ∙ level-is))
+              subst (λ (s : Stepped Step). s.answer ≢ Err n) (sym (if-false (ltb k (plan_of p).rows) (row_step b k) (level_step b) t ∙ level-is))
               (level-accepted b (ltb b.level (length (plan_of b.plan).levels)) (level_fill b) n)
         ]
 

@@ -8,6 +8,7 @@ use native.Mathlib.Nat.{suc_inj}
 use native.Mathlib.Omega.{arith}
 use lib.Dec.{T, T_not, eqb, ltb}
 use lib.ListN.{length, get_or}
+use Rattle.std.specs.Prelude.{Result, Ok}
 use Rattle.field.specs.Lists.{when◌then◌else◌}
 use Rattle.field.specs.Field.{Field, size}
 use Rattle.field.proofs.Laws.{IsField}
@@ -22,6 +23,7 @@ use Rattle.plans.specs.Plan.{Plan, plan_of, level_of, checks_to, row_at, marks_a
 use Rattle.plans.specs.Refusal.{unasked, sums_at, bench_refusal}
 use Rattle.steps.specs.Steps.{stepped, unless_refused, row_fill, row_step_by, row_step, lossy, blocked, level_step_by, level_step}
 use Rattle.plans.specs.declared.Bench.{Bench}
+use Rattle.plans.specs.declared.Step.{Step}
 use Rattle.plans.specs.declared.Step.TheVariants.{Whole, Filled, Tied, Top, Clash}
 use Rattle.plans.proofs.Spread.{fields, weights-tied}
 use Rattle.steps.proofs.Ends.{level-blocked}
@@ -75,13 +77,13 @@ module _ (b : Bench) (r : ℕ) where
   found = fill-means P.field (checks_to P b.level) (sums_at P b.level b.sums r) (marks_at P b.marks r) (row_at P b.symbols r)
 
   -- Tied is answered where the fill is tied, and Clash where it is none
-  answered : (n : ℕ) (f : Fill) → let a = (unless_refused n b (row_step_by b r f)).answer in (a ≡ Tied → f ≡ tied) × (a ≡ Clash → f ≡ none)
+  answered : (n : ℕ) (f : Fill) → let a = (unless_refused n b (row_step_by b r f)).answer in (a ≡ Ok Tied → f ≡ tied) × (a ≡ Ok Clash → f ≡ none)
   unfolding when◌then◌else◌ unless_refused row_step_by stepped
   answered zero none = (λ e. let z : ◌≡◌ {A = ℕ} 0 1 = cc in absurd (omega arith), λ e. refl)
   answered zero tied = (λ e. refl, λ e. let z : ◌≡◌ {A = ℕ} 0 1 = cc in absurd (omega arith))
   answered zero (one row) = by (eqb (get_or b.marks r 0) 0)
     where
-      by : (z : Bool) → let a = when z then Whole else Filled in (a ≡ Tied → one row ≡ tied) × (a ≡ Clash → one row ≡ none)
+      by : (z : Bool) → let a : Result Step ℕ = Ok (when z then Whole else Filled) in (a ≡ Ok Tied → one row ≡ tied) × (a ≡ Ok Clash → one row ≡ none)
       by true = (λ e. let z : ◌≡◌ {A = ℕ} 0 1 = cc in absurd (omega arith), λ e. let z : ◌≡◌ {A = ℕ} 0 1 = cc in absurd (omega arith))
       by false = (λ e. let z : ◌≡◌ {A = ℕ} 0 1 = cc in absurd (omega arith), λ e. let z : ◌≡◌ {A = ℕ} 0 1 = cc in absurd (omega arith))
   answered (suc n) f = (λ e. let z : ◌≡◌ {A = ℕ} 0 1 = cc in absurd (omega arith), λ e. let z : ◌≡◌ {A = ℕ} 0 1 = cc in absurd (omega arith))
@@ -177,7 +179,7 @@ sums-exist p t ms sums long bound =
     (f.0, filling-fills F W (zeros W) ms sums f.0 f.1)
 
 -- no refusal, level or block is a Clash
-blocked-answer : (b : Bench) (n : ℕ) (low : Bool) → (unless_refused n b (when low then level_step_by b blocked else stepped b Top)).answer ≡ Clash → ⊥
+blocked-answer : (b : Bench) (n : ℕ) (low : Bool) → (unless_refused n b (when low then level_step_by b blocked else stepped b (Ok Top))).answer ≡ Ok Clash → ⊥
 unfolding when◌then◌else◌ unless_refused level_step_by stepped
 blocked-answer b zero true e = let z : ◌≡◌ {A = ℕ} 0 1 = cc in omega arith
 blocked-answer b zero false e = let z : ◌≡◌ {A = ℕ} 0 1 = cc in omega arith
@@ -188,4 +190,4 @@ unfolding level_step lossy
 level-clash-is-free b e bound =
     let low = ltb b.level (length (plan_of b.plan).levels) in
     blocked-answer b (bench_refusal b unasked) low
-    (subst (λ l. (unless_refused (bench_refusal b unasked) b (when low then level_step_by b l else stepped b Top)).answer ≡ Clash) (level-blocked b bound) e)
+    (subst (λ l. (unless_refused (bench_refusal b unasked) b (when low then level_step_by b l else stepped b (Ok Top))).answer ≡ Ok Clash) (level-blocked b bound) e)

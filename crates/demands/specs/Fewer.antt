@@ -1,7 +1,8 @@
 -- Fewer losses never hurt: one codeword, two sets of marks, the first inside the second, true symbols elsewhere.
-use Rattle.std.specs.Prelude.{ℕ, ◌<◌, ◌≤◌, ◌≡◌, true, List, get_or}
+use Rattle.std.specs.Prelude.{ℕ, ◌<◌, ◌≤◌, ◌≡◌, true, List, get_or, Result, Ok, Err}
 use Rattle.plans.specs.Plan.{plan_of, row_at, marks_of}
 use Rattle.repair.specs.Mending.{mend_report, mend_stripe, mend_marks}
+use Rattle.plans.specs.declared.Report.{Report}
 use Rattle.demands.specs.Words.{Codeword, Agree, Fit}
 
 -- every mark of ms is one of ns
@@ -25,13 +26,18 @@ EndsClear p stripe marks r = get_or (mend_marks p stripe marks) r 0 ≡ 0
 abbrev pub row_after : ℕ → (stripe marks : List ℕ) → ℕ → List ℕ
 row_after p stripe marks r = row_at (plan_of p) (mend_stripe p stripe marks) r
 
+-- the level that mending reaches; 0 beside a refusal
+abbrev pub level_reached : Result Report ℕ → ℕ
+level_reached (Ok r) = r.level
+level_reached (Err n) = 0
+
 -- s under ms ends no worse than t under ns: each row without marks at the end under ns has none under ms, and the same symbols, which are X's;
 -- and the level reached is no lower
 pub record NoWorse (p : ℕ) (X s ms t ns : List ℕ) : Type 0 where
   pub unmarked : (r : ℕ) → r < (plan_of p).rows → EndsClear p t ns r → EndsClear p s ms r
   pub symbols : (r : ℕ) → r < (plan_of p).rows → EndsClear p t ns r → row_after p s ms r ≡ row_after p t ns r
   pub true-symbols : (r : ℕ) → r < (plan_of p).rows → EndsClear p t ns r → row_after p s ms r ≡ row_at (plan_of p) X r
-  pub level : (mend_report p t ns).level ≤ (mend_report p s ms).level
+  pub level : level_reached (mend_report p t ns) ≤ level_reached (mend_report p s ms)
 
 abbrev pub FewerNeverHurt : Type 0
 FewerNeverHurt = (p : ℕ) (X s ms t ns : List ℕ) → FewerLosses p X s ms t ns → NoWorse p X s ms t ns

@@ -1,5 +1,6 @@
 -- What mending in one call leaves in the lent stripe and marks, whatever they held.
-use Rattle.std.specs.Prelude.{ℕ, ◌<◌, ◌≡◌, ◌⊎◌, List, length, get_or}
+use Rattle.std.specs.Prelude.{ℕ, ◌<◌, ◌≡◌, ◌⊎◌, List, length, get_or, Ok}
+use Rattle.plans.specs.Answers.{answered}
 use Rattle.plans.specs.Plan.{Plan, plan_of, row_at}
 use Rattle.repair.specs.Mending.{mend_report, mend_stripe, mend_marks}
 use Rattle.plans.specs.declared.Place.{Place}
@@ -23,5 +24,5 @@ MendingLeaves = (p : ℕ) (stripe marks : List ℕ) → IsLeft p stripe marks (m
 
 -- a Clash changes nothing
 abbrev pub ClashLeaves : Type 0
-ClashLeaves = (p : ℕ) (stripe marks : List ℕ) (place : Place) → (mend_report p stripe marks).answer ≡ Clash place
+ClashLeaves = (p : ℕ) (stripe marks : List ℕ) (place : Place) → answered (mend_report p stripe marks) ≡ Ok (Clash place)
     → (mend_stripe p stripe marks ≡ stripe) × (mend_marks p stripe marks ≡ marks)

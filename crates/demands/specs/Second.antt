@@ -1,5 +1,6 @@
 -- The second demand: what Restored, Clash and Stuck mean; which marks are always restored; encoding and extraction.
-use Rattle.std.specs.Prelude.{ℕ, ◌*◌, ◌<◌, ◌≡◌, List, T, length, replicate}
+use Rattle.std.specs.Prelude.{ℕ, ◌*◌, ◌<◌, ◌≡◌, List, T, length, replicate, Ok}
+use Rattle.plans.specs.Answers.{answered}
 use Rattle.plans.specs.Plan.{known, plan_of, carried}
 use Rattle.repair.specs.Mending.{mend_report, mend_stripe, mend_marks}
 use Rattle.encoding.specs.Data.{encode_refusal, extract_refusal, extract_data, extracted}
@@ -17,27 +18,27 @@ pub record IsRestored (p : ℕ) (stripe marks : List ℕ) : Type 0 where
   pub clear : mend_marks p stripe marks ≡ replicate (plan_of p).rows 0
 
 abbrev pub RestoredMeans : Type 0
-RestoredMeans = (p : ℕ) (stripe marks : List ℕ) → (mend_report p stripe marks).answer ≡ Restored → IsRestored p stripe marks
+RestoredMeans = (p : ℕ) (stripe marks : List ℕ) → answered (mend_report p stripe marks) ≡ Ok Restored → IsRestored p stripe marks
 
 -- Clash: no codeword agrees with every unmarked symbol
 abbrev pub ClashMeans : Type 0
-ClashMeans = (p : ℕ) (stripe marks : List ℕ) (place : Place) → (mend_report p stripe marks).answer ≡ Clash place
+ClashMeans = (p : ℕ) (stripe marks : List ℕ) (place : Place) → answered (mend_report p stripe marks) ≡ Ok (Clash place)
     → (X : List ℕ) → Codeword p X → Agree p marks X stripe → ⊥
 
 -- Stuck: every codeword that agrees has each symbol that is now unmarked
 abbrev pub StuckMeans : Type 0
-StuckMeans = (p : ℕ) (stripe marks : List ℕ) → (mend_report p stripe marks).answer ≡ Stuck
+StuckMeans = (p : ℕ) (stripe marks : List ℕ) → answered (mend_report p stripe marks) ≡ Ok Stuck
     → (X : List ℕ) → Codeword p X → Agree p marks X stripe → Agree p (mend_marks p stripe marks) X (mend_stripe p stripe marks)
 
 -- a codeword whose marks meet the published row counts is restored, to itself, whatever stands under the marks
 abbrev pub CountsSuffice : Type 0
 CountsSuffice = (p : ℕ) (X stripe marks : List ℕ) → Codeword p X → Fit p stripe marks → Agree p marks X stripe → MeetsCounts p marks
-    → ((mend_report p stripe marks).answer ≡ Restored) × (mend_stripe p stripe marks ≡ X)
+    → (answered (mend_report p stripe marks) ≡ Ok Restored) × (mend_stripe p stripe marks ≡ X)
 
 -- and so is one with any d - 1 marks
 abbrev pub DistanceSuffices : Type 0
 DistanceSuffices = (p : ℕ) (X stripe marks : List ℕ) → Codeword p X → Fit p stripe marks → Agree p marks X stripe → total marks < distance p
-    → ((mend_report p stripe marks).answer ≡ Restored) × (mend_stripe p stripe marks ≡ X)
+    → (answered (mend_report p stripe marks) ≡ Ok Restored) × (mend_stripe p stripe marks ≡ X)
 
 -- encoding writes a codeword that holds the data, the only one
 pub record IsEncoded (p : ℕ) (ds Y : List ℕ) : Type 0 where

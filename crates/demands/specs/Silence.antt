@@ -5,7 +5,6 @@ use Rattle.steps.specs.Steps.{started, row_step, level_step}
 use Rattle.repair.specs.Mending.{mend_report, mend_stripe, mend_marks}
 use Rattle.files.specs.File.{write_refusal, write_file, plan_in, marks_in, symbols_in, read_refusal, read_stripe, read_marks}
 use Rattle.plans.specs.declared.Bench.{Bench}
-use Rattle.plans.specs.declared.Started.{Started}
 use Rattle.demands.specs.Words.{Agree, Move, walk, SameStep}
 
 -- ---- what differs only under marks
@@ -26,12 +25,8 @@ pub record SameButMarks (b c : Bench) : Type 0 where
 
 -- ---- start and the steps: the same answer, and benches that again differ only under marks
 
-pub record SameStart (x y : Started) : Type 0 where
-  pub answer : x.answer ≡ y.answer
-  pub bench : SameButMarks x.bench y.bench
-
 abbrev pub SilentStart : Type 0
-SilentStart = (p : ℕ) (marks s t : List ℕ) → SameUnmarked p marks s t → SameStart (started p s marks) (started p t marks)
+SilentStart = (p : ℕ) (marks s t : List ℕ) → SameUnmarked p marks s t → SameStep SameButMarks (started p s marks) (started p t marks)
 
 abbrev pub SilentRowStep : Type 0
 SilentRowStep = (b c : Bench) (r : ℕ) → SameButMarks b c → SameStep SameButMarks (row_step b r) (row_step c r)

@@ -1,5 +1,5 @@
 -- What Tied, Blocked and Clash say of fillings: a tied row has one, a row in Clash has none, and a blocked level hides no contradiction.
-use Rattle.std.specs.Prelude.{ℕ, suc, ◌<◌, ◌≡◌, ◌≢◌, Bool, true, false, List, T, length, get_or}
+use Rattle.std.specs.Prelude.{ℕ, suc, ◌<◌, ◌≡◌, ◌≢◌, Bool, true, false, List, T, length, get_or, Ok}
 use Rattle.field.specs.Field.{Field, size}
 use Rattle.fills.specs.Lists.{zeros}
 use Rattle.fills.specs.Fill.{sums_of, dependent}
@@ -28,10 +28,10 @@ FillsRow b r w =
     Fills P.field (checks_to P b.level) (sums_at P b.level b.sums r) (marks_at P b.marks r) (row_at P b.symbols r) w
 
 abbrev pub TiedHasFilling : Type 0
-TiedHasFilling = (b : Bench) (r : ℕ) → (row_step b r).answer ≡ Tied → (w : List ℕ) × FillsRow b r w
+TiedHasFilling = (b : Bench) (r : ℕ) → (row_step b r).answer ≡ Ok Tied → (w : List ℕ) × FillsRow b r w
 
 abbrev pub ClashHasNone : Type 0
-ClashHasNone = (b : Bench) (r : ℕ) → (row_step b r).answer ≡ Clash → (w : List ℕ) → FillsRow b r w → ⊥
+ClashHasNone = (b : Bench) (r : ℕ) → (row_step b r).answer ≡ Ok Clash → (w : List ℕ) → FillsRow b r w → ⊥
 
 -- where the rounds of mending end, each row that still has marks has fillings, and not one alone
 abbrev pub LeftRowsFill : Type 0
@@ -52,4 +52,4 @@ SumsExist = (p t : ℕ) (ms : List Bool) (sums : List ℕ) → length ms ≡ (pl
 
 -- so a level step is Clash only where they are independent
 abbrev pub LevelClashIsFree : Type 0
-LevelClashIsFree = (b : Bench) → (level_step b).answer ≡ Clash → WeightsTied b.plan (suc b.level) (lossy (plan_of b.plan) b.marks) → ⊥
+LevelClashIsFree = (b : Bench) → (level_step b).answer ≡ Ok Clash → WeightsTied b.plan (suc b.level) (lossy (plan_of b.plan) b.marks) → ⊥

@@ -6,10 +6,9 @@ use Rattle.field.specs.Field.{size}
 use Rattle.fills.specs.Lists.{only}
 use Rattle.plans.specs.Plan.{Plan, plan_of, marks_of}
 use Rattle.plans.specs.Refusal.{all_below, lent_refusal}
-use Rattle.steps.specs.Steps.{row_step, level_step}
+use Rattle.steps.specs.Steps.{Stepped, row_step, level_step}
 use Rattle.codewords.specs.Codeword.{is_codeword}
 use Rattle.plans.specs.declared.Bench.{Bench}
-use Rattle.plans.specs.declared.Stepped.{Stepped}
 use Rattle.demands.specs.Published.{counts}
 
 -- X is a codeword of plan p
@@ -45,8 +44,8 @@ walk (m ∷ ms) b = walk ms (after b m)
 abbrev pub Quiet : Bench → Type 0
 Quiet b = (m : Move) → after b m ≡ b
 
--- two steps answer the same, and the benches that they leave are related by R
-pub record SameStep (R : Bench → Bench → Type 0) (x y : Stepped) : Type 0 where
+-- two steps, or two starts, answer the same, and the benches that they leave are related by R
+pub record SameStep {A : Type 0} (R : Bench → Bench → Type 0) (x y : Stepped A) : Type 0 where
   pub answer : x.answer ≡ y.answer
   pub bench : R x.bench y.bench
 

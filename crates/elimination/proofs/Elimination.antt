@@ -2,15 +2,16 @@
 use Prim.Native.Nat.{ℕ, ◌+◌, ◌≤◌, ◌<◌}
 use mathlib.Core.Path.{◌≡◌, refl, sym, ap, ap₂, ◌∙◌}
 use mathlib.Core.Bool.{Bool, true, false, true≢false, false≢true}
-use mathlib.Core.Logic.{◌≢◌, inl, inr, ⊎_elim}
+use mathlib.Core.Logic.{◌≢◌}
 use native.Mathlib.Decide.{ℕ_discrete, dec_lt}
 use native.Mathlib.Omega.{arith}
 use borrow.Author.Count.{below_more}
+use Rattle.std.proofs.Common.{Option, Some, None, is_some}
 use Rattle.field.specs.Field.{Field, ◌⊕◌, size, mul, inverse}
 use Rattle.field.proofs.Sum.{⊕-self, ⊕-zero, zero-⊕, ⊕-undo, ⊕-cancel}
 use Rattle.field.proofs.Laws.{IsField, size-pos, zero-mul, mul-zero, mul-one, mul-⊕, mul_left_comm}
 use Rattle.equations.specs.System.{Matrix, inner, Elements, Ker, Solves, Consistency, Dependence}
-use Rattle.elimination.specs.Steps.{Same, Added, Cleared, Pivoted, Form, Free, ReadOff}
+use Rattle.elimination.specs.Steps.{Same, Found, Added, Cleared, Pivoted, Form, Free, ReadOff}
 use Rattle.equations.proofs.Inner.{put, put_same, put_other, inner-more, inner-same, inner-zero, inner-lt, inner-row, inner-put, inner-one}
 
 -- ---- the form of the matrix, column by column
@@ -24,8 +25,8 @@ form-start M m at = record {
   rows = omega arith;
 }
 
-pub free-start : (at : ℕ → ℕ) (k : ℕ) → Free at 0 0 k k
-free-start at k = inl (refl, refl, λ t l. absurd (omega arith))
+pub free-start : (at : ℕ → ℕ) → Free at 0 0 None
+free-start at = (refl, λ t l. absurd (omega arith))
 
 -- a column in which no row from r on has an entry
 pub form-skip : (M : Matrix) (m : ℕ) (at : ℕ → ℕ) (r c : ℕ) → Form M m at r c → ((x : ℕ) → r ≤ x → x < m → M x c ≡ 0) → Form M m at r (c + 1)
@@ -37,8 +38,8 @@ form-skip M m at r c R h = record {
   rows = R.rows;
 }
 
-pub free-skip : (M : Matrix) (m : ℕ) (at : ℕ → ℕ) (r c k : ℕ) → Form M m at r c → Free at r (c + 1) k c
-free-skip M m at r c k R = inr (omega arith, λ t l e. omega (arith, R.col t l))
+pub free-skip : (M : Matrix) (m : ℕ) (at : ℕ → ℕ) (r c : ℕ) → Form M m at r c → Free at r (c + 1) (Some c)
+free-skip M m at r c R = (omega arith, λ t l e. omega (arith, R.col t l))
 
 -- a column that becomes row r's
 module _ (at to : ℕ → ℕ) (r c : ℕ) (old : (t : ℕ) → t < r → to t ≡ at t) (new : to r ≡ c) where
@@ -52,18 +53,9 @@ module _ (at to : ℕ → ℕ) (r c : ℕ) (old : (t : ℕ) → t < r → to t �
     rows = omega arith;
   }
 
-  pub free_step : (k free : ℕ) → Free at r c k free → Free to (r + 1) (c + 1) k free
-  free_step k free G = ⊎_elim
-      (λ a. inl (a.0, omega (arith, a.1), below_more _ _ (λ t l. old t l ∙ a.2 t l) (omega (arith, a.1))))
-      (λ b. inr (omega (arith, b.0), below_more _ _ (λ t l e. b.1 t l (sym (old t l) ∙ e)) (λ e. omega (arith, b.0))))
-      G
-
-pub free_in : (at : ℕ → ℕ) (r k free : ℕ) → Free at r k k free → free ≤ k
-free_in at r k free G = ⊎_elim (λ a. omega (arith, a.0)) (λ b. omega (arith, b.0)) G
-
--- the free column is no pivot's
-pub free-away : (M : Matrix) (m : ℕ) (at : ℕ → ℕ) (r k free : ℕ) → Form M m at r k → Free at r k k free → (t : ℕ) → t < r → at t ≢ free
-free-away M m at r k free R G t l = ⊎_elim (λ a e. omega (arith, a.0, R.col t l, e)) (λ b. b.1 t l) G
+  pub free_step : (free : Option ℕ) → Free at r c free → Free to (r + 1) (c + 1) free
+  free_step None a = (omega (arith, a.0), below_more _ _ (λ t l. old t l ∙ a.1 t l) (omega (arith, a.0)))
+  free_step (Some free) b = (omega (arith, b.0), below_more _ _ (λ t l e. b.1 t l (sym (old t l) ∙ e)) (λ e. omega (arith, b.0)))
 
 -- no two rows have their pivot in one column
 pub pivots-apart : (M : Matrix) (m : ℕ) (at : ℕ → ℕ) (r c s t : ℕ) → Form M m at r c → s < t → t < r → at s ≢ at t
@@ -202,25 +194,19 @@ module _ (F : Field) (K : IsField F) where
 
   -- ---- the end: what the reduced matrix says of its solutions and dependencies
 
-  pub consistent-yes : (M : Matrix) (m k : ℕ) (at : ℕ → ℕ) (r : ℕ) (x : ℕ → ℕ) → ((i : ℕ) → r ≤ i → i < m → M i k ≡ 0)
-      → ReadOff F M m k at k r x → Consistency F M m k true x
-  consistent-yes M m k at r x h X = record {
-    solution = λ _. (X.small, λ i l. elim (dec_lt i r) [ yes b ↦ X.done i l b | no nb ↦ X.todo i l (omega arith) ∙ sym (h i (omega arith) l) ]);
-    none = λ e. absurd (true≢false e);
-  }
-
-  pub consistent-no : (M : Matrix) (m k : ℕ) (at : ℕ → ℕ) (r i : ℕ) (x : ℕ → ℕ) → Form M m at r k → r ≤ i → i < m → M i k ≢ 0
-      → Consistency F M m k false x
-  consistent-no M m k at r i x R b l nz = record {
+  pub consistent-no : (M : Matrix) (m k : ℕ) (at : ℕ → ℕ) (r : ℕ) (found : Option ℕ) (x : ℕ → ℕ) → Form M m at r k → Found M m r k found
+      → true ≡ is_some found → Consistency F M m k false x
+  consistent-no M m k at r None x R f e = cc
+  consistent-no M m k at r (Some i) x R f e = record {
     solution = λ e. absurd (false≢true e);
-    none = λ _ y h. nz (sym (h i l) ∙ inner-zero F (M i) y k (λ j lj. ap (λ v. mul F v (y j)) (R.low i b l j lj) ∙ zero-mul F K _));
+    none = λ _ y h. f.nonzero (sym (h i f.most) ∙ inner-zero F (M i) y k (λ j lj. ap (λ v. mul F v (y j)) (R.low i f.least f.most j lj) ∙ zero-mul F K _));
   }
 
   -- z is read off the free column; y has 1 there besides
-  pub dependent-yes : (M : Matrix) (m k : ℕ) (at : ℕ → ℕ) (r free : ℕ) (z y : ℕ → ℕ) → Form M m at r k → free < k
-      → ((t : ℕ) → t < r → at t ≢ free) → ((i : ℕ) → M i free < size F) → ReadOff F M m k at free r z
+  pub dependent-yes : (M : Matrix) (m k : ℕ) (at : ℕ → ℕ) (r free : ℕ) (z y : ℕ → ℕ) → Form M m at r k → Free at r k (Some free)
+      → ((i : ℕ) → M i free < size F) → ReadOff F M m k at free r z
       → ((j : ℕ) → j ≢ free → y j ≡ z j) → y free ≡ 1 → Dependence F M m k true y
-  dependent-yes M m k at r free z y R l away small Z h e = record {
+  dependent-yes M m k at r free z y R (l, away) small Z h e = record {
     dependency = λ _. (entries, (free, l, λ g. omega (arith, e, g)), zero-sums);
     none = λ g. absurd (true≢false g);
   }
@@ -238,24 +224,20 @@ module _ (F : Field) (K : IsField F) where
         | no nb ↦ row i ∙ ap₂ ◌⊕◌ (Z.todo i li (omega arith)) (R.low i (omega arith) li free l) ∙ ⊕-zero 0
       ]
 
-  pub dependent-no : (M : Matrix) (m k : ℕ) (at : ℕ → ℕ) (r free : ℕ) (z : ℕ → ℕ) → Form M m at r k → Free at r k k free → k ≤ free
-      → Dependence F M m k false z
-  dependent-no M m k at r free z R G full = record { dependency = λ e. absurd (false≢true e); none = λ _. only_zero }
+  pub dependent-no : (M : Matrix) (m k : ℕ) (at : ℕ → ℕ) (r : ℕ) (z : ℕ → ℕ) → Form M m at r k → Free at r k None → Dependence F M m k false z
+  dependent-no M m k at r z R (full, at-t) = record { dependency = λ e. absurd (false≢true e); none = λ _. only_zero }
     where
       only_zero : (y : ℕ → ℕ) → ((j : ℕ) → j < k → y j < size F) → Ker F M m k y → (j : ℕ) → j < k → y j ≡ 0
-      only_zero y small h j l = ⊎_elim (λ a. each a.1 a.2 y small h j l) (λ b. absurd (omega (arith, b.0))) G
+      only_zero y small h j l =
+          sym (K.unit (y j) (small j l)) ∙ ap (λ v. mul F v (y j)) (sym one) ∙ sym (inner-one F K (M j) y j k l other) ∙ h j (omega (arith, R.rows))
         where
-          each : r ≡ k → ((t : ℕ) → t < r → at t ≡ t) → (y : ℕ → ℕ) → ((j : ℕ) → j < k → y j < size F) → Ker F M m k y → (j : ℕ) → j < k → y j ≡ 0
-          each full at-t y small h j l =
-              sym (K.unit (y j) (small j l)) ∙ ap (λ v. mul F v (y j)) (sym one) ∙ sym (inner-one F K (M j) y j k l other) ∙ h j (omega (arith, R.rows))
-            where
-              one : M j j ≡ 1
-              one = ap (M j) (sym (at-t j (omega arith))) ∙ R.unit j (omega arith)
+          one : M j j ≡ 1
+          one = ap (M j) (sym (at-t j (omega arith))) ∙ R.unit j (omega arith)
 
-              other : (x : ℕ) → x < k → x ≢ j → mul F (M j x) (y x) ≡ 0
-              other x lx ne =
-                  ap (λ v. mul F v (y x)) (ap (M j) (sym (at-t x (omega arith))) ∙ R.gone x (omega arith) j (omega (arith, R.rows)) (omega arith))
-                  ∙ zero-mul F K _
+          other : (x : ℕ) → x < k → x ≢ j → mul F (M j x) (y x) ≡ 0
+          other x lx ne =
+              ap (λ v. mul F v (y x)) (ap (M j) (sym (at-t x (omega arith))) ∙ R.gone x (omega arith) j (omega (arith, R.rows)) (omega arith))
+              ∙ zero-mul F K _
 
   -- ---- and so of the matrix before: both speak of the vectors that give 0
 

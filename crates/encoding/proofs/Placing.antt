@@ -10,6 +10,7 @@ use lib.ListN.{length, take, drop, get_or, set, length-drop, drop_of_length-le}
 use lib.Seq.{sets, length-sets}
 use Rattle.field.specs.Lists.{when◌then◌else◌, up_from}
 use Rattle.fills.specs.Lists.{only, beside}
+use Rattle.field.specs.declared.Gf.{Gf}
 use Rattle.equations.specs.Words.{bit_at}
 use Rattle.fills.specs.Marks.{bits_of}
 use Rattle.fills.proofs.Marked.{length-bits}
@@ -212,8 +213,8 @@ pub record AtRow (words xs ds : List ℕ) (n r next : ℕ) : Type 0 where
   pub room : next + unmarked (bits_of (length (part (r * n) n xs)) (get_or words r 0)) ≤ length ds
   pub lent : RowFits (get_or words r 0) (part (r * n) n xs) (take (length ds - next) (drop next ds))
 
-module _ {p q rows n : ℕ} (is : Numbers p q rows n) (words xs : List ℕ) (long : length xs ≡ (plan_of p).rows * (plan_of p).columns)
-    {r : ℕ} (more : r < rows) where
+module _ {p : ℕ} {q : Gf} {rows n : ℕ} (is : Numbers p q rows n) (words xs : List ℕ) (high : length words ≡ (plan_of p).rows)
+    (long : length xs ≡ (plan_of p).rows * (plan_of p).columns) {r : ℕ} (more : r < length words) where
   abbrev P : Plan
   P = plan_of p
 
@@ -221,7 +222,7 @@ module _ {p q rows n : ℕ} (is : Numbers p q rows n) (words xs : List ℕ) (lon
   row = part (r * n) n xs
 
   row_ends : r * n + n ≤ length xs
-  row_ends = row_within is (le_of_eq (sym long)) more
+  row_ends = row_within is (le_of_eq (sym long)) (omega (arith, is.high))
 
   row-wide : length row ≡ P.columns
   row-wide = part_length (r * n) n xs row_ends ∙ is.wide
@@ -234,7 +235,7 @@ module _ {p q rows n : ℕ} (is : Numbers p q rows n) (words xs : List ℕ) (lon
       → AtRow words xs ds n r next
   unfolding marks_of
   at_row ds all {next} count =
-      let h : r < P.rows = rw is.high at more in
+      let h : r < P.rows = rw high at more in
       let room : next + unmarked (bits_of (length row) (get_or words r 0)) ≤ length ds =
       omega (arith, unmarked-within (marks_at P words) h, ap unmarked its-marks) in
       record {

@@ -1,5 +1,5 @@
 -- Data and check places; what encoding and extraction refuse; extraction.
-use Rattle.std.specs.Prelude.{ℕ, zero, suc, Bool, true, false, ◌&&◌, eqb, length}
+use Rattle.std.specs.Prelude.{ℕ, Bool, true, false, ◌&&◌, eqb, length}
 use mathlib.Core.List.{List, [], ◌∷◌, flat_map}
 use Rattle.field.specs.Lists.{when◌then◌else◌}
 use Rattle.field.specs.Field.{size}
@@ -7,8 +7,6 @@ use Rattle.fills.specs.Lists.{first, rest, beside}
 use Rattle.plans.specs.Plan.{Plan, plan_of, known, check_places_of, carried}
 use Rattle.plans.specs.Refusal.{stripe_fits, all_below, first_failed}
 use Rattle.codewords.specs.Codeword.{is_codeword}
-use Rattle.plans.specs.declared.Outcome.{Outcome}
-use Rattle.plans.specs.declared.Outcome.TheVariants.{Done, Refused}
 
 -- ---- data and check places
 
@@ -28,10 +26,6 @@ unfoldable pub encode_refusal : ℕ → List ℕ → List ℕ → ℕ
 encode_refusal p ds stripe =
     let P = plan_of p in
     first_failed ((10, known p) ∷ (11, eqb (length ds) (carried P) && stripe_fits P stripe) ∷ (13, all_below (size P.field) ds) ∷ [])
-
-unfoldable pub outcome_of : (refusal : ℕ) → Outcome
-outcome_of zero = Done
-outcome_of (suc n) = Refused (suc n)
 
 -- ---- extraction
 

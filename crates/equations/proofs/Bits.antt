@@ -2,20 +2,19 @@
 use mathlib.Core.Path.{◌≡◌, refl, sym, ap, ap₂, ◌∙◌, subst}
 use mathlib.Core.Logic.{◌≢◌}
 use Prim.Native.Nat.{ℕ, zero, suc, ◌+◌, ◌-◌, ◌*◌, ◌/◌, ◌%◌, ◌^◌, ◌≤◌, ◌<◌}
-use native.Mathlib.Nat.{zero-add, zero-div, div-one, mod-one, div-eq_of_lt, lt_of_lt_of_le, div_self, one-mul, zero-mul, mul-zero, mul-one, mod-eq_of_lt}
+use native.Mathlib.Nat.{zero-add, zero-div, div-one, mod-one, div-eq_of_lt, lt_of_lt_of_le, div_self, one-mul, mul-zero, mul-one}
 use native.Mathlib.Numerals.{add-one, one-add}
 use native.Mathlib.Decide.{dec_lt}
 use native.Mathlib.Omega.{arith}
 use lib.Arith.{lt-one}
-use lib.Bits.{shifted_even, bit_and, and_mask, and_zero_r}
+use lib.Bits.{shifted_even, bit_and, and_mask}
 use lib.Count.{ones, ones_step, count_trailing_zeros, under}
 use lib.Dec.{lit<}
-use lib.Pow.{pow_mono, pow_pos, pow-add, shl-shr, shl_exact, shr-shr, shr_lt, ones_lt, mod-pow-add, field, mod-mod-pow}
+use lib.Pow.{pow_mono, pow_pos, pow-add, shl-shr, shl_exact, shr-shr, shr_lt, mod-pow-add, field, mod-mod-pow}
 use Rattle.field.specs.Field.{◌⊕◌, size, mul, gf2}
-use Rattle.field.specs.Ours.{field_of}
 use Rattle.field.proofs.Sum.{of-bits, bit, ⊕-shr, ⊕-mod}
 use Rattle.field.proofs.Laws as laws
-use Rattle.field.proofs.Fields.{field-2, our-field}
+use Rattle.field.proofs.Fields.{gf2-field}
 use Rattle.equations.specs.Words.{bit_at}
 
 -- ---- which bits a word has
@@ -54,25 +53,23 @@ power_below t d l =
 
 -- ---- bits and the field
 
-size-2 : size (field_of 2) ≡ 2
+pub below-2 : (x : ℕ) → x < size gf2 → x < 2
 unfolding size gf2
-size-2 = ap size (field-2 2 refl)
+below-2 x l = l
 
-pub below-2 : (x : ℕ) → x < size (field_of 2) → x < 2
-below-2 x l = rw size-2 at l
-
-pub bit-small : (w j : ℕ) → bit_at w j < size (field_of 2)
-bit-small w j = rw size-2 (bit (w / 2 ^ j))
+pub bit-small : (w j : ℕ) → bit_at w j < size gf2
+unfolding size gf2
+bit-small w j = bit (w / 2 ^ j)
 
 pub bit-sum : (x y j : ℕ) → bit_at (x ⊕ y) j ≡ bit_at x j ⊕ bit_at y j
 bit-sum x y j = ap (λ z. z % 2) (⊕-shr x y j) ∙ ⊕-mod _ _ 1
 
 -- a word, or none of it
-pub bit-times : (x b j : ℕ) → b < 2 → bit_at (x * b) j ≡ mul (field_of 2) b (bit_at x j)
+pub bit-times : (x b j : ℕ) → b < 2 → bit_at (x * b) j ≡ mul gf2 b (bit_at x j)
 bit-times x b j l =
-    of-bits (λ b. bit_at (x * b) j ≡ mul (field_of 2) b (bit_at x j))
-    (ap (λ y. bit_at y j) (mul-zero x) ∙ ap (λ y. y % 2) (zero-div (2 ^ j)) ∙ sym (laws.zero-mul _ (our-field 2) _))
-    (ap (λ y. bit_at y j) (mul-one x) ∙ sym ((our-field 2).unit _ (bit-small x j))) b l
+    of-bits (λ b. bit_at (x * b) j ≡ mul gf2 b (bit_at x j))
+    (ap (λ y. bit_at y j) (mul-zero x) ∙ ap (λ y. y % 2) (zero-div (2 ^ j)) ∙ sym (laws.zero-mul _ gf2-field _))
+    (ap (λ y. bit_at y j) (mul-one x) ∙ sym (gf2-field.unit _ (bit-small x j))) b l
 
 pub times-le : (x b : ℕ) → b < 2 → x * b ≤ x
 times-le x b l = of-bits (λ b. x * b ≤ x) (omega (arith, mul-zero x)) (omega (arith, mul-one x)) b l
@@ -102,18 +99,6 @@ shifted_one t l = shl_exact 1 t 64 (lit< tt) (omega arith) ∙ one-mul (2 ^ t)
 -- a word's m low bits
 pub low_bits : (x m : ℕ) → m ≤ 32 → bit_and x (1 * 2 ^ m % 2 ^ 64 - 1) ≡ x % 2 ^ m
 low_bits x m l = ap (λ w. bit_and x (w - 1)) (shifted_one m (omega arith)) ∙ and_mask x m
-
-pub low_fits : (m : ℕ) → m ≤ 32 → 1 * 2 ^ m % 2 ^ 64 - 1 < 2 ^ 32
-low_fits m l = rw (shifted_one m (omega arith)) (lt_of_lt_of_le (ones_lt m) (pow_mono l))
-
-pub low-some : (m : ℕ) → m ≤ 32 → 1 ≤ 1 * 2 ^ m % 2 ^ 64
-low-some m l = rw (shifted_one m (omega arith)) (pow_pos m)
-
--- a word of k bits, or none of it
-pub taken_is : (k w b : ℕ) → w < 2 ^ k → b < 2 → bit_and w (b * (2 ^ k - 1)) ≡ w * b
-taken_is k w b h l =
-    of-bits (λ b. bit_and w (b * (2 ^ k - 1)) ≡ w * b) (ap (bit_and w) (zero-mul _) ∙ and_zero_r w ∙ sym (mul-zero w))
-    (ap (bit_and w) (one-mul _) ∙ and_mask w k ∙ mod-eq_of_lt h ∙ sym (mul-one w)) b l
 
 -- ---- the lowest set bit
 

@@ -1,29 +1,23 @@
--- Products and inverses in GF(256) by the table: exponents of a = 2 add, and a ^ 255 is 1. Assumes nothing.
+-- Products and inverses in GF(256) by the tables: exponents of a = 2 add, and a ^ 255 is 1. Assumes nothing.
 use mathlib.Core.Path.{◌≡◌, refl, sym, ap, ap₂, ◌∙◌}
 use mathlib.Core.Logic.{◌≢◌}
-use mathlib.Core.Bool.{Bool, true, false}
-use mathlib.Core.List.{List, [], ◌++◌}
-use Prim.Native.Nat.{ℕ, zero, suc, ◌+◌, ◌-◌, ◌≤◌, ◌<◌, zero-le}
+use mathlib.Core.List.{List}
+use Prim.Native.Nat.{ℕ, zero, suc, ◌+◌, ◌-◌, ◌<◌}
 use native.Mathlib.Nat.{zero-add}
 use native.Mathlib.Omega.{arith}
 use lib.Dec.{T, eqb, eqb→eq, lit<}
-use lib.ListN.{length, length-append, length-map, get_or, get_or-append}
-use lib.Seq.{get_or-append-add, ext_get_or}
-use Rattle.field.specs.Lists.{when◌then◌else◌, up_from, place_from}
+use lib.ListN.{length, length-map, get_or}
+use lib.Seq.{ext_get_or}
+use Rattle.field.specs.Lists.{up_from, place_from}
 use Rattle.field.specs.Field.{size, mul, squares, inverse, gf256}
 use Rattle.field.specs.Power.{power, orbit}
-use Rattle.field.specs.Ours.{products, powers, logarithms, table_of}
+use Rattle.field.specs.Ours.{powers, logarithms}
 use Rattle.field.proofs.Test.{below, at}
 use Rattle.field.proofs.Lists.{length_up, get_or-map-below, place-lt}
 use Rattle.field.proofs.Exponents.{length-orbit, orbit-at}
 use Rattle.field.proofs.Laws.{among, powers_in, place-power, zero-mul, mul-one}
 use Rattle.field.proofs.Fields.{powers-256, period-256, gf256-field}
 use Rattle.field.proofs.Powers.{power-lt, power-add}
-use Rattle.field.proofs.Table.{length-products}
-
-length-powers : length powers ≡ 510
-unfolding powers
-length-powers = length-orbit gf256 2 1 510
 
 power_at : (i : ℕ) → i < 510 → get_or powers i 0 ≡ power gf256 2 i
 unfolding powers power
@@ -44,6 +38,10 @@ logarithm-at x l = get_or-map-below logarithm 256 x 0 l
 logarithm-lt : (x : ℕ) → x < 256 → get_or logarithms x 0 < 255
 logarithm-lt x l =
     rw (logarithm-at x l) (place-lt 0 (orbit gf256 2 1 255) x 255 (lit< tt) (omega (arith, length-orbit gf256 2 1 255)))
+
+-- in a table of them
+pub below_order : (t : List ℕ) (x : ℕ) → t ≡ logarithms → x < 256 → get_or t x 0 < 255
+below_order t x e l = rw e (logarithm-lt x l)
 
 -- the test of a table of them, entry by entry
 pub are-logarithms : (l : List ℕ) → length l ≡ 256 → T (below 256 (λ x. eqb (get_or l x 0) (logarithm x))) → l ≡ logarithms
@@ -81,49 +79,22 @@ pub zero-inverse : (x : ℕ) → x ≡ 0 → 0 ≡ inverse gf256 x
 unfolding inverse squares gf256
 zero-inverse x e = zero-product (mul gf256 x x) _ (sym (zero-product x x e))
 
--- ---- the others, by the table
+-- ---- the others, by the tables
 
-module _ (t : List ℕ) (table : t ≡ powers ++ logarithms) where
-  pub table-length : length t ≡ 766
-  table-length = ap length table ∙ length-append powers logarithms ∙ ap₂ ◌+◌ length-powers length-logarithms
+pub product_at : {p l m : List ℕ} (x y : ℕ) → p ≡ powers → l ≡ logarithms → m ≡ logarithms → x < 256 → y < 256 → x ≢ 0 → y ≢ 0
+    → get_or p (get_or l x 0 + get_or m y 0) 0 ≡ mul gf256 x y
+product_at x y ep el em hx hy nx ny =
+    rw (ep, el, em)
+    (power_at _ (omega (arith, logarithm-lt x hx, logarithm-lt y hy)) ∙ power-add gf256 gf256-field 2 _ _
+    ∙ ap₂ (mul gf256) (logarithm-names x hx nx) (logarithm-names y hy ny))
 
-  table-power : (i : ℕ) → i < 510 → get_or t i 0 ≡ power gf256 2 i
-  table-power i l = rw table (get_or-append powers logarithms 0 i (omega (arith, length-powers))) ∙ power_at i l
-
-  table-logarithm : (x : ℕ) → get_or t (510 + x) 0 ≡ get_or logarithms x 0
-  table-logarithm x = rw (table, ← length-powers) (get_or-append-add powers logarithms x 0)
-
-  module _ (x : ℕ) (l : x < 256) where
-    pub table-lt : get_or t (510 + x) 0 < 255
-    table-lt = rw (table-logarithm x) (logarithm-lt x l)
-
-    table-names : x ≢ 0 → power gf256 2 (get_or t (510 + x) 0) ≡ x
-    table-names ne = ap (power gf256 2) (table-logarithm x) ∙ logarithm-names x l ne
-
-  pub product_at : (x y : ℕ) → x < 256 → y < 256 → x ≢ 0 → y ≢ 0 → get_or t (get_or t (510 + x) 0 + get_or t (510 + y) 0) 0 ≡ mul gf256 x y
-  product_at x y hx hy nx ny =
-      table-power _ (omega (arith, table-lt x hx, table-lt y hy)) ∙ power-add gf256 gf256-field 2 _ _
-      ∙ ap₂ (mul gf256) (table-names x hx nx) (table-names y hy ny)
-
-  -- what stands at 255 less the logarithm inverts x, and only one element does
-  pub inverse-at : (x : ℕ) → x < 256 → x ≢ 0 → get_or t (255 - get_or t (510 + x) 0) 0 ≡ inverse gf256 x
-  unfolding size gf256
-  inverse-at x hx nx =
-      let k = get_or t (510 + x) 0 in
-      let around : k + (255 - k) ≡ 255 = omega (arith, table-lt x hx) in
-      table-power (255 - k) (omega arith)
-      ∙ only-inverse x (power gf256 2 (255 - k)) hx nx (power-lt gf256 gf256-field 2 _)
-      (ap (λ z. mul gf256 z (power gf256 2 (255 - k))) (sym (table-names x hx nx)) ∙ sym (power-add gf256 gf256-field 2 k (255 - k))
-      ∙ ap (power gf256 2) around ∙ period-256)
-
--- ---- lengths
-
--- no field's table is longer
-pub table-most : (q : ℕ) → length (table_of q) ≤ 766
-unfolding when◌then◌else◌ table_of
-table-most q = go (eqb q 2) (eqb q 16)
-  where
-    go : (two sixteen : Bool) → length (when two then [] else (when sixteen then products else powers ++ logarithms)) ≤ 766
-    go true s = zero-le
-    go false true = omega (arith, length-products)
-    go false false = omega (arith, table-length _ refl)
+-- what stands at 255 less the logarithm inverts x, and only one element does
+pub inverse-at : (x : ℕ) → x < 256 → x ≢ 0 → get_or powers (255 - get_or logarithms x 0) 0 ≡ inverse gf256 x
+unfolding size gf256
+inverse-at x hx nx =
+    let k = get_or logarithms x 0 in
+    let around : k + (255 - k) ≡ 255 = omega (arith, logarithm-lt x hx) in
+    power_at (255 - k) (omega arith)
+    ∙ only-inverse x (power gf256 2 (255 - k)) hx nx (power-lt gf256 gf256-field 2 _)
+    (ap (λ z. mul gf256 z (power gf256 2 (255 - k))) (sym (logarithm-names x hx nx)) ∙ sym (power-add gf256 gf256-field 2 k (255 - k))
+    ∙ ap (power gf256 2) around ∙ period-256)

@@ -1,14 +1,13 @@
 -- Our fields are fields: one computed test each, of the inverses or of the powers of a. Assumes nothing.
-use mathlib.Core.Path.{◌≡◌, refl, ap, ap₂}
-use mathlib.Core.Logic.{◌≢◌}
-use mathlib.Core.Bool.{Bool, true, false}
-use Prim.Native.Nat.{ℕ, pred, ◌<◌}
-use borrow.Author.Tests.{ne_eqb}
-use lib.Dec.{T, eqb, lit<}
+use mathlib.Core.Path.{◌≡◌, refl}
+use Prim.Native.Nat.{pred}
+use lib.Dec.{T, lit<}
 use Rattle.field.specs.Field.{◌⊕◌, size, double, times, mul, squares, inverse, gf2, gf8, gf16, gf32, gf64, gf256}
 use Rattle.field.specs.Lists.{when◌then◌else◌, place_from}
 use Rattle.field.specs.Power.{power, orbit}
 use Rattle.field.specs.Ours.{field_of}
+use Rattle.field.specs.declared.Gf.{Gf}
+use Rattle.field.specs.declared.Gf.TheVariants.{Two, Sixteen, Bytes}
 use Rattle.field.proofs.Test.{below}
 use Rattle.field.proofs.Laws.{IsField, is_field, among, powers_in, generates}
 
@@ -45,29 +44,9 @@ pub gf256-field : IsField gf256
 unfolding size gf256
 gf256-field = generates gf256 refl (lit< tt) 2 period-256 powers-256
 
--- a byte is an element
-pub byte-lt : (x : ℕ) → x < 256 → x < size gf256
-unfolding size gf256
-byte-lt x h = h
-
--- whatever the number
-pub our-field : (q : ℕ) → IsField (field_of q)
-unfolding when◌then◌else◌ field_of
-our-field q = go (eqb q 2) (eqb q 16)
-  where
-    go : (two sixteen : Bool) → IsField (when two then gf2 else (when sixteen then gf16 else gf256))
-    go true s = gf2-field
-    go false true = gf16-field
-    go false false = gf256-field
-
-pub field-2 : (q : ℕ) → q ≡ 2 → field_of q ≡ gf2
-unfolding when◌then◌else◌ field_of
-field-2 q e = ap field_of e
-
-pub field-16 : (q : ℕ) → q ≡ 16 → field_of q ≡ gf16
-unfolding when◌then◌else◌ field_of
-field-16 q e = ap field_of e
-
-pub field-256 : (q : ℕ) → q ≢ 2 → q ≢ 16 → field_of q ≡ gf256
-unfolding when◌then◌else◌ field_of
-field-256 q two sixteen = ap₂ (λ a b. when a then gf2 else (when b then gf16 else gf256)) (ne_eqb q 2 two) (ne_eqb q 16 sixteen)
+-- whichever it is
+pub our-field : (q : Gf) → IsField (field_of q)
+unfolding field_of
+our-field Two = gf2-field
+our-field Sixteen = gf16-field
+our-field Bytes = gf256-field

@@ -1,12 +1,12 @@
 // Arithmetic of our fields. Elements are numbers below the field's size; the sum is `^`. For our own crates, not for scripts.
 #![tactic(auto)]
 
-ghost use Rattle.std.specs.Prelude.{◌≡◌, ◌++◌, length};
-ghost use Rattle.field.specs.Field.{mul, inverse, dot, gf256};
-ghost use Rattle.field.specs.Ours.{field_of, table_of, powers, «products» as product_table, «logarithms» as logarithm_table};
+ghost use Rattle.std.specs.Prelude.{◌≡◌, length};
+ghost use Rattle.field.specs.Field.{mul, inverse, dot, size, gf256};
+ghost use Rattle.field.specs.Ours.{field_of, by_number, powers, «products» as product_table, «logarithms» as logarithm_table};
 
 // Entry 16 x + y is x times y in GF(16), modulo x^4 + x + 1: a line has the products of x.
-const PRODUCTS: [u8; 256] = *b"\
+static PRODUCTS: [u8; 256] = *b"\
     \x00\x00\x00\x00\x00\x00\x00\x00\x00\x00\x00\x00\x00\x00\x00\x00\
     \x00\x01\x02\x03\x04\x05\x06\x07\x08\x09\x0a\x0b\x0c\x0d\x0e\x0f\
     \x00\x02\x04\x06\x08\x0a\x0c\x0e\x03\x01\x07\x05\x0b\x09\x0f\x0d\
@@ -30,7 +30,7 @@ const ORDER: usize = 255;
 const EXPONENTS: usize = 510;
 
 // Entry k is a^k in GF(256), modulo x^8 + x^4 + x^3 + x^2 + 1.
-const POWERS: [u8; EXPONENTS] = *b"\
+static POWERS: [u8; EXPONENTS] = *b"\
     \x01\x02\x04\x08\x10\x20\x40\x80\x1d\x3a\x74\xe8\xcd\x87\x13\x26\
     \x4c\x98\x2d\x5a\xb4\x75\xea\xc9\x8f\x03\x06\x0c\x18\x30\x60\xc0\
     \x9d\x27\x4e\x9c\x25\x4a\x94\x35\x6a\xd4\xb5\x77\xee\xc1\x9f\x23\
@@ -65,7 +65,7 @@ const POWERS: [u8; EXPONENTS] = *b"\
     \x58\xb0\x7d\xfa\xe9\xcf\x83\x1b\x36\x6c\xd8\xad\x47\x8e";
 
 // Entry x is the k with a^k = x. Entry 0 is never used.
-const LOGARITHMS: [u8; 256] = *b"\
+static LOGARITHMS: [u8; 256] = *b"\
     \x00\x00\x01\x19\x02\x32\x1a\xc6\x03\xdf\x33\xee\x1b\x68\xc7\x4b\
     \x04\x64\xe0\x0e\x34\x8d\xef\x81\x1c\xc1\x69\xf8\xc8\x08\x4c\x71\
     \x05\x8a\x65\x2f\xe1\x24\x0f\x21\x35\x93\x8e\xda\xf0\x12\x82\x45\
@@ -83,33 +83,107 @@ const LOGARITHMS: [u8; 256] = *b"\
     \xcb\x59\x5f\xb0\x9c\xa9\xa0\x51\x0b\xf5\x16\xeb\x7a\x75\x2c\xd7\
     \x4f\xae\xd5\xe9\xe6\xe7\xad\xe8\x74\xd6\xf4\xea\xa8\x50\x58\xaf";
 
-// The most numbers that a field's table has.
-pub const TABLE: usize = 766;
+// A proof knows what a static holds by the contract of a function that lends it: so each has one.
 
-// The table of field 16. A constant is written out where it is named, so a table is put into a room once and lent from there.
-pub fn products() -> [u8; 256]
-    ensures { result ≡ product_table }
+// The products of GF(16).
+fn products() -> &'static [u8; 256]
+    ensures { result.now ≡ product_table }
 {
-    PRODUCTS
+    &PRODUCTS
 }
 
-// The front of the table of field 256: the powers of a.
-pub fn powers_of_a() -> [u8; EXPONENTS]
-    ensures { result ≡ powers }
+// The powers of a in GF(256).
+fn powers_of_a() -> &'static [u8; EXPONENTS]
+    ensures { result.now ≡ powers }
 {
-    POWERS
+    &POWERS
 }
 
-// What stands behind them.
-pub fn logarithms() -> [u8; 256]
-    ensures { result ≡ logarithm_table }
+// And the logarithms to it.
+fn logarithms() -> &'static [u8; 256]
+    ensures { result.now ≡ logarithm_table }
 {
-    LOGARITHMS
+    &LOGARITHMS
+}
+
+// The fields that we compute in, by their sizes: GF(2), GF(16) and GF(256).
+#[derive(Clone, Copy, PartialEq, Eq)]
+pub enum Gf {
+    Two,
+    Sixteen,
+    Bytes,
+}
+
+// A field by its number, which is its size. Any number but 2 and 16 names GF(256).
+impl From<usize> for Gf {
+    ghost from_gives = { λ number field. field ≡ by_number number };
+
+    fn from(number: usize) -> Gf {
+        match number {
+            2 => Gf::Two,
+            16 => Gf::Sixteen,
+            _ => Gf::Bytes,
+        }
+    }
+}
+
+impl Gf {
+    // How many elements there are.
+    pub fn size(self) -> usize
+        ensures { result ≡ size (field_of self) }
+    {
+        match self {
+            Gf::Two => 2,
+            Gf::Sixteen => 16,
+            Gf::Bytes => 256,
+        }
+    }
+
+    // x times y. Of each the low bits count.
+    pub fn product(self, x: u8, y: u8) -> u8
+        ensures { result ≡ mul (field_of self) x y }
+    {
+        match self {
+            Gf::Two => x % 2 * (y % 2),
+            Gf::Sixteen => products()[(x % 16) as usize * 16 + (y % 16) as usize],
+            Gf::Bytes => byte_product(x, y),
+        }
+    }
+
+    // What inverts x, where x is not 0: x to the power of the field's size less 2.
+    pub fn inverse(self, x: u8) -> u8
+        ensures { result ≡ inverse (field_of self) x }
+    {
+        match self {
+            Gf::Two => 1,
+            Gf::Sixteen => {
+                let x2 = self.product(x, x);
+                let x4 = self.product(x2, x2);
+                let x8 = self.product(x4, x4);
+                self.product(x2, self.product(x4, x8))
+            }
+            Gf::Bytes => byte_inverse(x),
+        }
+    }
+
+    // The sum of each symbol times its coefficient. GF(2) has a loop of its own, which is compiled without the tables.
+    pub fn dot(self, check: &[u8], row: &[u8]) -> u8
+        requires { length check.now ≡ length row.now }
+        ensures { result ≡ dot (field_of self) check.now row.now }
+    {
+        if self == Gf::Two {
+            return dot_bits(check, row);
+        }
+        let mut sum = 0;
+        for (c, x) in check.iter().zip(row) {
+            sum ^= self.product(*c, *x);
+        }
+        sum
+    }
 }
 
 // x times y in GF(256): the power whose exponent is the sum of their logarithms, or 0 where one of them is 0.
-fn byte_product(table: &[u8], x: u8, y: u8) -> u8
-    requires { table.now ≡ powers ++ logarithm_table }
+fn byte_product(x: u8, y: u8) -> u8
     ensures { result ≡ mul gf256 x y }
 {
     if x == 0 {
@@ -118,90 +192,30 @@ fn byte_product(table: &[u8], x: u8, y: u8) -> u8
     if y == 0 {
         return 0;
     }
-    let i = table[EXPONENTS + x as usize];
-    let j = table[EXPONENTS + y as usize];
-    table[i as usize + j as usize]
+    let i = logarithms()[x as usize];
+    let j = logarithms()[y as usize];
+    powers_of_a()[i as usize + j as usize]
 }
 
 // What inverts x in GF(256), where x is not 0: with the logarithm of x its own is ORDER. Of 0 it is 0.
-fn byte_inverse(table: &[u8], x: u8) -> u8
-    requires { table.now ≡ powers ++ logarithm_table }
+fn byte_inverse(x: u8) -> u8
     ensures { result ≡ inverse gf256 x }
 {
     if x == 0 {
         return 0;
     }
-    let i = table[EXPONENTS + x as usize];
-    table[ORDER - i as usize]
-}
-
-// x times y in field `q`. Of each the low bits count.
-pub fn product(q: usize, table: &[u8], x: u8, y: u8) -> u8
-    requires { table.now ≡ table_of q }
-    ensures { result ≡ mul (field_of q) x y }
-{
-    if q == 2 {
-        return x % 2 * (y % 2);
-    }
-    if q == 16 {
-        let entry = (x % 16) as usize * 16 + (y % 16) as usize;
-        return table[entry];
-    }
-    byte_product(table, x, y)
-}
-
-// What inverts x in field `q`, where x is not 0: x to the power of the field's size less 2.
-pub fn inverse(q: usize, table: &[u8], x: u8) -> u8
-    requires { table.now ≡ table_of q }
-    ensures { result ≡ inverse (field_of q) x }
-{
-    if q == 2 {
-        return 1;
-    }
-    if q == 16 {
-        let x2 = product(q, table, x, x);
-        let x4 = product(q, table, x2, x2);
-        let x8 = product(q, table, x4, x4);
-        return product(q, table, x2, product(q, table, x4, x8));
-    }
-    byte_inverse(table, x)
+    let i = logarithms()[x as usize];
+    powers_of_a()[ORDER - i as usize]
 }
 
 // The sum over GF(2) of each symbol times its coefficient. The low bit counts: it is taken once, at the end.
 fn dot_bits(check: &[u8], row: &[u8]) -> u8
     requires { length check.now ≡ length row.now }
-    ensures { result ≡ dot (field_of 2) check.now row.now }
+    ensures { result ≡ dot (field_of Gf.Two) check.now row.now }
 {
-    let mut sum = 0u8;
-    for c in 0..check.len() {
-        sum = sum ^ (check[c] & row[c]);
+    let mut sum = 0;
+    for (c, x) in check.iter().zip(row) {
+        sum ^= c & x;
     }
     sum % 2
-}
-
-// The sum of each symbol times its coefficient, by `product`.
-fn dot_table(q: usize, table: &[u8], check: &[u8], row: &[u8]) -> u8
-    requires table_value { table.now ≡ table_of q }
-    requires check_len { length check.now ≡ length row.now }
-    ensures { result ≡ dot (field_of q) check.now row.now }
-{
-    let mut sum = 0u8;
-    for c in 0..check.len() {
-        let x = check[c];
-        let y = row[c];
-        sum = sum ^ product(q, table, x, y);
-    }
-    sum
-}
-
-// The sum of each symbol times its coefficient, in field `q`. GF(2) has a call of its own, whose loop is compiled without the table.
-pub fn dot(q: usize, table: &[u8], check: &[u8], row: &[u8]) -> u8
-    requires table_value { table.now ≡ table_of q }
-    requires check_len { length check.now ≡ length row.now }
-    ensures { result ≡ dot (field_of q) check.now row.now }
-{
-    if q == 2 {
-        return dot_bits(check, row);
-    }
-    dot_table(q, table, check, row)
 }

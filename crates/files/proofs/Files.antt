@@ -1,6 +1,6 @@
 -- The stripe file: what is read of what was written, and what is written of what was read. Assumes nothing.
 use mathlib.Core.Path.{◌≡◌, refl, sym, ap, ap₂, ◌∙◌, subst}
-use mathlib.Core.Bool.{Bool, true, false, ◌&&◌, and-true, and-false}
+use mathlib.Core.Bool.{Bool, true, false, not, ◌&&◌, and-true, and-false}
 use mathlib.Core.List.{List, [], ◌∷◌, ◌++◌, flat_map, append_assoc}
 use Prim.Native.Nat.{ℕ, ◌+◌, ◌*◌, ◌-◌, ◌≤◌, ◌<◌}
 use native.Mathlib.Nat.{le_of_eq}
@@ -9,6 +9,7 @@ use borrow.Author.Tests.{le-leb, eq-eqb, ne_eqb}
 use lib.Dec.{T, eqb, leb, ltb, ltb→lt, eqb→eq, le→leb}
 use lib.ListN.{length, get_or, take, drop, length-append, length-take, length-drop, take-append-drop}
 use lib.Seq.{drop_at, take_all, take-add, ext_get_or}
+use Rattle.std.specs.Str.{bytes_eq}
 use Rattle.field.specs.Lists.{when◌then◌else◌}
 use Rattle.field.proofs.Test.{both_left, both_right}
 use Rattle.field.proofs.Words.{EachBelow, ◌&◌}
@@ -27,6 +28,35 @@ use Rattle.plans.proofs.Plans.{shape}
 use Rattle.plans.proofs.Refusals.{all-passed, none-refused, stripe-length, marks-length}
 use Rattle.steps.proofs.Fit.{eq→eqb, marks-fit, fit-marks, symbols-fit, fit-symbols, LentFit, lent-fit, fit-lent}
 use Rattle.files.proofs.Stripes.{length-blanked, blanked-twice, fit-blanked, length-marks-of, length-header, word-bytes-most, word_fits}
+
+-- ---- what a call leaves in a buffer
+
+-- what is new where nothing is refused, and what was there where something is
+module _ {n : ℕ} (new old : List ℕ) where
+  pub left-new : n ≡ 0 → new ≡ (when eqb n 0 then new else old)
+  unfolding when◌then◌else◌
+  left-new z = ap (λ b. when b then new else old) (sym (eq-eqb n 0 z))
+
+  pub left-old : (n ≡ 0 → ⊥) → old ≡ (when eqb n 0 then new else old)
+  unfolding when◌then◌else◌
+  left-old ne = ap (λ b. when b then new else old) (sym (ne_eqb n 0 ne))
+
+-- ---- bytes compared
+
+pub bytes-same : (xs ys : List ℕ) → bytes_eq xs ys ≡ same xs ys
+unfolding same
+bytes-same [] [] = refl
+bytes-same [] (y ∷ ys) = refl
+bytes-same (x ∷ xs) [] = refl
+bytes-same (x ∷ xs) (y ∷ ys) = ap (λ b. eqb x y && b) (bytes-same xs ys)
+
+-- as a branch on `!=` tells it
+pub differ-same : (xs ys : List ℕ) {t b : Bool} → t ≡ not (bytes_eq xs ys) → t ≡ b → same xs ys ≡ not b
+differ-same xs ys d e = twice (same xs ys) ∙ ap not (ap not (sym (bytes-same xs ys)) ∙ sym d ∙ e)
+  where
+    twice : (s : Bool) → s ≡ not (not s)
+    twice true = refl
+    twice false = refl
 
 -- ---- what is read
 

@@ -5,23 +5,25 @@ use mathlib.Core.List.{List, [], ◌∷◌, flat_map}
 use Prim.Native.Nat.{ℕ, zero, suc, ◌+◌, ◌*◌, ◌/◌, ◌%◌, ◌^◌, ◌<◌, ◌≤◌}
 use native.Mathlib.Nat.{zero-mul, suc-mul, add_comm, add-zero, zero-add, not-suc-le-zero, le_of_suc-le-suc, le_of_eq, le_trans, mul-le-mul}
 use native.Mathlib.Omega.{arith}
-use lib.Dec.{T, eqb, ltb, nltb→le}
-use lib.ListN.{length, get_or, drop}
+use lib.Dec.{T, lit<, eqb, ltb, nltb→le}
+use lib.ListN.{length, get_or, take, drop}
 use lib.Pow.{pow_mono}
-use lib.Seq.{take_at, drop_at, drop-drop}
+use lib.Seq.{take_all, take_at, drop_at, drop-drop}
 use Rattle.field.specs.Lists.{when◌then◌else◌, up_from}
-use Rattle.field.specs.Field.{size}
+use Rattle.field.specs.Field.{size, gf32, gf64}
 use Rattle.field.proofs.Words.{◌&◌}
 use Rattle.fills.specs.Lists.{first, rest, beside}
 use Rattle.fills.specs.Marks.{bits_of}
 use Rattle.fills.proofs.Choices.{Alike}
 use Rattle.fills.proofs.Beside.{length-beside, beside-rows, beside-alike, length-beside-bits, beside-bits-at}
-use Rattle.plans.specs.Plan.{Plan, plan_of, known, row_at, marks_at, marks_of, wide_marks, word_bytes}
+use Rattle.plans.specs.Plan.{Plan, binary_plan, plan1, plan2, plan3, plan4, plan5, plan_of, known, row_at, marks_at, marks_of, wide_marks, word_bytes}
 use Rattle.plans.specs.Rooms.{row_room}
 use Rattle.plans.specs.Refusal.{unmarked_below, symbols_fit}
 use Rattle.words.specs.Words.{byte_range, bytes_of}
 use Rattle.words.proofs.Bytes.{byte_power}
 use Rattle.files.specs.File.{header_size, header_of, blanked}
+use Rattle.files.specs.Parts.{Symbols}
+use Rattle.plans.proofs.Chunks.{Row}
 use Rattle.plans.proofs.Plans.{of-known, rows-most, columns-most}
 use Rattle.plans.proofs.Flat.{flat-length}
 use Rattle.plans.proofs.Rows.{marks-length}
@@ -34,6 +36,11 @@ use Rattle.steps.proofs.Fit.{symbols-fit, fit-symbols}
 pub known-below : (p : ℕ) → T (known p) → p < byte_range
 unfolding up_from
 known-below = of-known (λ p. p < byte_range) (omega arith & omega arith & omega arith & omega arith & omega arith & tt)
+
+-- and it has columns
+pub columns-pos : (p : ℕ) → T (known p) → 0 < (plan_of p).columns
+unfolding up_from size gf32 gf64 binary_plan plan1 plan2 plan3 plan4 plan5 plan_of
+columns-pos = of-known (λ p. 0 < (plan_of p).columns) (lit< tt & lit< tt & lit< tt & lit< tt & lit< tt & tt)
 
 pub length-header : (p : ℕ) → length (header_of p) ≡ header_size
 unfolding bytes_of header_of
@@ -97,9 +104,22 @@ pub length-marks-of : (P : Plan) (marks : List ℕ) → length (marks_of P marks
 unfolding marks_of
 length-marks-of P marks = flat-length (marks_at P marks) P.columns 0 P.rows (λ r h. marks-length P marks r)
 
+-- row r, 0 under its marks
+abbrev pub row_blanked : Plan → (marks stripe : List ℕ) → ℕ → List ℕ
+row_blanked P marks stripe r = blanked (marks_at P marks r) (row_at P stripe r)
+
+-- as code has the row and its word
+pub blanked-turn : (P : Plan) (marks stripe : List ℕ) {r word : ℕ} {row : List ℕ} → Row P.rows P.columns stripe r row → word ≡ get_or marks r 0
+    → blanked (bits_of (length row) word) row ≡ row_blanked P marks stripe r
+unfolding marks_at row_at
+blanked-turn P marks stripe is e = rw (e, is.long, is.is) refl
+
+-- a plan's symbols are the rows', none behind them
+pub all-symbols : {p : ℕ} {symbols marks : List ℕ} → Symbols p symbols marks → symbols ≡ take ((plan_of p).rows * (plan_of p).columns) symbols
+all-symbols {symbols = symbols} s = sym (take_all _ symbols (le_of_eq s.long))
+
 -- a stripe is blanked row by row
-pub blanked-rows : (P : Plan) (marks stripe : List ℕ)
-    → blanked (marks_of P marks) stripe ≡ flat_map (λ r. blanked (marks_at P marks r) (row_at P stripe r)) (up_from 0 P.rows)
+pub blanked-rows : (P : Plan) (marks stripe : List ℕ) → blanked (marks_of P marks) stripe ≡ flat_map (row_blanked P marks stripe) (up_from 0 P.rows)
 unfolding marks_of row_at blanked
 blanked-rows P marks stripe =
     ap (λ i. blanked (marks_of P marks) (drop i stripe)) (sym (zero-mul P.columns))

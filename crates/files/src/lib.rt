@@ -4,14 +4,14 @@
 ghost use Rattle.std.specs.Prelude.{◌≡◌, ◌/◌, ◌%◌, ◌^◌, ◌<◌, T, eqb, length};
 ghost use Rattle.field.specs.Lists.{when◌then◌else◌};
 ghost use Rattle.fills.specs.Marks.{bits_of};
+ghost use Rattle.plans.specs.Answers.{refused_by};
 ghost use Rattle.plans.specs.Plan.{plan_of, known, marks_of};
-ghost use Rattle.encoding.specs.Data.{outcome_of};
 ghost use Rattle.words.specs.Words.{word_bits};
 ghost use Rattle.words.specs.Written.{Put};
 ghost use Rattle.files.specs.File.{header_of, blanked, file_of, write_refusal, write_file};
 ghost use Rattle.files.specs.Parts.{RowPut, SymbolsPut};
 
-use plans::Outcome;
+use plans::Refusal;
 
 // How many bytes a header has: the mark words begin behind it.
 pub const HEADER: usize = 8;
@@ -56,8 +56,9 @@ fn put_row(word: u64, row: &[u8], file: &mut [u8], at: usize) -> usize
     requires { RowPut row.now file.old at }
     ensures { Put file.old at (blanked (bits_of (length row.now) word) row.now) result file.new }
 {
-    for c in 0..row.len() {
-        file[at + c] = kept(word, c, row[c]);
+    // by place: of what an adapter of `iter_mut` writes a proof learns nothing
+    for (c, symbol) in row.iter().enumerate() {
+        file[at + c] = kept(word, c, *symbol);
     }
     at + row.len()
 }
@@ -69,25 +70,23 @@ pub fn put_symbols(plan: usize, stripe: &[u8], marks: &[u64], file: &mut [u8], a
 {
     let columns = tables::facts_of(plan).columns;
     let mut next = at;
-    for r in 0..marks.len() {
-        let start = r * columns;
-        let end = start + columns;
-        next = put_row(marks[r], &stripe[start..end], file, next);
+    for (word, row) in marks.iter().zip(stripe.chunks(columns)) {
+        next = put_row(*word, row, file, next);
     }
     next
 }
 
 // ---- the file
 
-// What writing refuses; 0 where it does not.
-fn write_refusal(plan: usize, stripe: &[u8], marks: &[u64], file: &[u8]) -> usize
-    ensures { result ≡ write_refusal plan stripe.now marks.now file.now }
+// What writing refuses.
+fn write_refusal(plan: usize, stripe: &[u8], marks: &[u64], file: &[u8]) -> Result<(), Refusal>
+    ensures { refused_by result ≡ write_refusal plan stripe.now marks.now file.now }
 {
     if !tables::is_known(plan) {
-        return 10;
+        return Err(Refusal::UnknownPlan);
     }
     if file.len() != tables::facts_of(plan).file_length {
-        return 11; // the buffer for the file
+        return Err(Refusal::WrongLength); // the buffer for the file
     }
     refusals::lent_refusal(plan, stripe, marks)
 }
@@ -105,14 +104,11 @@ fn put_file(plan: usize, stripe: &[u8], marks: &[u64], file: &mut [u8])
 }
 
 // Writes a stripe and its marks as a file, 0 under marks. Where it is refused the file is unchanged.
-pub fn write_file(plan: usize, stripe: &[u8], marks: &[u64], file: &mut [u8]) -> Outcome
-    ensures value { result ≡ outcome_of (write_refusal plan stripe.now marks.now file.old) }
+pub fn write_file(plan: usize, stripe: &[u8], marks: &[u64], file: &mut [u8]) -> Result<(), Refusal>
+    ensures value { refused_by result ≡ write_refusal plan stripe.now marks.now file.old }
     ensures file_after { file.new ≡ write_file plan stripe.now marks.now file.old }
 {
-    let number = write_refusal(plan, stripe, marks, file);
-    if number != 0 {
-        return Outcome::Refused(number);
-    }
+    write_refusal(plan, stripe, marks, file)?;
     put_file(plan, stripe, marks, file);
-    Outcome::Done
+    Ok(())
 }

@@ -1,13 +1,13 @@
 -- Flat lists as rows, what is lent of them from a start to an end, and the sums of the rows, place by place. Assumes nothing.
 use Prim.Native.Nat.{ℕ, zero, suc, ◌+◌, ◌*◌, ◌-◌, ◌≤◌, ◌<◌}
-use mathlib.Core.Path.{◌≡◌, refl, sym, ap, ap₂, ◌∙◌, subst}
+use mathlib.Core.Path.{◌≡◌, refl, sym, ap, ◌∙◌, subst}
 use mathlib.Core.Bool.{Bool, true, false}
 use mathlib.Core.Logic.{◌≢◌}
 use mathlib.Core.List.{List, [], ◌∷◌}
 use native.Mathlib.Nat.{zero-mul, zero-add, suc-mul, add-sub_cancel_left, le_of_suc-le-suc}
 use native.Mathlib.Omega.{arith}
 use lib.Dec.{T}
-use lib.ListN.{length, get_or, take, drop, length-take, length-drop}
+use lib.ListN.{length, get_or, take, drop, length-drop}
 use lib.Seq.{length-take-le, get_or-take, get_or-drop, ext_get_or}
 use Rattle.field.specs.Field.{Field, ◌⊕◌, mul, dot}
 use Rattle.field.proofs.Laws.{IsField}
@@ -54,12 +54,12 @@ module _ (F : Field) (K : IsField F) where
   dot-inner (c ∷ cs) (x ∷ xs) (suc n) h =
       ap (λ s. mul F c x ⊕ s) (dot-inner cs xs n (le_of_suc-le-suc h)) ∙ sym (inner_first F (vec (c ∷ cs)) (vec (x ∷ xs)) n)
 
-  -- what is lent of row i, and of a vector
-  pub part-inner : (i n : ℕ) (l w : List ℕ) → dot F (part (i * n) n l) (take n w) ≡ inner F (ent l n i) (vec w) n
-  part-inner i n l w =
-      dot-inner (part (i * n) n l) (take n w) n (simp length-take (omega arith))
-      ∙ inner-same F (vec (part (i * n) n l)) (vec (take n w)) (ent l n i) (vec w) n
-      (λ j lj. ap₂ (mul F) (ap (λ r. vec r j) (part_of (i * n) n l) ∙ get_or-take n (drop (i * n) l) j 0 lj ∙ get_or-drop (i * n) l j 0) (get_or-take n w j 0 lj))
+  -- row i, and a vector
+  pub part-inner : (i n : ℕ) (l w : List ℕ) → length w ≤ n → dot F (part (i * n) n l) w ≡ inner F (ent l n i) (vec w) n
+  part-inner i n l w h =
+      dot-inner (part (i * n) n l) w n h
+      ∙ inner-same F (vec (part (i * n) n l)) (vec w) (ent l n i) (vec w) n
+      (λ j lj. ap (λ c. mul F c (vec w j)) (ap (λ r. vec r j) (part_of (i * n) n l) ∙ get_or-take n (drop (i * n) l) j 0 lj ∙ get_or-drop (i * n) l j 0))
 
   pub length-sums : (m n : ℕ) (l w : List ℕ) → length (sums_of F (rows_of m n l) w) ≡ m
   unfolding sums_of rows_of

@@ -1,7 +1,7 @@
 -- The steps around the solver: showing what is unmarked, gathering the marked columns, writing them back. Assumes nothing.
-use Prim.Native.Nat.{ℕ, zero, suc, ◌+◌, ◌*◌, ◌≤◌, ◌<◌}
+use Prim.Native.Nat.{ℕ, zero, suc, ◌+◌, ◌*◌, ◌<◌}
 use mathlib.Core.Path.{◌≡◌, refl, sym, ap, ◌∙◌}
-use mathlib.Core.Logic.{◌≢◌, inl, inr, ⊎_elim}
+use mathlib.Core.Logic.{◌≢◌, inl}
 use mathlib.Core.List.{List}
 use native.Mathlib.Numerals.{add-one}
 use native.Mathlib.Decide.{ℕ_discrete}
@@ -11,48 +11,13 @@ use borrow.Author.Tests.{eq-eqb, ne_eqb}
 use lib.ListN.{length, set, length-set}
 use lib.Seq.{get_or-set_same, get_or-set_other}
 use Rattle.field.specs.Lists.{when◌then◌else◌}
-use Rattle.field.specs.Field.{Field, ◌⊕◌, mul}
-use Rattle.equations.specs.System.{vec, Matrix, ent, inner}
+use Rattle.field.specs.Field.{Field, ◌⊕◌}
+use Rattle.equations.specs.System.{vec, ent, inner}
 use Rattle.equations.specs.Words.{bit_at}
 use Rattle.gathering.specs.Steps.{Places, hidden, Copied, Gathered, scattered}
 use Rattle.equations.proofs.Rows.{row_fits}
-use Rattle.equations.proofs.Inner.{inner-same}
-
--- ---- `copy`, at column c
-
-pub record Copying (v shown₀ shown : List ℕ) (c : ℕ) : Type 0 where
-  pub upto : c ≤ length v
-  pub size : length shown ≡ length shown₀
-  pub done : (x : ℕ) → x < c → vec shown x ≡ vec v x
-
-pub copying-start : (v shown : List ℕ) → Copying v shown shown 0
-copying-start v shown = record { upto = omega arith; size = refl; done = λ x l. absurd (omega arith) }
-
-pub copying-turn : (v shown₀ shown : List ℕ) (c : ℕ) → Copying v shown₀ shown c → c < length v → length v ≤ length shown₀
-    → Copying v shown₀ (set shown c (vec v c)) (c + 1)
-copying-turn v shown₀ shown c C l fit = record {
-  upto = omega arith;
-  size = simp length-set C.size;
-  done = below_more _ _ (λ x b. get_or-set_other shown c x _ 0 (omega arith) ∙ C.done x b) (get_or-set_same shown c _ 0 (omega (arith, C.size)));
-}
-
--- ---- `gather_row`, at place t
-
-pub copied-start : (checks : List ℕ) (n i : ℕ) (at : ℕ → ℕ) (a : List ℕ) (k : ℕ) → Copied checks n i at a a k 0
-copied-start checks n i at a k = record { done = λ s l. absurd (omega arith); rest = λ x _. refl }
-
-pub copied-turn : (checks : List ℕ) (n i : ℕ) (at : ℕ → ℕ) (a₀ a : List ℕ) (k t : ℕ) → Copied checks n i at a₀ a k t → i * (k + 1) + t < length a
-    → Copied checks n i at a₀ (set a (i * (k + 1) + t) (ent checks n i (at t))) k (t + 1)
-copied-turn checks n i at a₀ a k t C fit = record {
-  done = below_more _ _ (λ s b. get_or-set_other a _ _ _ 0 (omega arith) ∙ C.done s b) (get_or-set_same a _ _ 0 fit);
-  rest = λ x s. get_or-set_other a _ _ _ 0 (⊎_elim (λ b. omega arith) (λ b. omega arith) s)
-      ∙ C.rest x (⊎_elim (λ b. inl b) (λ b. inr (omega arith)) s);
-}
 
 -- ---- `gather`, at row i
-
-pub gathered-start : (F : Field) (checks target : List ℕ) (b : ℕ → ℕ) (n k : ℕ) (at : ℕ → ℕ) (M : Matrix) → Gathered F checks target b n k at M 0
-gathered-start F checks target b n k at M = record { coefficient = λ i l. absurd (omega arith); remainder = λ i l. absurd (omega arith) }
 
 pub gathered-turn : (F : Field) (checks target : List ℕ) (b : ℕ → ℕ) (n k : ℕ) (at : ℕ → ℕ) (a₀ a : List ℕ) (i s : ℕ)
     → Gathered F checks target b n k at (ent a₀ (k + 1)) i → Copied checks n i at a₀ a k k → s ≡ inner F (ent checks n i) b n
@@ -67,14 +32,6 @@ gathered-turn F checks target b n k at a₀ a i s G C e fit = record {
     before : (x : ℕ) → x < i → (t : ℕ) → t < k + 1 → ent (set a (i * (k + 1) + k) (vec target i ⊕ s)) (k + 1) x t ≡ ent a₀ (k + 1) x t
     before x l t lt =
         let f = row_fits i (k + 1) x l in get_or-set_other a _ _ _ 0 (omega arith) ∙ C.rest (x * (k + 1) + t) (inl (omega arith))
-
--- vectors that agree leave the same of the target
-pub gathered-same : (F : Field) (checks target : List ℕ) (b d : ℕ → ℕ) (n k : ℕ) (at : ℕ → ℕ) (M : Matrix) (m : ℕ) → ((c : ℕ) → c < n → b c ≡ d c)
-    → Gathered F checks target b n k at M m → Gathered F checks target d n k at M m
-gathered-same F checks target b d n k at M m h G = record {
-  coefficient = G.coefficient;
-  remainder = λ i l. G.remainder i l ∙ ap (λ x. vec target i ⊕ x) (inner-same F _ _ _ _ n (λ c lc. ap (mul F (ent checks n i c)) (h c lc)));
-}
 
 -- ---- `scatter`, at place t
 
@@ -115,11 +72,11 @@ pub hidden-unmarked : (marks : ℕ) (v : List ℕ) (c : ℕ) → bit_at marks c 
 unfolding hidden when◌then◌else◌
 hidden-unmarked marks v c ne = ap (λ b. when b then 0 else vec v c) (ne_eqb _ _ ne)
 
-pub scattered-hides : (marks k : ℕ) (v copy : List ℕ) (at x : ℕ → ℕ) → Places marks k at → ((t : ℕ) → t < k → at t < length copy)
-    → ((t : ℕ) → t < k → x t ≡ 0) → (c : ℕ) → vec copy c ≡ vec v c → vec (scattered copy at x k) c ≡ hidden marks v c
-scattered-hides marks k v copy at x P within zero-x c e = elim (ℕ_discrete (bit_at marks c) 1) [
+pub scattered-hides : (marks k : ℕ) (v : List ℕ) (at : ℕ → ℕ) → Places marks k at → ((t : ℕ) → t < k → at t < length v)
+    → (c : ℕ) → vec (scattered v at (λ _. 0) k) c ≡ hidden marks v c
+scattered-hides marks k v at P within c = elim (ℕ_discrete (bit_at marks c) 1) [
   | yes g ↦
       let r = P.every c g in
-      rw (← r.2) (scattered-at copy at x k within P.apart r.0 r.1 ∙ zero-x r.0 r.1 ∙ sym (hidden-marked marks v (at r.0) (P.marked r.0 r.1)))
-  | no ne ↦ scattered-off copy at x k c (λ t l g. ne (ap (bit_at marks) (sym g) ∙ P.marked t l)) ∙ e ∙ sym (hidden-unmarked marks v c ne)
+      rw (← r.2) (scattered-at v at (λ _. 0) k within P.apart r.0 r.1 ∙ sym (hidden-marked marks v (at r.0) (P.marked r.0 r.1)))
+  | no ne ↦ scattered-off v at (λ _. 0) k c (λ t l g. ne (ap (bit_at marks) (sym g) ∙ P.marked t l)) ∙ sym (hidden-unmarked marks v c ne)
 ]

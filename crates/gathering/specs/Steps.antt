@@ -1,8 +1,10 @@
 -- What the steps of `fill` around the solver ask and say. Assumes nothing.
 use Rattle.std.specs.Prelude.{ℕ, zero, suc, ◌+◌, ◌*◌, ◌^◌, ◌≤◌, ◌<◌, ◌≡◌, ◌≢◌, ◌⊎◌, List, eqb, length, get_or, set}
+use Rattle.std.specs.Int.Count.{ones}
 use Rattle.field.specs.Lists.{when◌then◌else◌}
-use Rattle.field.specs.Field.{Field, ◌⊕◌}
-use Rattle.field.specs.Ours.{field_of, table_of}
+use Rattle.field.specs.Field.{Field, ◌⊕◌, gf2}
+use Rattle.field.specs.Ours.{field_of}
+use Rattle.field.specs.declared.Gf.{Gf}
 use Rattle.equations.specs.System.{vec, Matrix, ent, inner, Elements}
 use Rattle.equations.specs.Words.{bit_at}
 use Rattle.gathering.specs.Most.{most_checks, most_columns}
@@ -32,68 +34,54 @@ unfoldable pub scattered : List ℕ → (ℕ → ℕ) → (ℕ → ℕ) → ℕ 
 scattered v at x zero = v
 scattered v at x (suc k) = set (scattered v at x k) (at k) (x k)
 
--- what `list_places` takes: marks of n columns alone, and room to list them
-pub record Listable (marks n : ℕ) (places : List ℕ) : Type 0 where
-  pub narrow : n ≤ most_columns
-  pub within : marks < 2 ^ n
-  pub room : n ≤ length places
-
--- k of n columns are marked, and `at` lists them
-pub record Listed (marks n k : ℕ) (at : ℕ → ℕ) : Type 0 where
-  pub few : k ≤ n
+-- k columns are marked, and `at` lists them
+pub record Listed (marks k : ℕ) (at : ℕ → ℕ) : Type 0 where
+  pub count : k ≡ ones marks
   pub places : Places marks k at
 
--- what `show` takes: marks of the columns alone, and room to list them and to copy the symbols
-pub record Showable (marks : ℕ) (v places shown : List ℕ) : Type 0 where
+-- what `show` takes: marks of the columns alone, and room to copy the symbols
+pub record Showable (marks : ℕ) (v shown : List ℕ) : Type 0 where
   pub narrow : length v ≤ most_columns
   pub within : marks < 2 ^ length v
-  pub listed : length places ≡ most_columns
-  pub room : length shown ≡ most_columns
+  pub room : length shown ≡ length v
 
--- the first k places are listed, and lie below n
-pub record Placed (places : List ℕ) (k n : ℕ) : Type 0 where
-  pub listed : k ≤ length places
-  pub below : (t : ℕ) → t < k → vec places t < n
+-- `places` lists the marked columns of v, and `shown` is v with 0 there
+pub record Shown (marks : ℕ) (v shown places : List ℕ) : Type 0 where
+  pub listed : Places marks (length places) (vec places)
+  pub within : marks < 2 ^ length v
+  pub size : length shown ≡ length v
+  pub hides : (c : ℕ) → c < length v → vec shown c ≡ hidden marks v c
 
--- what `scatter` takes: k places below n, and a symbol for each
-pub record Scatterable (places : List ℕ) (k n : ℕ) (x : List ℕ) : Type 0 where
-  pub placed : Placed places k n
-  pub symbols : k ≤ length x
+-- the places lie below n
+pub record Placed (places : List ℕ) (n : ℕ) : Type 0 where
+  pub below : (t : ℕ) → t < length places → vec places t < n
 
--- what `scatter_word` takes: k places below n, and a bit for each
-pub record WordScatterable (places : List ℕ) (k n : ℕ) : Type 0 where
-  pub placed : Placed places k n
-  pub bits : k ≤ most_columns
+-- what `scatter` takes: places below n, and a symbol for each
+pub record Scatterable (places : List ℕ) (n : ℕ) (x : List ℕ) : Type 0 where
+  pub placed : Placed places n
+  pub symbols : length places ≤ length x
 
--- what `row_sum` takes: the field's table, n coefficients of check i, and n symbols
-pub record Summable (q : ℕ) (table checks : List ℕ) (i : ℕ) (v : List ℕ) (n : ℕ) : Type 0 where
-  pub products : table ≡ table_of q
-  pub row : i * n + n ≤ length checks
-  pub symbols : n ≤ length v
+-- what `row_sum` takes: a coefficient of check i for each symbol
+pub record Summable (checks : List ℕ) (i : ℕ) (v : List ℕ) : Type 0 where
+  pub row : i * length v + length v ≤ length checks
 
--- what `gather_row` takes: row i of the checks and of the system, and k places
-pub record RowGatherable (q : ℕ) (checks : List ℕ) (n i : ℕ) (places : List ℕ) (k : ℕ) (a : List ℕ) : Type 0 where
+-- what `gather_row` takes: row i of the checks and of the system, and places
+pub record RowGatherable (checks : List ℕ) (n i : ℕ) (places a : List ℕ) : Type 0 where
   pub from : i * n + n ≤ length checks
-  pub to : i * (k + 1) + (k + 1) ≤ length a
-  pub placed : Placed places k n
-  pub coefficients : Elements (field_of q) (vec checks)
-  pub elements : Elements (field_of q) (vec a)
+  pub to : i * (length places + 1) + (length places + 1) ≤ length a
+  pub placed : Placed places n
 
--- what `gather` takes: a row of the checks and of the system for each target sum, n symbols, and k places
-pub record Gatherable (q : ℕ) (table checks target shown : List ℕ) (n : ℕ) (places : List ℕ) (k : ℕ) (a : List ℕ) : Type 0 where
-  pub products : table ≡ table_of q
-  pub from : length target * n ≤ length checks
-  pub to : length target * (k + 1) ≤ length a
-  pub symbols : n ≤ length shown
-  pub placed : Placed places k n
+-- what `gather` takes: a row of the checks and of the system for each target sum, and places among the symbols
+pub record Gatherable (q : Gf) (checks target shown places a : List ℕ) : Type 0 where
+  pub from : length target * length shown ≤ length checks
+  pub to : length target * (length places + 1) ≤ length a
+  pub placed : Placed places (length shown)
   pub coefficients : Elements (field_of q) (vec checks)
   pub sums : Elements (field_of q) (vec target)
   pub elements : Elements (field_of q) (vec a)
 
--- what `gather_need` takes: the table of GF(2), a row of the checks for each target sum, and n symbols
-pub record Needed (table checks target shown : List ℕ) (n : ℕ) : Type 0 where
-  pub products : table ≡ table_of 2
-  pub rows : length target * n ≤ length checks
+-- what `gather_need` takes: a row of the checks for each target sum
+pub record Needed (checks target shown : List ℕ) : Type 0 where
+  pub rows : length target * length shown ≤ length checks
   pub few : length target ≤ most_checks
-  pub symbols : n ≤ length shown
-  pub sums : Elements (field_of 2) (vec target)
+  pub sums : Elements gf2 (vec target)

@@ -6,6 +6,7 @@ use mathlib.Core.List.{List, map, map-map}
 use Prim.Native.Nat.{ℕ, suc}
 use lib.Dec.{T, eqb}
 use lib.ListN.{drop}
+use Rattle.std.specs.Prelude.{Ok, Err}
 use Rattle.field.specs.Lists.{when◌then◌else◌, up_from}
 use Rattle.field.specs.Field.{size, dot, gf16}
 use Rattle.field.specs.Power.{power, power_sum}
@@ -13,7 +14,6 @@ use Rattle.fills.specs.Lists.{all, vanish}
 use Rattle.fills.specs.Fill.{sums_of}
 use Rattle.plans.specs.Plan.{Level, all_ones, locations3, powers3, plan3, known, plan_of, level_of, row_at, across}
 use Rattle.plans.specs.Refusal.{first_failed, stripe_fits}
-use Rattle.plans.specs.declared.Verdict.TheVariants.{Yes, No, Refused}
 use Rattle.codewords.specs.Codeword.{rows_hold, totals_hold, is_codeword, test_refusal, tested}
 use Rattle.codewords.proofs.Walk.{all_map}
 use Rattle.codewords.proofs.Holding.{vanish-turned}
@@ -131,4 +131,4 @@ pub same-verdict : SameVerdict
 unfolding when◌then◌else◌ size gf16 plan3 known plan_of first_failed stripe_fits test_refusal tested interleaved_refusal interleaved
 same-verdict stripe =
     let n : ℕ = interleaved_refusal stripe in
-    ap (λ b. when eqb n 0 then when b then Yes else No else Refused n) (same_code stripe)
+    ap (λ b. when eqb n 0 then Ok b else Err n) (same_code stripe)

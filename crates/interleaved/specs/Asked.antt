@@ -1,20 +1,14 @@
 -- What the inner functions of the test ask and make.
-use Rattle.std.specs.Prelude.{ℕ, ◌*◌, ◌≤◌, ◌≡◌, List, map, length}
+use Rattle.std.specs.Prelude.{ℕ, ◌*◌, ◌≡◌, List, map, length}
 use Rattle.field.specs.Lists.{up_from}
 use Rattle.field.specs.Field.{dot, gf16}
-use Rattle.field.specs.Ours.{table_of}
 use Rattle.interleaved.specs.Interleaved.{rows, columns, row}
 
--- the field's number
-abbrev pub field_number : ℕ
-field_number = 16
-
 -- a check, a weight for each row, and the rows
-pub record Weighted (table check weights stripe : List ℕ) : Type 0 where
-  pub products : table ≡ table_of field_number
+pub record Weighted (check weights stripe : List ℕ) : Type 0 where
   pub wide : length check ≡ columns
   pub high : length weights ≡ rows
-  pub long : rows * columns ≤ length stripe
+  pub long : length stripe ≡ rows * columns
 
 -- the rows' sums under a check
 unfoldable pub sums_under : (check stripe : List ℕ) → List ℕ

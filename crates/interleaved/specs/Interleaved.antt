@@ -1,13 +1,11 @@
 -- The code of plan 3 as generalized integrated interleaving (document 001, section V), written from the partner's description alone:
 -- nothing here is read off the plan.
-use Rattle.std.specs.Prelude.{ℕ, suc, ◌*◌, Bool, ◌&&◌, List, [], ◌∷◌, map, eqb, length, take, drop}
+use Rattle.std.specs.Prelude.{ℕ, suc, ◌*◌, Bool, ◌&&◌, List, [], ◌∷◌, map, eqb, length, take, drop, Result, Ok, Err}
 use Rattle.field.specs.Lists.{when◌then◌else◌, up_from}
 use Rattle.field.specs.Field.{size, mul, gf16}
 use Rattle.field.specs.Power.{power, power_sum}
 use Rattle.fills.specs.Lists.{all, plus}
 use Rattle.plans.specs.Refusal.{first_failed, all_below}
-use Rattle.plans.specs.declared.Verdict.{Verdict}
-use Rattle.plans.specs.declared.Verdict.TheVariants.{Yes, No, Refused}
 
 -- ---- the stripe: rows of symbols of GF(16), row after row
 
@@ -59,7 +57,7 @@ is_interleaved stripe = all (λ r. in_code 1 (row stripe r)) (up_from 0 rows) &&
 unfoldable pub interleaved_refusal : List ℕ → ℕ
 interleaved_refusal stripe = first_failed ((11, eqb (length stripe) (rows * columns)) ∷ (13, all_below (size gf16) stripe) ∷ [])
 
-unfoldable pub interleaved : List ℕ → Verdict
+unfoldable pub interleaved : List ℕ → Result Bool ℕ
 interleaved stripe =
     let n = interleaved_refusal stripe in
-    when eqb n 0 then when is_interleaved stripe then Yes else No else Refused n
+    when eqb n 0 then Ok (is_interleaved stripe) else Err n

@@ -9,7 +9,7 @@ use Rattle.words.specs.Words.{bytes_of, words_at}
 use Rattle.plans.specs.declared.Bench.{Bench}
 use Rattle.plans.specs.declared.Report.{Report}
 use Rattle.plans.specs.declared.Answer.{Answer}
-use Rattle.plans.specs.declared.Answer.TheVariants.{Restored, Stuck, Clash, Refused}
+use Rattle.plans.specs.declared.Answer.TheVariants.{Restored, Stuck, Clash}
 use Rattle.plans.specs.declared.Place.{Place}
 use Rattle.plans.specs.declared.Place.TheVariants.{Row, Across}
 
@@ -28,7 +28,6 @@ unfoldable pub answer_bytes : Answer → (values : List ℕ) → List ℕ
 answer_bytes Restored values = padded report_size values
 answer_bytes Stuck values = padded report_size values
 answer_bytes (Clash place) values = replicate 5 0 ++ place_bytes place values
-answer_bytes (Refused n) values = replicate report_size 0
 
 unfoldable pub report_bytes : Plan → Report → List ℕ
 report_bytes P r = answer_bytes r.answer (report_values P r)

@@ -37,11 +37,10 @@ fn end_bytes(plan: usize, report: Report) -> [u8; REPORT]
 {
     let rows = report.rows;
     let values = [report.level, report.left, rows[0], rows[1], rows[2]];
-    let levels = tables::facts_of(plan).levels;
-    let size = levels + 2;
+    let size = tables::facts_of(plan).levels + 2;
     let mut bytes = [0u8; REPORT];
-    for k in 0..size {
-        bytes[k] = values[k] as u8;
+    for (k, value) in values[..size].iter().enumerate() {
+        bytes[k] = *value as u8;
     }
     bytes
 }
@@ -62,16 +61,15 @@ pub fn report_bytes(plan: usize, report: Report) -> [u8; REPORT]
     requires { T (all_below byte_range (report_values (plan_of plan) report)) }
     ensures { result ≡ report_bytes (plan_of plan) report }
 {
-    let answer = report.answer;
-    match answer {
-        Answer::Restored => end_bytes(plan, report),
-        Answer::Stuck => end_bytes(plan, report),
+    match report.answer {
+        Answer::Restored | Answer::Stuck => end_bytes(plan, report),
         Answer::Clash(place) => clash_bytes(place),
-        Answer::Refused(_) => [0; REPORT],
     }
 }
 
 // ---- a bench
+
+// The three take a slice and ask its length, since that is how a script lends a bench.
 
 // The mark words of the bench that these bytes are.
 pub fn marks_in(bytes: &[u8]) -> [u64; ROWS]
@@ -119,16 +117,13 @@ pub fn put_mark(bench: &mut [u8], row: usize, word: u64)
 }
 
 // Writes a bench's bytes over the whole of `out`.
-pub fn put_bench(bench: Bench, out: &mut [u8])
-    requires { BenchPut bench out.old }
-    ensures { out.new ≡ bench_bytes bench }
+pub fn put_bench(bench: &Bench, out: &mut [u8])
+    requires { BenchPut bench.now out.old }
+    ensures { out.new ≡ bench_bytes bench.now }
 {
-    let symbols = bench.symbols;
-    let marks = bench.marks;
-    let sums = bench.sums;
     let head = [bench.plan as u8, bench.level as u8];
     let at_symbols = words::put(&head, out, 0);
-    let at_marks = words::put(&symbols, out, at_symbols);
-    let at_sums = words::put_words(&marks, MARK, out, at_marks);
-    words::put(&sums, out, at_sums);
+    let at_marks = words::put(&bench.symbols, out, at_symbols);
+    let at_sums = words::put_words(&bench.marks, MARK, out, at_marks);
+    words::put(&bench.sums, out, at_sums);
 }

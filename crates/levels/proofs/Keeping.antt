@@ -10,7 +10,6 @@ use lib.Seq.{sets, take-add, drop-drop}
 use Rattle.field.specs.Lists.{up_from}
 use Rattle.plans.specs.Rooms.{sum_room}
 use Rattle.steps.specs.Steps.{new_sums, keep_sums}
-use Rattle.plans.proofs.Rows.{row-end}
 use Rattle.words.proofs.Stores.{written, take-sets, drop-sets-before, sets-append, sets-out}
 use Rattle.steps.proofs.Sums.{keep-here, keep-behind}
 use Rattle.levels.specs.Learned.{KeepReady}
@@ -53,13 +52,7 @@ module _ {at : ℕ} {c old : List ℕ} (asked : KeepReady at c old) where
   abbrev keep : List ℕ → (r n : ℕ) → List ℕ
   keep l r n = take (r * sum_room) l ++ keep_sums at (map (new_sums (c ∷ [])) (up_from r n)) (drop (r * sum_room) l)
 
-  pub keeping-starts : Keeping at c old 0 old
-  keeping-starts = record { long = refl; rest = ap (keep old 0) (omega arith) }
-
   module _ {r : ℕ} {l : List ℕ} (s : Keeping at c old r l) where
-    pub keeping-place : r < length c → r * sum_room + at < length l
-    keeping-place more = omega (arith, row-end sum_room more, asked.place, asked.sums, s.long)
-
     pub keeping-turns : r < length c → Keeping at c old (r + 1) (set l (r * sum_room + at) (get_or c r 0))
     unfolding up_from
     keeping-turns more =

@@ -1,6 +1,6 @@
 -- The gathered system answers `fill`: its solutions are the fillings, and its dependencies those of the marked columns. Assumes nothing.
-use Prim.Native.Nat.{ℕ, ◌^◌, ◌<◌}
-use mathlib.Core.Path.{◌≡◌, refl, sym, ap, ◌∙◌, subst}
+use Prim.Native.Nat.{ℕ, zero, suc, ◌^◌, ◌<◌}
+use mathlib.Core.Path.{◌≡◌, refl, sym, ap, ap₂, ◌∙◌, subst}
 use mathlib.Core.Bool.{Bool, true, false}
 use mathlib.Core.Logic.{◌≢◌}
 use mathlib.Core.List.{List}
@@ -8,20 +8,22 @@ use native.Mathlib.Nat.{le_of_eq}
 use native.Mathlib.Decide.{ℕ_discrete}
 use native.Mathlib.Omega.{arith}
 use lib.Dec.{T, not_T, T_not}
-use lib.ListN.{length}
+use lib.ListN.{length, set}
 use lib.Seq.{ext_get_or}
 use Rattle.field.specs.Field.{Field, ◌⊕◌, mul}
 use Rattle.field.proofs.Sum.{⊕-comm, ⊕-undo, zero-⊕}
 use Rattle.field.specs.Ours.{field_of}
+use Rattle.field.specs.declared.Gf.{Gf}
 use Rattle.field.proofs.Laws.{IsField, mul-zero}
 use Rattle.field.proofs.Fields.{our-field}
 use Rattle.fills.specs.Lists.{same, zeros, vanish}
-use Rattle.fills.specs.Fill.{sums_of, none, tied, one, fill}
-use Rattle.equations.specs.System.{vec, Matrix, ent, inner, Elements, Ker, Solves, Consistency, Dependence}
+use Rattle.fills.specs.Fill.{Fill, sums_of, none, tied, one, fill}
+use Rattle.equations.specs.System.{vec, Matrix, ent, inner, Elements, Ker, Solves, Consistency, Dependence, Solved}
 use Rattle.equations.specs.Words.{bit_at}
 use Rattle.fills.specs.Marks.{rows_of, bits_of}
 use Rattle.linear.specs.Answer.{fill_of, answer_of, vector_of}
-use Rattle.gathering.specs.Steps.{Places, hidden, Gathered, scattered}
+use Rattle.linear.specs.Steps.{Settles, filled_by}
+use Rattle.gathering.specs.Steps.{Places, Shown, Gathered, scattered}
 use Rattle.linear.specs.declared.FillAnswer.{FillAnswer}
 use Rattle.linear.specs.declared.FillAnswer.TheVariants.{Tied, None, One}
 use Rattle.fills.proofs.Tests.{same→eq, same_refl}
@@ -174,38 +176,78 @@ module _ (F : Field) (K : IsField F) (m n : ℕ) (checks target v : List ℕ) (m
 
 -- ---- as the code has it
 
--- the outcome r and the vector w after it are what the definition says
-abbrev pub Answer : ℕ → List ℕ → List ℕ → List ℕ → ℕ → FillAnswer → List ℕ → Type 0
-Answer q checks target v marks r w = (r ≡ answer_of (fill_of q checks target v marks)) × (w ≡ vector_of (fill_of q checks target v marks) v)
+-- x written to the places, and what agrees with it there
+scattered-same : (v : List ℕ) (at x y : ℕ → ℕ) (k : ℕ) → ((t : ℕ) → t < k → x t ≡ y t) → scattered v at x k ≡ scattered v at y k
+unfolding scattered
+scattered-same v at x y zero h = refl
+scattered-same v at x y (suc k) h = ap₂ (λ l s. set l (at k) s) (scattered-same v at x y k (λ t l. h t (omega arith))) (h k (omega arith))
 
--- what the two answers of the system say of `fill`, where `filled` has its solution at the marked places
-pub record Outcomes (q : ℕ) (checks target v : List ℕ) (marks : ℕ) (dependent consistent : Bool) (filled : List ℕ) : Type 0 where
-  pub none : consistent ≡ false → Answer q checks target v marks None v
-  pub tied : consistent ≡ true → dependent ≡ true → Answer q checks target v marks Tied v
-  pub one : consistent ≡ true → dependent ≡ false → Answer q checks target v marks One filled
+module _ (answer : FillAnswer) (F : Fill) (v places solution : List ℕ) (e : F ≡ filled_by answer v places solution) where
+  -- the answer is that of `fill`; where it is `One` the symbols that were found go to their places, else v stays as it is
+  pub settled : answer ≡ answer_of F
+  unfolding filled_by answer_of
+  settled = go answer e
+    where
+      go : (a : FillAnswer) → F ≡ filled_by a v places solution → a ≡ answer_of F
+      go None g = ap answer_of (sym g)
+      go Tied g = ap answer_of (sym g)
+      go One g = ap answer_of (sym g)
 
-pub outcomes : (q : ℕ) (checks target v : List ℕ) (marks k : ℕ) (places : List ℕ) (M : Matrix) (dependent consistent : Bool) (x z : ℕ → ℕ)
-    → Places marks k (vec places) → marks < 2 ^ length v
-    → Gathered (field_of q) checks target (hidden marks v) (length v) k (vec places) M (length target)
-    → Dependence (field_of q) M (length target) k dependent z → Consistency (field_of q) M (length target) k consistent x
-    → Outcomes q checks target v marks dependent consistent (scattered v (vec places) x k)
-unfolding fill_of answer_of vector_of
-outcomes q checks target v marks k places M dependent consistent x z P fit G D C = record {
-  none = λ c.
-      let e = answer-none _ (our-field q) _ _ checks target v marks k _ _ M P fit G hole seen refl refl x (rw c at C) in (rw e, rw e);
-  tied = λ c d.
-      let e = answer-tied _ (our-field q) _ _ checks target v marks k _ _ M P fit G hole seen refl refl x z (rw d at D) (rw c at C) in (rw e, rw e);
-  one = λ c d.
-      let e = answer-one _ (our-field q) _ _ checks target v marks k _ _ M P fit G hole seen refl refl x z (rw d at D) (rw c at C) in (rw e, rw e);
-}
-  where
-    hole : (t : ℕ) → t < k → hidden marks v (vec places t) ≡ 0
-    hole t l = hidden-marked marks v _ (P.marked t l)
+  pub settled-filled : answer ≡ One → scattered v (vec places) (vec solution) (length places) ≡ vector_of F v
+  unfolding filled_by vector_of
+  settled-filled all = ap (λ f. vector_of f v) (sym (rw all at e))
 
-    seen : (c : ℕ) → c < length v → bit_at marks c ≢ 1 → hidden marks v c ≡ vec v c
-    seen c l = hidden-unmarked marks v c
+  pub settled-kept : answer ≢ One → v ≡ vector_of F v
+  unfolding filled_by vector_of
+  settled-kept other = go answer e other
+    where
+      go : (a : FillAnswer) → F ≡ filled_by a v places solution → a ≢ One → v ≡ vector_of F v
+      go None g n = ap (λ f. vector_of f v) (sym g)
+      go Tied g n = ap (λ f. vector_of f v) (sym g)
+      go One g n = absurd (n refl)
 
-module _ (q : ℕ) (checks target v : List ℕ) (marks : ℕ) (free : marks ≡ 0) where
+module _ (q : Gf) (checks target shown places : List ℕ) (M : Matrix) (dependent consistent : Bool) (x z : ℕ → ℕ)
+    (G : Gathered (field_of q) checks target (vec shown) (length shown) (length places) (vec places) M (length target))
+    (D : Solved (field_of q) M (length target) (length places) dependent consistent x z) where
+  module _ (v : List ℕ) (marks : ℕ) (S : Shown marks v shown places) where
+    hole : (t : ℕ) → t < length places → vec shown (vec places t) ≡ 0
+    hole t l = let m = S.listed.marked t l in S.hides _ (bit-bound _ marks _ S.within m) ∙ hidden-marked marks v _ m
+
+    seen : (c : ℕ) → c < length v → bit_at marks c ≢ 1 → vec shown c ≡ vec v c
+    seen c l ne = S.hides c l ∙ hidden-unmarked marks v c ne
+
+    sized : Gathered (field_of q) checks target (vec shown) (length v) (length places) (vec places) M (length target)
+    sized = subst (λ n. Gathered (field_of q) checks target (vec shown) n (length places) (vec places) M (length target)) S.size G
+
+  -- nothing solves it
+  pub settles-none : consistent ≡ false → (solution : List ℕ) → Settles q checks target shown places None solution
+  unfolding fill_of filled_by
+  settles-none c solution = record {
+    fills = λ v marks S.
+        answer-none _ (our-field q) _ _ checks target v marks _ _ _ M S.listed S.within (sized v marks S) (hole v marks S) (seen v marks S) refl refl x
+        (rw c at D.consistency);
+  }
+
+  -- something does, and the columns are dependent
+  pub settles-tied : consistent ≡ true → dependent ≡ true → (solution : List ℕ) → Settles q checks target shown places Tied solution
+  unfolding fill_of filled_by
+  settles-tied c d solution = record {
+    fills = λ v marks S.
+        answer-tied _ (our-field q) _ _ checks target v marks _ _ _ M S.listed S.within (sized v marks S) (hole v marks S) (seen v marks S) refl refl x z
+        (rw d at D.dependence) (rw c at D.consistency);
+  }
+
+  -- x alone does
+  pub settles-one : consistent ≡ true → dependent ≡ false → (solution : List ℕ) → ((t : ℕ) → t < length places → vec solution t ≡ x t)
+      → Settles q checks target shown places One solution
+  unfolding fill_of filled_by
+  settles-one c d solution same = record {
+    fills = λ v marks S.
+        answer-one _ (our-field q) _ _ checks target v marks _ _ _ M S.listed S.within (sized v marks S) (hole v marks S) (seen v marks S) refl refl x z
+        (rw d at D.dependence) (rw c at D.consistency) ∙ ap one (sym (scattered-same v (vec places) (vec solution) x (length places) same));
+  }
+
+module _ (q : Gf) (checks target v : List ℕ) (marks : ℕ) (free : marks ≡ 0) where
   no-bit : (c : ℕ) → bit_at marks c ≢ 1
   no-bit c e = omega (arith, bit-of-none c, ap (λ w. bit_at w c) free, e)
 
@@ -226,18 +268,15 @@ module _ (q : ℕ) (checks target v : List ℕ) (marks : ℕ) (free : marks ≡ 
       (rw (agrees-size (field_of q) (length v) marks (zeros bits-of) w d.agrees) at l) (no-bit c)
       ∙ zeros-at bits-of c)))
 
-  pub unmarked-one : true ≡ same (sums_of (field_of q) (rows_of (length target) (length v) checks) v) target → Answer q checks target v marks One v
-  unfolding fill_of answer_of vector_of rows-of bits-of
-  unmarked-one e =
-      let f = fill_one (field_of q) rows-of target bits-of v no-columns record { agrees = self; meets = same→eq _ _ (subst T e tt) } in (rw f, rw f)
+  pub unmarked-one : true ≡ same (sums_of (field_of q) (rows_of (length target) (length v) checks) v) target → fill_of q checks target v marks ≡ one v
+  unfolding fill_of rows-of bits-of
+  unmarked-one e = fill_one (field_of q) rows-of target bits-of v no-columns record { agrees = self; meets = same→eq _ _ (subst T e tt) }
 
-  pub unmarked-none : false ≡ same (sums_of (field_of q) (rows_of (length target) (length v) checks) v) target → Answer q checks target v marks None v
-  unfolding fill_of answer_of vector_of rows-of bits-of
-  unmarked-none e =
-      let f = fill_none (field_of q) rows-of target bits-of v (λ w g.
+  pub unmarked-none : false ≡ same (sums_of (field_of q) (rows_of (length target) (length v) checks) v) target → fill_of q checks target v marks ≡ none
+  unfolding fill_of rows-of bits-of
+  unmarked-none e = fill_none (field_of q) rows-of target bits-of v (λ w g.
       absurd (subst T (sym e) (subst (λ l. T (same (sums_of (field_of q) rows-of l) target)) (only_self w g.agrees)
-      (subst (λ l. T (same (sums_of (field_of q) rows-of w) l)) g.meets (same_refl _))))) in
-      (rw f, rw f)
+      (subst (λ l. T (same (sums_of (field_of q) rows-of w) l)) g.meets (same_refl _)))))
     where
       only_self : (w : List ℕ) → Agrees (field_of q) bits-of v w → w ≡ v
       only_self w a =

@@ -15,52 +15,46 @@ pub struct Patience {
     pub tries: usize,
 }
 
-// Patience that ends when the clock's second has changed twice, so after one to two seconds, or after so many tries where the clock stands
-// still. The clock is not looked at yet: the first look is a change too.
-pub fn fresh() -> Patience
-    ensures { (result.changes ≡ 3) × (result.tries ≡ 100000000) }
-{
-    Patience {
-        second: 0,
-        changes: 3,
-        tries: 100000000,
+impl Patience {
+    // Patience that ends when the clock's second has changed twice, so after one to two seconds, or after so many tries where the
+    // clock stands still. The clock is not looked at yet: the first look is a change too.
+    pub fn fresh() -> Patience
+        ensures { (result.changes ≡ 3) × (result.tries ≡ 100000000) }
+    {
+        Patience {
+            second: 0,
+            changes: 3,
+            tries: 100000000,
+        }
     }
-}
 
-// Lets other programs run, and takes from patience the try that follows.
-pub fn wait(clock: &impl Clock, patience: Patience) -> Patience
-    requires { 0 < patience.tries }
-    ensures { result.tries < patience.tries }
-{
-    thread::yield_now();
-    let now = second(clock);
-    let tries = patience.tries - 1;
-    let changes = patience.changes;
-    if now == patience.second {
-        return Patience {
-            second: now,
-            changes,
-            tries,
-        };
-    }
-    if changes > 1 {
-        return Patience {
-            second: now,
-            changes: changes - 1,
-            tries,
-        };
-    }
-    Patience {
-        second: now,
-        changes: 0,
-        tries: 0,
+    // Lets other programs run, and takes from patience the try that follows.
+    pub fn wait(self, clock: &impl Clock) -> Patience
+        requires { 0 < self.tries }
+        ensures { result.tries < self.tries }
+    {
+        thread::yield_now();
+        let second = second(clock);
+        let tries = self.tries - 1;
+        if second == self.second {
+            Patience { tries, ..self }
+        } else if self.changes > 1 {
+            Patience {
+                second,
+                changes: self.changes - 1,
+                tries,
+            }
+        } else {
+            Patience {
+                second,
+                changes: 0,
+                tries: 0,
+            }
+        }
     }
 }
 
 // The second that the clock shows, 0 where it cannot be read.
 fn second(clock: &impl Clock) -> u64 {
-    match clock.since_1970() {
-        Ok(shown) => shown.as_secs(),
-        Err(_) => 0,
-    }
+    clock.since_1970().map_or(0, |shown| shown.as_secs())
 }

@@ -1,91 +1,93 @@
 // Reading to the end of the input and writing all of a text, over calls that may be interrupted or may find a stream not ready.
-ghost use Rattle.std.specs.Prelude.{suc, ◌≤◌, ◌≡◌, T, length};
+ghost use Rattle.std.specs.Prelude.{suc, ◌≤◌, ◌<◌, ◌≡◌, length, IfOk, IfErr, IfSome};
 ghost use Rattle.mend.specs.Input.{IsPrefixLen, longest};
 
-use crate::patience;
+use crate::patience::Patience;
 use std::io::{Read, Write};
 use std::time::Clock;
 
-// What reading came to: how many bytes it put at the start of a buffer, none where it failed.
-#[derive(Drop)]
-pub struct Input {
-    pub size: usize,
-    pub failed: bool,
+// A read kept failing.
+#[derive(Clone, Copy, Debug, PartialEq, Eq)]
+pub struct ReadFailed;
+
+// A write kept failing, or taking nothing: so many bytes were taken before.
+#[derive(Clone, Copy, Debug, PartialEq, Eq)]
+pub struct WriteFailed {
+    pub taken: usize,
 }
 
-// Reads until buf is full or the input ends. It fails where a read keeps failing. buf has one byte more than the longest file, so that a
-// longer input shows.
-pub fn read_whole<R: Read>(input: &mut R, clock: &impl Clock, buf: &mut [u8]) -> Input
+// Reads until buf is full or the input ends, and answers how many bytes it put at the start of buf. buf has one byte more than the
+// longest file, so that a longer input shows.
+pub fn read_whole<R: Read>(
+    input: &mut R,
+    clock: &impl Clock,
+    buf: &mut [u8],
+) -> Result<usize, ReadFailed>
     requires { length buf.old ≡ suc longest }
-    ensures prefix_len { IsPrefixLen result.size buf.new }
-    ensures size_value { T result.failed → result.size ≡ 0 }
+    ensures { IfOk result (λ size. IsPrefixLen size buf.new) }
 {
     let mut size = 0;
+    // where the input ends is not known before it is read
     while size < buf.len() {
-        let more = read_some(input, clock, &mut buf[size..]);
-        if more.failed {
-            return Input {
-                size: 0,
-                failed: true,
-            };
-        }
-        if more.size == 0 {
-            break;
-        }
-        size += more.size;
-    }
-    Input {
-        size,
-        failed: false,
-    }
-}
-
-// Writes text, and answers how many of its bytes were taken: all, or fewer where a write keeps failing.
-pub fn write_whole<W: Write>(output: &mut W, clock: &impl Clock, text: &[u8]) -> usize
-    ensures { result ≤ length text.now }
-{
-    let mut size = 0;
-    while size < text.len() {
-        let more = write_some(output, clock, &text[size..]);
+        let more = read_some(input, clock, &mut buf[size..])?;
         if more == 0 {
             break;
         }
         size += more;
     }
-    size
+    Ok(size)
+}
+
+// Writes all of text, or fails.
+pub fn write_whole<W: Write>(
+    output: &mut W,
+    clock: &impl Clock,
+    text: &[u8],
+) -> Result<(), WriteFailed>
+    ensures { IfErr result (λ failed. failed.taken ≤ length text.now) }
+{
+    let mut taken = 0;
+    // how much a write takes is not known before
+    while taken < text.len() {
+        let Some(more) = write_some(output, clock, &text[taken..]) else {
+            return Err(WriteFailed { taken });
+        };
+        taken += more;
+    }
+    Ok(())
 }
 
 // One read, made again while it fails and patience lasts. It comes to no bytes at the end of the input.
-fn read_some<R: Read>(input: &mut R, clock: &impl Clock, buf: &mut [u8]) -> Input
-    ensures { result.size ≤ length buf.old }
+fn read_some<R: Read>(
+    input: &mut R,
+    clock: &impl Clock,
+    buf: &mut [u8],
+) -> Result<usize, ReadFailed>
+    ensures { IfOk result (λ size. size ≤ length buf.old) }
 {
-    let mut patience = patience::fresh();
+    let mut patience = Patience::fresh();
+    // no count: waiting takes from patience, and may take all of it
     while patience.tries > 0 {
         if let Ok(size) = input.read(buf) {
-            return Input {
-                size,
-                failed: false,
-            };
+            return Ok(size);
         }
-        patience = patience::wait(clock, patience);
+        patience = patience.wait(clock);
     }
-    Input {
-        size: 0,
-        failed: true,
-    }
+    Err(ReadFailed)
 }
 
-// One write, made again while it fails or takes nothing, and patience lasts. Answers how many bytes it took from the start of text.
-fn write_some<W: Write>(output: &mut W, clock: &impl Clock, text: &[u8]) -> usize
-    ensures { result ≤ length text.now }
+// One write, made again while it fails or takes nothing, and patience lasts. Answers how many bytes it took from the start of text, none where it kept failing.
+fn write_some<W: Write>(output: &mut W, clock: &impl Clock, text: &[u8]) -> Option<usize>
+    ensures { IfSome result (λ size. (0 < size) × (size ≤ length text.now)) }
 {
-    let mut patience = patience::fresh();
+    let mut patience = Patience::fresh();
+    // no count: waiting takes from patience, and may take all of it
     while patience.tries > 0 {
-        let put = output.write(text).unwrap_or(0);
-        if put > 0 {
-            return put;
+        let taken = output.write(text).unwrap_or(0);
+        if taken > 0 {
+            return Some(taken);
         }
-        patience = patience::wait(clock, patience);
+        patience = patience.wait(clock);
     }
-    0
+    None
 }

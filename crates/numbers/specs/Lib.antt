@@ -1,2 +1,2 @@
--- Which answers are refusals, and by what a buffer of a wrong size is refused.
+-- By what a buffer of a wrong size is refused.
 pub mod Numbers

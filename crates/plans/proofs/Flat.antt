@@ -3,18 +3,17 @@ use mathlib.Core.Path.{◌≡◌, refl, sym, ap, ◌∙◌, subst}
 use mathlib.Core.Logic.{inl, inr}
 use mathlib.Core.Bool.{Bool}
 use mathlib.Core.List.{List, [], ◌∷◌, ◌++◌, map, flat_map, append_assoc}
-use Prim.Native.Nat.{ℕ, zero, suc, ◌+◌, ◌*◌, ◌-◌, ◌≤◌, ◌<◌}
+use Prim.Native.Nat.{ℕ, zero, suc, ◌+◌, ◌*◌, ◌≤◌, ◌<◌}
 use native.Mathlib.Nat.{zero-mul, suc-mul, add_comm, not-suc-le-zero, le_of_suc-le-suc, eq-or-lt_of_le}
 use native.Mathlib.Omega.{arith}
 use lib.Dec.{T}
-use lib.ListN.{length, get_or, take, drop, replicate, length-append}
+use lib.ListN.{length, get_or, take, drop, length-append}
 use lib.Seq.{drop-drop, drop-cons, take_at, drop_at, drop-append_seam, take-append_seam}
 use Rattle.field.specs.Lists.{up_from}
 use Rattle.field.proofs.Test.{both_left, both_right}
 use Rattle.field.proofs.Lists.{map-up-same}
 use Rattle.field.proofs.Words.{Each, EachBelow, each-get_or}
 use Rattle.fills.specs.Lists.{all}
-use Rattle.plans.specs.Tables.{padded, flat}
 
 -- what all pass, and the default too, passes wherever it is read
 pub all_get_d : {A : Type 0} (p : A → Bool) (d : A) → T (p d) → (l : List A) → T (all p l) → (i : ℕ) → T (p (get_or l i d))
@@ -69,48 +68,43 @@ flat-length f N k (suc n) wide =
 abbrev pub Rows : (q w : ℕ) → List (List ℕ) → Type 0
 Rows q w rows = Each (λ row. (length row ≡ w) × EachBelow q row) rows
 
+-- rows one behind the other
+abbrev pub flat : List (List ℕ) → List ℕ
+flat rows = flat_map (λ row. row) rows
+
 -- row j of a table whose rows have w numbers
 abbrev pub row_in : ℕ → List ℕ → ℕ → List ℕ
 row_in w table j = take w (drop (j * w) table)
 
 module _ (q w : ℕ) where
-  row-in : (rows : List (List ℕ)) (zs : List ℕ) → Rows q w rows → (j : ℕ) → j < length rows
-      → row_in w (flat_map (λ row. row) rows ++ zs) j ≡ get_or rows j []
+  row-in : (rows : List (List ℕ)) → Rows q w rows → (j : ℕ) → j < length rows → row_in w (flat rows) j ≡ get_or rows j []
   unfolding flat_map
-  row-in [] zs t j h = absurd (not-suc-le-zero h)
-  row-in (row ∷ rows) zs t zero h = rw (zero-mul, append_assoc) (take_at row _ w t.0.0)
-  row-in (row ∷ rows) zs t (suc j) h =
-      rw (suc-mul, add_comm (j * w) w, ← drop-drop (j * w) w, append_assoc, drop_at row _ w t.0.0) (row-in rows zs t.1 j (le_of_suc-le-suc h))
+  row-in [] t j h = absurd (not-suc-le-zero h)
+  row-in (row ∷ rows) t zero h = rw zero-mul (take_at row _ w t.0.0)
+  row-in (row ∷ rows) t (suc j) h =
+      rw (suc-mul, add_comm (j * w) w, ← drop-drop (j * w) w, drop_at row _ w t.0.0) (row-in rows t.1 j (le_of_suc-le-suc h))
 
   -- m rows, from row k on
-  pub rows_in : (n : ℕ) (rows : List (List ℕ)) → Rows q w rows → (k m : ℕ) → k + m ≤ length rows
-      → map (row_in w (flat n rows)) (up_from k m) ≡ take m (drop k rows)
-  unfolding up_from flat padded
-  rows_in n rows t k m h =
-      map-up-same _ (λ j. get_or rows j []) k m (λ i l. row-in rows _ t (k + i) (omega arith)) ∙ part rows k m h
+  pub rows_in : (rows : List (List ℕ)) → Rows q w rows → (k m : ℕ) → k + m ≤ length rows
+      → map (row_in w (flat rows)) (up_from k m) ≡ take m (drop k rows)
+  unfolding up_from
+  rows_in rows t k m h = map-up-same _ (λ j. get_or rows j []) k m (λ i l. row-in rows t (k + i) (omega arith)) ∙ part rows k m h
     where
       part : (rows : List (List ℕ)) (k m : ℕ) → k + m ≤ length rows → map (λ j. get_or rows j []) (up_from k m) ≡ take m (drop k rows)
       part rows k zero h = refl
       part rows k (suc m) h = rw (drop-cons rows k [] (omega arith)) (ap (λ l. get_or rows k [] ∷ l) (part rows (suc k) m (omega arith)))
 
-  pub rows-length : (rows : List (List ℕ)) → Rows q w rows → length (flat_map (λ row. row) rows) ≡ length rows * w
+  pub rows-length : (rows : List (List ℕ)) → Rows q w rows → length (flat rows) ≡ length rows * w
   unfolding flat_map
   rows-length [] t = sym (zero-mul w)
   rows-length (row ∷ rows) t =
-      length-append row (flat_map (λ row. row) rows) ∙ omega (arith, t.0.0, rows-length rows t.1, suc-mul (length rows) w)
+      length-append row (flat rows) ∙ omega (arith, t.0.0, rows-length rows t.1, suc-mul (length rows) w)
 
   -- each number of the table is below q
-  pub rows-lt : 0 < q → (n : ℕ) (rows : List (List ℕ)) → Rows q w rows → (i : ℕ) → get_or (flat n rows) i 0 < q
-  unfolding flat_map flat padded
-  rows-lt pos n rows t =
-      each-get_or (λ x. x < q) 0 pos (flat n rows)
-      (each_append (λ x. x < q) (flat_map (λ row. row) rows) (replicate (n - length (flat_map (λ row. row) rows)) 0) (all rows t)
-      (zeros (n - length (flat_map (λ row. row) rows))))
+  pub rows-lt : 0 < q → (rows : List (List ℕ)) → Rows q w rows → (i : ℕ) → get_or (flat rows) i 0 < q
+  unfolding flat_map
+  rows-lt pos rows t = each-get_or (λ x. x < q) 0 pos (flat rows) (each rows t)
     where
-      all : (rows : List (List ℕ)) → Rows q w rows → EachBelow q (flat_map (λ row. row) rows)
-      all [] t = tt
-      all (row ∷ rows) t = each_append (λ x. x < q) row (flat_map (λ row. row) rows) t.0.1 (all rows t.1)
-
-      zeros : (k : ℕ) → EachBelow q (replicate k 0)
-      zeros zero = tt
-      zeros (suc k) = (pos, zeros k)
+      each : (rows : List (List ℕ)) → Rows q w rows → EachBelow q (flat rows)
+      each [] t = tt
+      each (row ∷ rows) t = each_append (λ x. x < q) row (flat rows) t.0.1 (each rows t.1)

@@ -19,6 +19,7 @@ pub mod Rooms
 -- what the proofs of the code and of the demands rest on
 pub mod Rows
 pub mod Cut
+pub mod Chunks
 -- which checks and weights leave no target unmet
 pub mod Spread
 -- what is refused, and what is copied

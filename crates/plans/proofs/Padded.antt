@@ -1,5 +1,5 @@
 -- A list copied over zeros, by a loop or at once, for every length. Assumes nothing.
-use mathlib.Core.Path.{◌≡◌, sym, ap, subst, ◌∙◌}
+use mathlib.Core.Path.{◌≡◌, refl, sym, ap, subst, ◌∙◌}
 use mathlib.Core.List.{List, [], ◌∷◌, ◌++◌}
 use Prim.Native.Nat.{ℕ, suc, ◌+◌, ◌-◌, ◌≤◌, ◌<◌}
 use native.Mathlib.Nat.{add-sub_of_le, sub-zero, zero-add}
@@ -10,11 +10,6 @@ use lib.Seq.{length-take-le, take_all, take-suc, set-append_seam, append_snoc, s
 use Rattle.std.proofs.lemmas.List.{drop-replicate}
 use Rattle.words.specs.Written.{Put}
 use Rattle.plans.specs.Tables.{padded}
-
-pub length-padded : (n : ℕ) (xs : List ℕ) → length xs ≤ n → length (padded n xs) ≡ n
-unfolding padded
-length-padded n xs h =
-    length-append xs (replicate (n - length xs) 0) ∙ ap (λ k. length xs + k) (length-replicate (n - length xs) 0) ∙ add-sub_of_le h
 
 -- the first zero gives way to x
 put : (n : ℕ) (front : List ℕ) (x : ℕ) (left : ℕ) → n - length front ≡ suc left → n - length (front ++ (x ∷ [])) ≡ left
@@ -46,6 +41,11 @@ module _ (n : ℕ) (xs : List ℕ) (fits : length xs ≤ n) where
 
   pub padding-ends : {i : ℕ} {l : List ℕ} → Padding n xs i l → length xs ≤ i → l ≡ padded n xs
   padding-ends {i} h all = h.copied ∙ ap (padded n) (take_all i xs all)
+
+-- what was copied over the front of zeros has zeros behind it
+pub copied-over : (n : ℕ) (xs : List ℕ) {front : List ℕ} → front ≡ xs → front ++ drop (length xs) (replicate n 0) ≡ padded n xs
+unfolding padded
+copied-over n xs e = rw (e, drop-replicate {X = ℕ} (length xs) n 0) refl
 
 -- what was put at the front of zeros has zeros behind it
 pub put-padded : (n : ℕ) {i : ℕ} {xs l : List ℕ} → Put (replicate n 0) 0 xs i l → l ≡ padded n xs

@@ -41,7 +41,7 @@ rows-from k (suc m) n l =
 pub rows-of : (m n : ℕ) (l : List ℕ) → rows_of m n l ≡ map (row_in n l) (up_from 0 m)
 rows-of m n l = ap (λ i. rows_of m n (drop i l)) (sym (zero-mul n)) ∙ rows-from 0 m n l
 
-drop-take : (n k : ℕ) (l : List ℕ) → drop n (take (n + k) l) ≡ take k (drop n l)
+pub drop-take : (n k : ℕ) (l : List ℕ) → drop n (take (n + k) l) ≡ take k (drop n l)
 drop-take zero k l = ap (λ i. take i l) (zero-add k)
 drop-take (suc n) k [] = ap (drop (suc n)) (take-nil (suc n + k)) ∙ sym (take-nil k)
 drop-take (suc n) k (x ∷ l) = ap (λ i. drop (suc n) (take i (x ∷ l))) (suc-add n k) ∙ drop-take n k l

@@ -7,6 +7,7 @@ use native.Mathlib.Omega.{arith}
 use borrow.Author.Tests.{eqb-true}
 use lib.Dec.{T, ltb, lt→ltb, ltb→lt}
 use lib.ListN.{length}
+use Rattle.std.specs.Prelude.{Result, Ok, Err, IsErrAnd}
 use Rattle.field.specs.Lists.{when◌then◌else◌}
 use Rattle.field.specs.Field.{Field, size}
 use Rattle.field.proofs.Test.{both, both_left, both_right}
@@ -18,7 +19,10 @@ use Rattle.fills.proofs.Choices.{Alike}
 use Rattle.fills.proofs.Beside.{beside-alike}
 use Rattle.plans.specs.Plan.{Plan, known, plan_of}
 use Rattle.plans.specs.Refusal.{first_failed, memory_order, has, from, in_order, stripe_fits, words_fit, marks_fit, all_below, unmarked_below, symbols_fit, lent_tests, lent_refusal, bench_tests}
+use Rattle.plans.specs.Answers.{refusal_number, numbered, refused_by}
 use Rattle.plans.specs.declared.Bench.{Bench}
+use Rattle.plans.specs.declared.Refusal.{Refusal}
+use Rattle.plans.specs.declared.Refusal.TheVariants.{UnknownPlan, WrongLength, MarkBeyondColumns, NoSymbol, NoSuchRow, NoSuchLevel, NoCodeword, WrongFileLength, WrongHeader, SymbolUnderMark}
 use Rattle.plans.proofs.Scan.{true-and}
 
 -- ---- the order: a test that passes is passed over, the first that fails gives its number
@@ -65,6 +69,39 @@ lent-in-order p stripe marks = tt
 pub bench-in-order : (b : Bench) (row : Bool) → T (in_order memory_order (bench_tests b row))
 unfolding when◌then◌else◌ memory_order has from in_order bench_tests
 bench-in-order b row = tt
+
+-- ---- what a test answers: nothing, or a refusal, whose number is not 0
+
+pub accepted : {n : ℕ} → refused_by (Ok tt) ≡ n → n ≡ 0
+unfolding refused_by
+accepted e = sym e
+
+pub number-pos : (r : Refusal) → refusal_number r ≡ 0 → ⊥
+unfolding refusal_number
+number-pos UnknownPlan h = omega arith
+number-pos WrongLength h = omega arith
+number-pos MarkBeyondColumns h = omega arith
+number-pos NoSymbol h = omega arith
+number-pos NoSuchRow h = omega arith
+number-pos NoSuchLevel h = omega arith
+number-pos NoCodeword h = omega arith
+number-pos WrongFileLength h = omega arith
+number-pos WrongHeader h = omega arith
+number-pos SymbolUnderMark h = omega arith
+
+module _ (r : Refusal) {n : ℕ} (e : refused_by (Err r) ≡ n) where
+  pub its-number : refusal_number r ≡ n
+  unfolding refused_by
+  its-number = e
+
+  pub refused : n ≡ 0 → ⊥
+  refused z = number-pos r (its-number ∙ z)
+
+-- a refusal that a call hands on
+pub handed-on : {A : Type 0} (x : Result A Refusal) (r : Refusal) → IsErrAnd x (λ e. e ≡ r) → numbered x ≡ Err (refusal_number r)
+unfolding numbered
+handed-on (Ok a) r h = absurd h
+handed-on (Err e) r h = ap (λ e. Err (refusal_number e)) h
 
 -- ---- lengths
 

@@ -1,16 +1,19 @@
 -- Tests of every place, scanned from the front: the loops that refuse cite these. Assumes nothing.
 use mathlib.Core.Path.{◌≡◌, refl, sym, ap, ap₂, ◌∙◌}
-use mathlib.Core.Bool.{Bool, true, false, ◌&&◌, ◌||◌, and-true, and-false, and_assoc, or-true}
+use mathlib.Core.Bool.{Bool, true, false, ◌&&◌, ◌||◌, and-true, and-false, and_assoc, or_comm}
 use mathlib.Core.List.{List, [], ◌∷◌}
-use Prim.Native.Nat.{ℕ, zero, suc, ◌+◌, ◌/◌, ◌%◌, ◌^◌, ◌≤◌, ◌<◌}
-use native.Mathlib.Nat.{lt_trans, lt_of_le_of_lt, not-suc-le-zero, le_of_suc-le-suc}
+use Prim.Native.Nat.{ℕ, zero, suc, ◌+◌, ◌/◌, ◌%◌, ◌^◌, ◌≤◌, ◌<◌, zero-le, max}
+use native.Mathlib.Nat.{le_refl, not-suc-le-zero, le_of_suc-le-suc}
 use native.Mathlib.Numerals.{add-one}
 use native.Mathlib.Omega.{arith}
 use borrow.Author.Count.{below_none, below_more}
-use borrow.Author.Tests.{ltb-true, lt-ltb, le-ltb}
-use lib.Dec.{eqb, ltb, lit<}
+use borrow.Author.Tests.{lt-ltb}
+use Rattle.std.proofs.lemmas.Bool.Decides.{nat_tests}
+use lib.Dec.{eqb, ltb}
 use lib.ListN.{length, get_or, take}
-use lib.Seq.{take_all}
+use lib.Seq.{take_all, take-length}
+use Rattle.std.specs.Bool.{MatchBool}
+use Rattle.std.specs.List.{AllWithin, HoldsAt}
 use Rattle.field.specs.Lists.{up_from}
 use Rattle.fills.specs.Lists.{all, first, rest, beside}
 use Rattle.fills.specs.Marks.{bits_of}
@@ -33,6 +36,13 @@ unfolding up_from all
 up-true f zero h = refl
 up-true f (suc n) h =
     ap₂ ◌&&◌ (h 0 (omega arith)) (all-up-suc f 0 n ∙ up-true (λ i. f (suc i)) n (λ k l. h (suc k) (omega arith)))
+
+pub all-up-same : (f g : ℕ → Bool) (n : ℕ) → ((k : ℕ) → k < n → f k ≡ g k) → all f (up_from 0 n) ≡ all g (up_from 0 n)
+unfolding up_from all
+all-up-same f g zero same = refl
+all-up-same f g (suc n) same =
+    ap₂ ◌&&◌ (same 0 (omega arith))
+    (all-up-suc f 0 n ∙ all-up-same (λ i. f (suc i)) (λ i. g (suc i)) n (λ k h. same (suc k) (omega arith)) ∙ sym (all-up-suc g 0 n))
 
 pub up-false : (f : ℕ → Bool) (n k : ℕ) → k < n → f k ≡ false → all f (up_from 0 n) ≡ false
 unfolding up_from all
@@ -73,6 +83,21 @@ all_take p d [] (suc n) h = absurd (not-suc-le-zero h)
 all_take p d (x ∷ l) (suc n) h =
     ap (λ b. p x && b) (all_take p d l n (le_of_suc-le-suc h) ∙ sym (all-up-suc (λ k. p (get_or (x ∷ l) k d)) 0 n))
 
+-- whether all pass, where a walk that stops at the first that fails says so
+pub decided_up : (f : ℕ → Bool) (n : ℕ) (r : Bool) → MatchBool r ((k : ℕ) → k < n → f k ≡ true) ((k : ℕ) × (k < n) × (f k ≡ false))
+    → r ≡ all f (up_from 0 n)
+decided_up f n true h = sym (up-true f n h)
+decided_up f n false h = sym (up-false f n h.0 h.1 h.2)
+
+pub decided : {A : Type 0} (p : A → Bool) (d : A) (xs : List A) (r : Bool)
+    → MatchBool r (AllWithin (λ x. p x ≡ true) xs 0 (length xs)) ((k : ℕ) × (k < length xs) × HoldsAt (λ x. p x ≡ false) xs k) → r ≡ all p xs
+decided p d xs r told = go r told ∙ sym (ap (all p) (sym (take-length xs)) ∙ all_take p d xs (length xs) (le_refl _))
+  where
+    go : (r : Bool) → MatchBool r (AllWithin (λ x. p x ≡ true) xs 0 (length xs)) ((k : ℕ) × (k < length xs) × HoldsAt (λ x. p x ≡ false) xs k)
+        → r ≡ all (λ k. p (get_or xs k d)) (up_from 0 (length xs))
+    go true h = decided_up _ _ true (λ k l. h k d zero-le l)
+    go false h = decided_up _ _ false (h.0, h.1, h.2 d)
+
 -- ---- each unmarked symbol is below q
 
 -- a place is marked, or its symbol is below q
@@ -86,39 +111,21 @@ unmarked-up q (m ∷ ms) [] = ap (λ b. (m || ltb 0 q) && b) (unmarked-up q ms [
 unmarked-up q (m ∷ ms) (x ∷ xs) =
     ap (λ b. (m || ltb x q) && b) (unmarked-up q ms xs ∙ sym (all-up-suc (fits_at q (m ∷ ms) (x ∷ xs)) 0 (length ms)))
 
-pub fits_below : (q : ℕ) (ms : List Bool) (xs : List ℕ) (k : ℕ) → get_or xs k 0 < q → fits_at q ms xs k ≡ true
-fits_below q ms xs k h = ap (λ b. get_or ms k false || b) (lt-ltb _ _ h) ∙ or-true (get_or ms k false)
-
 -- a row under a mark word: place k's mark is bit k
 module _ (q w : ℕ) (row : List ℕ) where
   abbrev pub fits_in : ℕ → Bool
-  fits_in k = fits_at q (bits_of (length row) w) row k
+  fits_in k = ltb (get_or row k 0) q || eqb (w / 2 ^ k % 2) 1
 
-  pub row_up : unmarked_below q (bits_of (length row) w) row ≡ all fits_in (up_from 0 (length row))
-  row_up = unmarked-up q (bits_of (length row) w) row ∙ ap (λ n. all fits_in (up_from 0 n)) (length-bits (length row) w)
-
-  module _ (k : ℕ) (within : k < length row) where
-    pub fits-marked : eqb (w / 2 ^ k % 2) 1 ≡ true → fits_in k ≡ true
-    fits-marked e = rw (bits_at (length row) w k within, e)
-
-    pub fits_not : eqb (w / 2 ^ k % 2) 1 ≡ false → q ≤ get_or row k 0 → fits_in k ≡ false
-    fits_not e h = rw (bits_at (length row) w k within, e, le-ltb (get_or row k 0) q h)
+  pub row_decided : (r : Bool) → MatchBool r ((k : ℕ) → k < length row → fits_in k ≡ true) ((k : ℕ) × (k < length row) × (fits_in k ≡ false))
+      → r ≡ unmarked_below q (bits_of (length row) w) row
+  row_decided r told =
+      decided_up fits_in (length row) r told ∙ all-up-same fits_in (fits_at q (bits_of (length row) w) row) (length row) same
+      ∙ sym (unmarked-up q (bits_of (length row) w) row ∙ ap (λ n. all (fits_at q (bits_of (length row) w) row) (up_from 0 n)) (length-bits (length row) w))
+    where
+      same : (k : ℕ) → k < length row → fits_in k ≡ fits_at q (bits_of (length row) w) row k
+      same k h = rw (bits_at (length row) w k h) (or_comm (ltb (get_or row k 0) q) (eqb (w / 2 ^ k % 2) 1))
 
 -- ---- each number is below q where the highest is
-
-higher : (m x q : ℕ) → m < x → (ltb m q && ltb x q) ≡ ltb x q
-higher m x q h = go (ltb x q) refl
-  where
-    go : (b : Bool) → ltb x q ≡ b → (ltb m q && b) ≡ b
-    go true e = rw (lt-ltb m q (lt_trans h (ltb-true x q e)))
-    go false e = and-false (ltb m q)
-
-not-higher : (m x q : ℕ) → x ≤ m → (ltb m q && ltb x q) ≡ ltb m q
-not-higher m x q h = go (ltb m q) refl
-  where
-    go : (b : Bool) → ltb m q ≡ b → (b && ltb x q) ≡ b
-    go true e = lt-ltb x q (lt_of_le_of_lt h (ltb-true m q e))
-    go false e = refl
 
 -- one more
 all_more : (p : ℕ → Bool) (l : List ℕ) (k : ℕ) → k < length l → all p (take (suc k) l) ≡ (all p (take k l) && p (get_or l k 0))
@@ -127,27 +134,25 @@ all_more p [] k h = absurd (not-suc-le-zero h)
 all_more p (x ∷ xs) zero h = and-true (p x)
 all_more p (x ∷ xs) (suc k) h = ap (λ b. p x && b) (all_more p xs k (le_of_suc-le-suc h)) ∙ sym (and_assoc (p x) _ _)
 
--- m is the highest of the first i, as far as q can tell
+-- m is the highest of the first i
 pub record Highest (q : ℕ) (xs : List ℕ) (i m : ℕ) : Type 0 where
   pub within : i ≤ length xs
-  pub byte : m < 256
   pub tells : ltb m q ≡ all_below q (take i xs)
 
 module _ {q : ℕ} {xs : List ℕ} where
   pub highest-none : 0 < q → Highest q xs 0 0
   unfolding all all_below
-  highest-none h = record { within = omega arith; byte = lit< tt; tells = lt-ltb 0 q h }
+  highest-none h = record { within = omega arith; tells = lt-ltb 0 q h }
 
-  module _ {i m : ℕ} (h : Highest q xs i m) (more : i < length xs) where
-    next : all_below q (take (i + 1) xs) ≡ (ltb m q && ltb (get_or xs i 0) q)
-    unfolding all_below
-    next = rw (add-one i, h.tells) (all_more (λ x. ltb x q) xs i more)
-
-    pub highest-raised : m < get_or xs i 0 → get_or xs i 0 < 256 → Highest q xs (i + 1) (get_or xs i 0)
-    highest-raised l small = record { within = omega arith; byte = small; tells = sym (next ∙ higher m (get_or xs i 0) q l) }
-
-    pub highest-kept : get_or xs i 0 ≤ m → Highest q xs (i + 1) m
-    highest-kept l = record { within = omega arith; byte = h.byte; tells = sym (next ∙ not-higher m (get_or xs i 0) q l) }
+  pub highest-more : {i m : ℕ} → Highest q xs i m → i < length xs → Highest q xs (i + 1) (max m (get_or xs i 0))
+  unfolding all_below
+  highest-more {i} {m} h more = record {
+    within = omega arith;
+    tells = below-max m (get_or xs i 0) q ∙ ap (λ b. b && ltb (get_or xs i 0) q) h.tells ∙ sym (rw (add-one i) (all_more (λ x. ltb x q) xs i more));
+  }
+    where
+      below-max : (m x q : ℕ) → ltb (max m x) q ≡ (ltb m q && ltb x q)
+      below-max m x q = grind (arith, nat_tests)
 
   pub highest-all : {i m : ℕ} → Highest q xs i m → length xs ≤ i → ltb m q ≡ all_below q xs
   highest-all {i} h end = h.tells ∙ ap (all_below q) (take_all i xs end)

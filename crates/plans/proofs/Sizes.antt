@@ -1,4 +1,4 @@
--- The plans' rows, checks and weights fit the code's arrays, for every plan number. Assumes nothing.
+-- How long the tables of checks and weights are, and how many totals a level has, for every plan number. Assumes nothing.
 use mathlib.Core.Path.{◌≡◌, ap, ◌∙◌}
 use mathlib.Core.Bool.{Bool}
 use Prim.Native.Nat.{ℕ, pred, ◌*◌, ◌≤◌}
@@ -7,13 +7,12 @@ use native.Mathlib.Omega.{arith}
 use lib.Dec.{T, leb, leb→le}
 use lib.ListN.{length, length-append}
 use Rattle.fills.specs.Lists.{all}
-use Rattle.plans.specs.Rooms.{check_room, weight_room, total_room}
+use Rattle.plans.specs.Rooms.{total_room}
 use Rattle.plans.specs.Plan.{Level, no_plan, plan_of, no_level, level_of, checks_to}
-use Rattle.plans.specs.Tables.{flat, check_table, weight_table}
-use Rattle.plans.proofs.Padded.{length-padded}
+use Rattle.plans.specs.Tables.{check_table, weight_table}
 use Rattle.plans.proofs.Flat.{all_get_d, rows-length}
-use Rattle.plans.proofs.Plans.{by-known, rows-most, columns-most}
-use Rattle.plans.proofs.Tables.{checks-before, checks-fit, weights-at, sums-most}
+use Rattle.plans.proofs.Plans.{by-known}
+use Rattle.plans.proofs.Tables.{checks-before, checks-fit, weights-at}
 
 -- ---- checks
 
@@ -26,9 +25,6 @@ checks-room p t =
     let all = ap length (checks-before (plan_of p) t) ∙ length-append (checks_to (plan_of p) t) _ in
     rw (checks-all p) (mul-le-mul (omega (arith, all)) (le_refl (plan_of p).columns))
 
-pub checks-length : (p : ℕ) → length (check_table (plan_of p)) ≤ check_room
-checks-length p = rw (checks-all p) (mul-le-mul (sums-most p (length (plan_of p).levels)) (columns-most p))
-
 -- ---- weights
 
 module _ (p t : ℕ) where
@@ -38,9 +34,6 @@ module _ (p t : ℕ) where
       let few : Level → Bool = λ L. leb (length L.weights) total_room in
       leb→le _ total_room (all_get_d few no_level tt (plan_of p).levels (by-known (λ P. T (all few P.levels)) tt (λ P ds k. k.shape.few-totals) p) (pred t))
 
-  pub weights-room : length (level_of (plan_of p) t).weights * (plan_of p).rows ≤ weight_room
-  weights-room = mul-le-mul totals-most (rows-most p)
-
-  pub weights-length : length (weight_table (plan_of p) t) ≡ weight_room
-  unfolding flat weight_table
-  weights-length = length-padded weight_room _ (rw (rows-length _ _ _ (weights-at p t).fit) weights-room)
+  pub weights-length : length (weight_table (plan_of p) t) ≡ length (level_of (plan_of p) t).weights * (plan_of p).rows
+  unfolding weight_table
+  weights-length = rows-length _ _ _ (weights-at p t).fit

@@ -1,18 +1,18 @@
 -- What the code's tables hold, for every plan and level. Assumes nothing.
 use mathlib.Core.Path.{◌≡◌, sym, ap, ◌∙◌}
 use mathlib.Core.List.{List, [], ◌∷◌, ◌++◌, map, flat_map, append_assoc, append-nil}
-use Prim.Native.Nat.{ℕ, zero, suc, pred, ◌+◌, ◌-◌, ◌≤◌, ◌<◌, zero-le}
+use Prim.Native.Nat.{ℕ, zero, suc, pred, ◌+◌, ◌≤◌, ◌<◌, zero-le}
 use native.Mathlib.Nat.{le_refl, zero-add}
 use native.Mathlib.Omega.{arith}
-use lib.ListN.{length, get_or, take, drop, replicate, take-append-drop, length-append}
+use lib.ListN.{length, get_or, take, drop, take-append-drop, length-append}
 use lib.Seq.{take-length, take-nil}
 use Rattle.field.specs.Lists.{up_from}
 use Rattle.field.specs.Field.{size}
 use Rattle.field.proofs.Ring.{size-pos}
 use Rattle.field.proofs.Words.{Each, each-get_or}
-use Rattle.plans.specs.Rooms.{sum_room, weight_room}
+use Rattle.plans.specs.Rooms.{sum_room}
 use Rattle.plans.specs.Plan.{Plan, Level, no_plan, plan_of, no_level, level_of, checks_to}
-use Rattle.plans.specs.Tables.{padded, flat, check_table, weight_table}
+use Rattle.plans.specs.Tables.{check_table, weight_table}
 use Rattle.words.proofs.Stores.{flat_append}
 use Rattle.plans.proofs.Flat.{between, Rows, row_in, rows_in, rows-lt}
 use Rattle.plans.proofs.Columns.{Columns, no_rows}
@@ -66,20 +66,13 @@ sums-most p t =
 
 -- ---- what the tables hold
 
--- the table of checks is flat, with nothing behind it
-checks-flat : (P : Plan) → check_table P ≡ flat 0 (checks_to P (length P.levels))
-unfolding check_table flat padded
-checks-flat P =
-    let none : 0 - length (check_table P) ≡ 0 = omega arith in
-    sym (ap (λ n. check_table P ++ replicate n 0) none ∙ append-nil (check_table P))
-
 -- rows that stand among the checks, with a before them and b behind
 part_in : (p : ℕ) (a l b : List (List ℕ)) → let P = plan_of p in checks_to P (length P.levels) ≡ (a ++ l) ++ b
     → map (row_in P.columns (check_table P)) (up_from (length a) (length l)) ≡ l
+unfolding check_table
 part_in p a l b e =
     let P = plan_of p in
-    ap (λ table. map (row_in P.columns table) (up_from (length a) (length l))) (checks-flat P)
-    ∙ rows_in (size P.field) P.columns 0 _ (checks-fit p) (length a) (length l) (rw (e, length-append, length-append) (omega arith))
+    rows_in (size P.field) P.columns _ (checks-fit p) (length a) (length l) (rw (e, length-append, length-append) (omega arith))
     ∙ ap (λ cs. take (length l) (drop (length a) cs)) e ∙ between a l b
 
 -- those of levels 1 to t come first
@@ -99,14 +92,15 @@ pub weights-in : (p t : ℕ) → let P = plan_of p in
 unfolding weight_table
 weights-in p t =
     let P = plan_of p in
-    rows_in (size P.field) P.rows weight_room _ (weights-at p t).fit 0 (length (level_of P t).weights) (rw zero-add (le_refl _))
+    rows_in (size P.field) P.rows _ (weights-at p t).fit 0 (length (level_of P t).weights) (rw zero-add (le_refl _))
     ∙ take-length (level_of P t).weights
 
 -- ---- each coefficient is below q
 
 pub checks-lt : (p i : ℕ) → get_or (check_table (plan_of p)) i 0 < size (plan_of p).field
-checks-lt p i = rw (checks-flat (plan_of p)) (rows-lt _ _ (size-pos (plan_of p).field) 0 _ (checks-fit p) i)
+unfolding check_table
+checks-lt p = rows-lt _ _ (size-pos (plan_of p).field) _ (checks-fit p)
 
 pub weights-lt : (p t i : ℕ) → get_or (weight_table (plan_of p) t) i 0 < size (plan_of p).field
 unfolding weight_table
-weights-lt p t = rows-lt _ _ (size-pos (plan_of p).field) weight_room _ (weights-at p t).fit
+weights-lt p t = rows-lt _ _ (size-pos (plan_of p).field) _ (weights-at p t).fit

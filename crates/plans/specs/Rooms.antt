@@ -1,4 +1,4 @@
--- The rooms of a bench and of the tables: the most that any plan needs.
+-- The rooms of a bench: the most that any plan needs.
 use Rattle.std.specs.Prelude.{ℕ}
 
 -- rows, columns and symbols of a stripe
@@ -21,10 +21,3 @@ learned_room = 228
 -- weighted totals of a level
 abbrev pub total_room : ℕ
 total_room = 3
-
--- numbers in a table of row checks with the table of the plan's field behind it, and in one of weights
-abbrev pub check_room : ℕ
-check_room = 1216
-
-abbrev pub weight_room : ℕ
-weight_room = 36

@@ -5,7 +5,7 @@ use Rattle.field.specs.Lists.{up_from}
 use Rattle.field.specs.Field.{Field, size, dot}
 use Rattle.fills.specs.Lists.{only}
 use Rattle.plans.specs.Plan.{Plan, level_of, checks_to}
-use Rattle.plans.specs.Rooms.{row_room, sum_room, weight_room}
+use Rattle.plans.specs.Rooms.{sum_room}
 
 -- whether at level 1 more marks than sums show alone that a row is tied: its checks are power sums, or one parity
 unfoldable pub tied_by_count : Plan → Bool
@@ -21,16 +21,9 @@ padded n xs = xs ++ replicate (n - length xs) 0
 unfoldable pub check_table : Plan → List ℕ
 check_table P = flat_map (λ row. row) (checks_to P (length P.levels))
 
--- rows one behind the other, and zeros behind them up to n numbers
-unfoldable pub flat : ℕ → List (List ℕ) → List ℕ
-flat n rows = padded n (flat_map (λ row. row) rows)
-
--- the weights of a level
+-- the weights of a level, one total behind the other
 unfoldable pub weight_table : Plan → ℕ → List ℕ
-weight_table P t = flat weight_room (level_of P t).weights
-
-unfoldable pub place_table : Plan → List ℕ
-place_table P = padded row_room P.check_places
+weight_table P t = flat_map (λ row. row) (level_of P t).weights
 
 -- ---- room
 

@@ -1,8 +1,11 @@
 // Rooms, what a bench is, and what each call answers.
 #![tactic(auto)]
 
-// The most rows, columns and symbols that a stripe has; learned sums of a row, and of all rows; weighted totals of a level; numbers in a
-// table of row checks, and in one of weights.
+ghost use Rattle.std.specs.Prelude.{◌≡◌};
+ghost use Rattle.plans.specs.Answers.{refusal_number};
+
+// The most rows, columns and symbols that a stripe has; learned sums of a row, and of all rows; weighted totals of a
+// level.
 pub const ROWS: usize = 12;
 
 pub const COLUMNS: usize = 64;
@@ -15,12 +18,8 @@ pub const LEARNED: usize = ROWS * SUMS;
 
 pub const TOTALS: usize = 3;
 
-pub const CHECKS: usize = SUMS * COLUMNS;
-
-pub const WEIGHTS: usize = TOTALS * ROWS;
-
 // A plan's number, the level t that was reached, symbols and mark words row after row, and each row's learned sums, SUMS places a row.
-#[derive(Drop)]
+#[derive(Clone, Copy)]
 pub struct Bench {
     pub plan: usize,
     pub level: usize,
@@ -29,8 +28,43 @@ pub struct Bench {
     pub sums: [u8; LEARNED],
 }
 
+impl Bench {
+    // The bench of a refused start.
+    pub const EMPTY: Bench = Bench {
+        plan: 0,
+        level: 0,
+        symbols: [0; SYMBOLS],
+        marks: [0; ROWS],
+        sums: [0; LEARNED],
+    };
+}
+
+// Why a call is refused. Its number is that of the customer's table.
+#[derive(Clone, Copy, Debug, PartialEq, Eq)]
+pub enum Refusal {
+    UnknownPlan = 10,
+    WrongLength = 11,
+    MarkBeyondColumns = 12,
+    NoSymbol = 13,
+    NoSuchRow = 14,
+    NoSuchLevel = 15,
+    NoCodeword = 16,
+    WrongFileLength = 20,
+    WrongHeader = 21,
+    SymbolUnderMark = 22,
+}
+
+impl From<Refusal> for usize {
+    ghost from_gives = { λ refusal number. number ≡ refusal_number refusal };
+
+    #[tactic(auto, unfolding(crate::specs::Answers::refusal_number))]
+    fn from(refusal: Refusal) -> usize {
+        refusal as usize
+    }
+}
+
 // What a row step or a level step answers.
-#[derive(Drop)]
+#[derive(Clone, Copy, Debug, PartialEq, Eq)]
 pub enum Step {
     Whole,
     Filled,
@@ -39,60 +73,28 @@ pub enum Step {
     Blocked,
     Top,
     Clash,
-    Refused(usize),
-}
-
-// A step's answer, and the bench that it leaves.
-#[derive(Drop)]
-pub struct Stepped {
-    pub bench: Bench,
-    pub answer: Step,
 }
 
 // Where a Clash is: a row at a level, or a level across rows.
-#[derive(Clone, Copy)]
+#[derive(Clone, Copy, Debug, PartialEq, Eq)]
 pub enum Place {
     Row { row: usize, level: usize },
     Across { level: usize },
 }
 
 // What mending in one call answers.
-#[derive(Clone, Copy)]
+#[derive(Clone, Copy, Debug, PartialEq, Eq)]
 pub enum Answer {
     Restored,
     Stuck,
     Clash(Place),
-    Refused(usize),
 }
 
-// Mending's answer, and beside it the level reached, the rows restored at each level and the rows left.
-// Beside a Clash and a refusal these are 0.
-#[derive(Drop)]
+// Mending's answer, and beside it the level reached, the rows restored at each level and the rows left. Beside a Clash they are 0.
+#[derive(Clone, Copy, Debug, PartialEq, Eq)]
 pub struct Report {
     pub answer: Answer,
     pub level: usize,
     pub rows: [usize; 3],
     pub left: usize,
-}
-
-// What start, encoding, extraction, and reading and writing a file answer.
-#[derive(Drop)]
-pub enum Outcome {
-    Done,
-    Refused(usize),
-}
-
-// A started bench, and start's answer.
-#[derive(Drop)]
-pub struct Started {
-    pub bench: Bench,
-    pub answer: Outcome,
-}
-
-// What the codeword test answers.
-#[derive(Drop)]
-pub enum Verdict {
-    Yes,
-    No,
-    Refused(usize),
 }

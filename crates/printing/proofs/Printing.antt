@@ -2,10 +2,11 @@
 use mathlib.Core.Path.{◌≡◌, refl, ◌∙◌, subst}
 use mathlib.Core.Bool.{Bool, true, false, not}
 use mathlib.Core.List.{List, [], ◌∷◌, ◌++◌, map}
+use Rattle.std.specs.Prelude.{Result, Ok, Err}
 use Prim.Native.Nat.{ℕ, zero, suc, suc-le-suc, pred, ◌+◌, ◌*◌, ◌<◌, ◌≤◌}
 use native.Mathlib.Nat.{mul-le-mul}
 use native.Mathlib.Omega.{arith}
-use borrow.Author.Tests.{ltb-true, ne_eqb}
+use borrow.Author.Tests.{ltb-true, eqb-true, ne_eqb}
 use lib.Dec.{T, eqb, leb, ltb, leb→le, lt→ltb}
 use lib.ListN.{length, take, get_or, set, replicate, length-set, length-map}
 use lib.Seq.{length-take-le}
@@ -16,19 +17,21 @@ use Rattle.field.proofs.Words.{◌&◌}
 use Rattle.fills.specs.Lists.{all, only}
 use Rattle.plans.specs.Plan.{Plan, plan_of, known}
 use Rattle.plans.specs.Rooms.{row_room}
-use Rattle.plans.specs.Answers.{answer_number, place_values, end_values, answer_values, report_values}
+use Rattle.plans.specs.Answers.{refusal_number, answer_number, place_values, end_values, answer_values, report_values}
 use Rattle.plans.specs.Refusal.{unasked, all_below, lent_refusal}
 use Rattle.steps.specs.Steps.{fresh, row_step, lossy, level_step}
 use Rattle.steps.specs.Rounds.{Standing, Turn, on, end, clash, more as more_rows, next_row, after_row, after_level, take_turn, go_on, turns}
 use Rattle.repair.specs.Mending.{mended, turn_report, turn_stripe, turn_marks, mend_report, mend_stripe, mend_marks}
 use Rattle.rounds.specs.Reports.{rows_left, end_report, bare}
-use Rattle.printing.specs.Parts.{Printable}
+use Rattle.printing.specs.Parts.{Printable, PrintableAnswer}
 use Rattle.files.specs.File.{plan_in, symbols_in, marks_in, file_refusal}
-use Rattle.texts.specs.Text.{item, line_end, grid, answer_text, mend_text, printed}
+use Rattle.texts.specs.Text.{item, line_end, grid, told_text, mend_text, printed}
 use Rattle.texts.specs.Parts.{numbers}
 use Rattle.plans.specs.declared.Step.{Step}
-use Rattle.plans.specs.declared.Step.TheVariants.{Whole, Filled, Tied, Raised, Blocked, Top, Clash, Refused}
+use Rattle.plans.specs.declared.Step.TheVariants.{Whole, Filled, Tied, Raised, Blocked, Top, Clash}
 use Rattle.plans.specs.declared.Answer.TheVariants.{Restored, Stuck}
+use Rattle.plans.specs.declared.Refusal.{Refusal}
+use Rattle.plans.specs.declared.Refusal.TheVariants.{UnknownPlan, WrongLength, MarkBeyondColumns, NoSymbol, NoSuchRow, NoSuchLevel, NoCodeword, WrongFileLength, WrongHeader, SymbolUnderMark}
 use Rattle.plans.specs.declared.Report.{Report}
 use Rattle.plans.proofs.Flat.{all_get_d}
 use Rattle.plans.proofs.Plans.{of-known, Shape, shape}
@@ -114,36 +117,36 @@ module _ (p n : ℕ) (m : Standing) (a : After p n m) where
     few = few;
   }
 
-  row-reached : m.turn < (plan_of m.bench.plan).rows → (s : Step) → Reached p (suc n) (after_row m s (row_step m.bench m.turn).bench)
+  row-reached : m.turn < (plan_of m.bench.plan).rows → (s : Result Step ℕ) → Reached p (suc n) (after_row m s (row_step m.bench m.turn).bench)
   unfolding place_values after_row
-  row-reached h Clash =
+  row-reached h (Ok Clash) =
       below_more m.bench.level (m.turn ∷ []) (omega (arith, level-low))
       (below_more m.turn [] (omega (arith, sizes.rows-le)) below_none)
-  row-reached h Filled =
+  row-reached h (Ok Filled) =
       let t = m.bench.level in
       next-reached (more_rows t 1 m.restored) (more-length t m.restored ∙ a.three) (more-le t m.restored n a.few)
-  row-reached h Whole = next-reached m.restored a.three later.few
-  row-reached h Tied = next-reached m.restored a.three later.few
-  row-reached h Raised = next-reached m.restored a.three later.few
-  row-reached h Blocked = next-reached m.restored a.three later.few
-  row-reached h Top = next-reached m.restored a.three later.few
-  row-reached h (Refused k) = next-reached m.restored a.three later.few
+  row-reached h (Ok Whole) = next-reached m.restored a.three later.few
+  row-reached h (Ok Tied) = next-reached m.restored a.three later.few
+  row-reached h (Ok Raised) = next-reached m.restored a.three later.few
+  row-reached h (Ok Blocked) = next-reached m.restored a.three later.few
+  row-reached h (Ok Top) = next-reached m.restored a.three later.few
+  row-reached h (Err k) = next-reached m.restored a.three later.few
 
-  level-reached : (s : Step) → Reached p (suc n) (after_level m s (level_step m.bench).bench)
+  level-reached : (s : Result Step ℕ) → Reached p (suc n) (after_level m s (level_step m.bench).bench)
   unfolding place_values after_level
-  level-reached Raised = record {
+  level-reached (Ok Raised) = record {
     sound = sound-level m.bench a.sound;
     plan = level-plan m.bench ∙ a.plan;
     three = a.three;
     few = later.few;
   }
-  level-reached Clash = below_more (suc m.bench.level) [] (omega (arith, level-low)) below_none
-  level-reached Blocked = later
-  level-reached Top = later
-  level-reached Whole = later
-  level-reached Filled = later
-  level-reached Tied = later
-  level-reached (Refused k) = later
+  level-reached (Ok Clash) = below_more (suc m.bench.level) [] (omega (arith, level-low)) below_none
+  level-reached (Ok Blocked) = later
+  level-reached (Ok Top) = later
+  level-reached (Ok Whole) = later
+  level-reached (Ok Filled) = later
+  level-reached (Ok Tied) = later
+  level-reached (Err k) = later
 
   turn-reached : Reached p (suc n) (take_turn m)
   unfolding when◌then◌else◌ take_turn
@@ -245,21 +248,42 @@ module _ (p : ℕ) (stripe marks : List ℕ) (e : lent_refusal p stripe marks �
     values = a;
   }
 
-  pub mend-printable : {r : Report} {s m : List ℕ} → r ≡ mend_report p stripe marks → s ≡ mend_stripe p stripe marks
-      → m ≡ mend_marks p stripe marks → Printable p r s m
-  unfolding when◌then◌else◌ mend_report mend_stripe mend_marks
-  mend-printable er es em = rw (er, es, em) (rw e (turn-printable (mended p stripe marks) reached))
+-- what mending answers and leaves
+pub mend-printable : (p : ℕ) (stripe marks : List ℕ) → lent_refusal p stripe marks ≡ 0 → {told : Result Report ℕ} {s m : List ℕ}
+    → told ≡ mend_report p stripe marks → s ≡ mend_stripe p stripe marks → m ≡ mend_marks p stripe marks → PrintableAnswer p told s m
+unfolding when◌then◌else◌ mend_report mend_stripe mend_marks PrintableAnswer
+mend-printable p stripe marks e et es em = rw (et, es, em) (rw e (turn-printable p stripe marks e (mended p stripe marks) (reached p stripe marks e)))
 
-  pub report-below : (answer_number (mend_report p stripe marks).answer < numbers) × T (all_below numbers (report_values P (mend_report p stripe marks)))
-  report-below = let h = mend-printable refl refl refl in (h.answer, h.values)
+pub report-printable : (p : ℕ) (stripe marks : List ℕ) {r : Report} → Ok r ≡ mend_report p stripe marks
+    → Printable p r (mend_stripe p stripe marks) (mend_marks p stripe marks)
+unfolding when◌then◌else◌ mend_report PrintableAnswer
+report-printable p stripe marks {r} e = go (eqb (lent_refusal p stripe marks) 0) refl
+  where
+    go : (b : Bool) → eqb (lent_refusal p stripe marks) 0 ≡ b → Printable p r (mend_stripe p stripe marks) (mend_marks p stripe marks)
+    go true f = mend-printable p stripe marks (eqb-true (lent_refusal p stripe marks) 0 f) e refl refl
+    go false f = absurd (let g = rw f at e in cc)
 
--- the text of a report, a stripe and marks that are those of mending
-pub text-mended : (p : ℕ) (stripe marks : List ℕ) {r : Report} {s m : List ℕ} → r ≡ mend_report p stripe marks
+-- the text of an answer, a stripe and marks that are those of mending
+pub text-mended : (p : ℕ) (stripe marks : List ℕ) {told : Result Report ℕ} {s m : List ℕ} → told ≡ mend_report p stripe marks
     → s ≡ mend_stripe p stripe marks → m ≡ mend_marks p stripe marks
-    → mend_text p stripe marks
-    ≡ item "plan " p ++ item " answer " (answer_number r.answer) ++ answer_text r.answer (report_values (plan_of p) r) (grid (plan_of p) s m)
+    → item "plan " p ++ told_text (plan_of p) told (grid (plan_of p) s m) ≡ mend_text p stripe marks
 unfolding mend_text
-text-mended p stripe marks er es em = rw (er, es, em)
+text-mended p stripe marks et es em = rw (et, es, em)
+
+-- ---- refusals
+
+pub refusal-small : (r : Refusal) → refusal_number r < numbers
+unfolding refusal_number
+refusal-small UnknownPlan = omega arith
+refusal-small WrongLength = omega arith
+refusal-small MarkBeyondColumns = omega arith
+refusal-small NoSymbol = omega arith
+refusal-small NoSuchRow = omega arith
+refusal-small NoSuchLevel = omega arith
+refusal-small NoCodeword = omega arith
+refusal-small WrongFileLength = omega arith
+refusal-small WrongHeader = omega arith
+refusal-small SymbolUnderMark = omega arith
 
 -- ---- the text of a file
 

@@ -1,38 +1,22 @@
 // Stripe files: reading one.
 #![tactic(auto)]
 
-ghost use Rattle.std.specs.Prelude.{◌≡◌, length};
-ghost use Rattle.fills.specs.Lists.{«same» as equal};
+ghost use Rattle.std.specs.Prelude.{◌≡◌};
+ghost use Rattle.fills.specs.Lists.{same};
+ghost use Rattle.plans.specs.Answers.{refused_by};
 ghost use Rattle.plans.specs.Plan.{plan_of, marks_of};
 ghost use Rattle.plans.specs.Refusal.{unasked};
-ghost use Rattle.encoding.specs.Data.{outcome_of};
 ghost use Rattle.files.specs.File.{blanked, plan_in, marks_in, symbols_in, file_refusal, read_refusal, read_stripe, read_marks};
 ghost use Rattle.files.specs.Parts.{Symbols, Whole, Loading, content_refusal};
 
 use files::HEADER;
-use plans::{Outcome, ROWS, SYMBOLS};
-
-// Whether two lists of bytes, equally long, are the same.
-fn same(a: &[u8], b: &[u8]) -> bool
-    requires { length a.now ≡ length b.now }
-    ensures { result ≡ equal a.now b.now }
-{
-    for i in 0..a.len() {
-        if a[i] != b[i] {
-            return false;
-        }
-    }
-    true
-}
+use plans::{ROWS, Refusal, SYMBOLS};
 
 // The plan number of a file; 0 where it is empty.
 pub fn plan_in(file: &[u8]) -> usize
     ensures { result ≡ plan_in file.now }
 {
-    if file.len() == 0 {
-        return 0;
-    }
-    file[0] as usize
+    file.first().map_or(0, |plan| usize::from(*plan))
 }
 
 // ---- what is refused
@@ -40,35 +24,34 @@ pub fn plan_in(file: &[u8]) -> usize
 // Whether every marked symbol is 0.
 fn is_blank(plan: usize, symbols: &[u8], marks: &[u64]) -> bool
     requires { Symbols plan symbols.now marks.now }
-    ensures { result ≡ equal symbols.now (blanked (marks_of (plan_of plan) marks.now) symbols.now) }
+    ensures { result ≡ same symbols.now (blanked (marks_of (plan_of plan) marks.now) symbols.now) }
 {
     let mut blank = [0u8; SYMBOLS];
     files::put_symbols(plan, symbols, marks, &mut blank, 0);
-    let size = symbols.len();
-    same(symbols, &blank[..size])
+    symbols[..] == blank[..symbols.len()]
 }
 
-// What of marks and symbols that were read is refused; 0 where nothing is.
-fn content_refusal(plan: usize, symbols: &[u8], marks: &[u64]) -> usize
+// What of marks and symbols that were read is refused.
+fn content_refusal(plan: usize, symbols: &[u8], marks: &[u64]) -> Result<(), Refusal>
     requires { Symbols plan symbols.now marks.now }
-    ensures { result ≡ content_refusal (plan_of plan) marks.now symbols.now }
+    ensures { refused_by result ≡ content_refusal (plan_of plan) marks.now symbols.now }
 {
     if !refusals::marks_fit(plan, marks) {
-        return 12;
+        return Err(Refusal::MarkBeyondColumns);
     }
     if !refusals::symbols_fit(plan, marks, symbols) {
-        return 13;
+        return Err(Refusal::NoSymbol);
     }
     if !is_blank(plan, symbols, marks) {
-        return 22;
+        return Err(Refusal::SymbolUnderMark);
     }
-    0
+    Ok(())
 }
 
 // What of a file is refused whose header and length are right, the lent buffers left out.
-fn whole_refusal(plan: usize, file: &[u8]) -> usize
+fn whole_refusal(plan: usize, file: &[u8]) -> Result<(), Refusal>
     requires { Whole plan file.now }
-    ensures { result ≡ file_refusal file.now unasked }
+    ensures { refused_by result ≡ file_refusal file.now unasked }
 {
     let facts = tables::facts_of(plan);
     let rows = facts.rows;
@@ -79,26 +62,26 @@ fn whole_refusal(plan: usize, file: &[u8]) -> usize
     content_refusal(plan, &file[start..], &room[..rows])
 }
 
-// What of a file is refused, `lengths` saying whether the buffers lent to receive it fit; 0 where nothing is.
-pub fn file_refusal(file: &[u8], lengths: bool) -> usize
-    ensures { result ≡ file_refusal file.now lengths }
+// What of a file is refused, `lengths` saying whether the buffers lent to receive it fit.
+pub fn file_refusal(file: &[u8], lengths: bool) -> Result<(), Refusal>
+    ensures { refused_by result ≡ file_refusal file.now lengths }
 {
     if file.len() < HEADER {
-        return 20;
+        return Err(Refusal::WrongFileLength);
     }
     let plan = plan_in(file);
     if !tables::is_known(plan) {
-        return 10; // whatever its header says
+        return Err(Refusal::UnknownPlan); // whatever its header says
     }
     let header = files::header_of(plan);
-    if !same(&file[..HEADER], &header) {
-        return 21;
+    if file[..HEADER] != header[..] {
+        return Err(Refusal::WrongHeader);
     }
     if file.len() != tables::facts_of(plan).file_length {
-        return 20; // longer or shorter than its plan's
+        return Err(Refusal::WrongFileLength); // longer or shorter than its plan's
     }
     if !lengths {
-        return 11;
+        return Err(Refusal::WrongLength);
     }
     whole_refusal(plan, file)
 }
@@ -118,17 +101,14 @@ pub fn load(file: &[u8], stripe: &mut [u8], marks: &mut [u64])
 }
 
 // Reads a file into a stripe and its marks. Where it is refused both are unchanged.
-pub fn read_file(file: &[u8], stripe: &mut [u8], marks: &mut [u64]) -> Outcome
-    ensures value { result ≡ outcome_of (read_refusal file.now stripe.old marks.old) }
+pub fn read_file(file: &[u8], stripe: &mut [u8], marks: &mut [u64]) -> Result<(), Refusal>
+    ensures value { refused_by result ≡ read_refusal file.now stripe.old marks.old }
     ensures stripe_after { stripe.new ≡ read_stripe file.now stripe.old marks.old }
     ensures marks_after { marks.new ≡ read_marks file.now stripe.old marks.old }
 {
     let plan = plan_in(file);
     let lengths = refusals::lengths_fit(plan, stripe, marks);
-    let number = file_refusal(file, lengths);
-    if number != 0 {
-        return Outcome::Refused(number);
-    }
+    file_refusal(file, lengths)?;
     load(file, stripe, marks);
-    Outcome::Done
+    Ok(())
 }

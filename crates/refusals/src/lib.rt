@@ -1,29 +1,28 @@
-// What is refused, by which number and in which order. These tests change nothing.
+// What is refused, by which number and in which order. These tests change nothing. They take parts: start and mending have no bench, and a
+// script's row step has none.
 #![tactic(auto)]
 
 ghost use Rattle.std.specs.Prelude.{◌≡◌, ◌&&◌, ◌*◌, ◌<◌, ◌≤◌, length};
 ghost use Rattle.fills.specs.Marks.{bits_of};
+ghost use Rattle.plans.specs.Answers.{refused_by};
 ghost use Rattle.plans.specs.Plan.{plan_of};
 ghost use Rattle.plans.specs.Refusal.{all_below, unmarked_below, stripe_fits, words_fit, marks_fit, symbols_fit, sums_fit, level_fits};
 ghost use Rattle.plans.specs.Refusal.{lent_refusal, bench_refusal};
 ghost use Rattle.plans.specs.Rooms.{column_room, sum_room};
 ghost use Rattle.plans.specs.Tables.{Holds, HoldsBench};
 
-use plans::SUMS;
+use plans::{Refusal, SUMS};
 
-// Whether each symbol is below q.
+// Whether each symbol is below q. The highest is sought, without a branch for each: so the loop runs on many symbols at once.
 pub fn all_below(q: usize, symbols: &[u8]) -> bool
     requires { 0 < q }
     ensures { result ≡ all_below q symbols.now }
 {
     let mut most: u8 = 0;
-    for i in 0..symbols.len() {
-        let symbol = symbols[i];
-        if most < symbol {
-            most = symbol;
-        }
+    for symbol in symbols {
+        most = most.max(*symbol);
     }
-    (most as usize) < q
+    usize::from(most) < q
 }
 
 // Whether each unmarked symbol of a row is below q.
@@ -31,16 +30,7 @@ fn row_fits(q: usize, word: u64, row: &[u8]) -> bool
     requires { length row.now ≤ column_room }
     ensures { result ≡ unmarked_below q (bits_of (length row.now) word) row.now }
 {
-    for c in 0..row.len() {
-        let symbol = row[c] as usize;
-        if q <= symbol {
-            let marked = words::is_marked(word, c);
-            if !marked {
-                return false;
-            }
-        }
-    }
-    true
+    row.iter().enumerate().all(|(c, symbol)| usize::from(*symbol) < q || words::is_marked(word, c))
 }
 
 // Whether no mark bit stands at column N or above.
@@ -49,14 +39,8 @@ pub fn marks_fit(plan: usize, marks: &[u64]) -> bool
     ensures { result ≡ marks_fit (plan_of plan) marks.now }
 {
     let facts = tables::facts_of(plan);
-    let rows = facts.rows;
     let most = facts.word;
-    for r in 0..rows {
-        if most < marks[r] {
-            return false;
-        }
-    }
-    true
+    marks[..facts.rows].iter().all(|word| *word <= most)
 }
 
 // Whether each unmarked symbol is below q. Where every symbol is, the marks are not looked at.
@@ -65,20 +49,15 @@ pub fn symbols_fit(plan: usize, marks: &[u64], symbols: &[u8]) -> bool
     ensures { result ≡ symbols_fit (plan_of plan) marks.now symbols.now }
 {
     let facts = tables::facts_of(plan);
-    let q = facts.field;
-    let rows = facts.rows;
-    let columns = facts.columns;
-    let size = facts.symbols;
-    if all_below(q, &symbols[..size]) {
+    let q = facts.field.size();
+    let stripe = &symbols[..facts.symbols];
+    if all_below(q, stripe) {
         return true;
     }
-    let mut at = 0;
-    for r in 0..rows {
-        let end = at + columns;
-        if !row_fits(q, marks[r], &symbols[at..end]) {
+    for (word, row) in marks[..facts.rows].iter().zip(stripe.chunks(facts.columns)) {
+        if !row_fits(q, *word, row) {
             return false;
         }
-        at = end;
     }
     true
 }
@@ -89,16 +68,13 @@ pub fn sums_fit(plan: usize, level: usize, sums: &[u8]) -> bool
     ensures { result ≡ sums_fit (plan_of plan) level sums.now }
 {
     let facts = tables::facts_of(plan);
-    let q = facts.field;
-    let rows = facts.rows;
+    let q = facts.field.size();
     if all_below(q, sums) {
         return true;
     }
     let count = tables::sums_to(plan, level);
-    for r in 0..rows {
-        let at = r * SUMS;
-        let end = at + count;
-        if !all_below(q, &sums[at..end]) {
+    for row in sums[..facts.rows * SUMS].chunks(SUMS) {
+        if !all_below(q, &row[..count]) {
             return false;
         }
     }
@@ -110,45 +86,36 @@ pub fn lengths_fit(plan: usize, stripe: &[u8], marks: &[u64]) -> bool
     ensures { result ≡ (stripe_fits (plan_of plan) stripe.now && words_fit (plan_of plan) marks.now) }
 {
     let facts = tables::facts_of(plan);
-    let size = facts.symbols;
-    let rows = facts.rows;
-    if stripe.len() != size {
-        return false;
-    }
-    marks.len() == rows
+    stripe.len() == facts.symbols && marks.len() == facts.rows
 }
 
 // Whether a bench's level is one of the plan's.
 fn level_fits(plan: usize, level: usize) -> bool
     ensures { result ≡ level_fits (plan_of plan) level }
 {
-    let facts = tables::facts_of(plan);
-    if level == 0 {
-        return false;
-    }
-    level <= facts.levels
+    (1..=tables::facts_of(plan).levels).contains(&level)
 }
 
-// What start and mending in one call refuse; 0 where they do not.
-pub fn lent_refusal(plan: usize, stripe: &[u8], marks: &[u64]) -> usize
-    ensures { result ≡ lent_refusal plan stripe.now marks.now }
+// What start and mending in one call refuse.
+pub fn lent_refusal(plan: usize, stripe: &[u8], marks: &[u64]) -> Result<(), Refusal>
+    ensures { refused_by result ≡ lent_refusal plan stripe.now marks.now }
 {
     if !tables::is_known(plan) {
-        return 10;
+        return Err(Refusal::UnknownPlan);
     }
     if !lengths_fit(plan, stripe, marks) {
-        return 11;
+        return Err(Refusal::WrongLength);
     }
     if !marks_fit(plan, marks) {
-        return 12;
+        return Err(Refusal::MarkBeyondColumns);
     }
     if !symbols_fit(plan, marks, stripe) {
-        return 13;
+        return Err(Refusal::NoSymbol);
     }
-    0
+    Ok(())
 }
 
-// What a step refuses, by the bench's parts and whether the row number fits; 0 where it does not.
+// What a step refuses, by the bench's parts and whether the row number fits. Its tests are others than those of `lent_refusal`, in the same order.
 pub fn bench_refusal(
     plan: usize,
     level: usize,
@@ -156,27 +123,24 @@ pub fn bench_refusal(
     marks: &[u64],
     sums: &[u8],
     row: bool,
-) -> usize
+) -> Result<(), Refusal>
     requires { HoldsBench (plan_of plan) symbols.now marks.now sums.now }
-    ensures { result ≡ bench_refusal (record { plan = plan; level = level; symbols = symbols.now; marks = marks.now; sums = sums.now }) row }
+    ensures { refused_by result ≡ bench_refusal (record { plan = plan; level = level; symbols = symbols.now; marks = marks.now; sums = sums.now }) row }
 {
     if !tables::is_known(plan) {
-        return 10;
+        return Err(Refusal::UnknownPlan);
     }
     if !level_fits(plan, level) {
-        return 15;
+        return Err(Refusal::NoSuchLevel);
     }
     if !marks_fit(plan, marks) {
-        return 12;
+        return Err(Refusal::MarkBeyondColumns);
     }
-    if !symbols_fit(plan, marks, symbols) {
-        return 13;
-    }
-    if !sums_fit(plan, level, sums) {
-        return 13;
+    if !symbols_fit(plan, marks, symbols) || !sums_fit(plan, level, sums) {
+        return Err(Refusal::NoSymbol);
     }
     if !row {
-        return 14;
+        return Err(Refusal::NoSuchRow);
     }
-    0
+    Ok(())
 }

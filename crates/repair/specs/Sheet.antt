@@ -1,5 +1,5 @@
 -- The bench sheet's cases marked (P): one table and one statement about the definitions. Its stripes are of plan 1.
-use Rattle.std.specs.Prelude.{ℕ, ◌≡◌, List, [], ◌∷◌, ◌++◌, map, replicate, set}
+use Rattle.std.specs.Prelude.{ℕ, ◌≡◌, List, [], ◌∷◌, ◌++◌, map, replicate, set, Result, Ok}
 use Rattle.field.specs.Lists.{◌to◌}
 use Rattle.field.specs.Field.{mul, gf16, gf32}
 use Rattle.field.specs.Power.{power}
@@ -16,32 +16,32 @@ use Rattle.plans.specs.declared.Answer.TheVariants.{Restored, Stuck, Clash}
 pub record Case : Type 0 where
   pub stripe : List ℕ
   pub marks : List ℕ
-  pub report : Report
+  pub report : Result Report ℕ
   pub stripe_after : List ℕ
   pub marks_after : List ℕ
 
 -- Restored at level 2, so many rows at level 1 and at level 2
-unfoldable pub restored : (level1 level2 : ℕ) → Report
-restored a b = record { answer = Restored; level = 2; rows = a ∷ b ∷ 0 ∷ []; left = 0 }
+unfoldable pub restored : (level1 level2 : ℕ) → Result Report ℕ
+restored a b = Ok (record { answer = Restored; level = 2; rows = a ∷ b ∷ 0 ∷ []; left = 0 })
 
 -- Stuck at a level, no row restored and so many left
-unfoldable pub stuck : (level left : ℕ) → Report
-stuck t n = record { answer = Stuck; level = t; rows = 0 ∷ 0 ∷ 0 ∷ []; left = n }
+unfoldable pub stuck : (level left : ℕ) → Result Report ℕ
+stuck t n = Ok (record { answer = Stuck; level = t; rows = 0 ∷ 0 ∷ 0 ∷ []; left = n })
 
 -- a Clash at a place
-unfoldable pub clashed : Place → Report
-clashed place = record { answer = Clash place; level = 0; rows = 0 ∷ 0 ∷ 0 ∷ []; left = 0 }
+unfoldable pub clashed : Place → Result Report ℕ
+clashed place = Ok (record { answer = Clash place; level = 0; rows = 0 ∷ 0 ∷ 0 ∷ []; left = 0 })
 
 -- the zero stripe
 unfoldable pub blank : List ℕ
 blank = replicate 21 0
 
 -- mending leaves the stripe and the marks as they were
-unfoldable pub unchanged : List ℕ → List ℕ → Report → Case
+unfoldable pub unchanged : List ℕ → List ℕ → Result Report ℕ → Case
 unchanged stripe marks report = record { stripe = stripe; marks = marks; report = report; stripe_after = stripe; marks_after = marks }
 
 -- a zero stripe is restored to itself
-unfoldable pub blank_restored : List ℕ → Report → Case
+unfoldable pub blank_restored : List ℕ → Result Report ℕ → Case
 blank_restored marks report = record { stripe = blank; marks = marks; report = report; stripe_after = blank; marks_after = 0 ∷ 0 ∷ 0 ∷ [] }
 
 -- marks at these columns of row 1 alone

@@ -1,63 +1,55 @@
--- How many rows have marks, counted from the last row down. Assumes nothing.
-use mathlib.Core.Path.{◌≡◌, sym, ap, ap₂, ◌∙◌}
-use mathlib.Core.Bool.{Bool, not}
-use mathlib.Core.List.{List, ◌∷◌, map}
-use Prim.Native.Nat.{ℕ, suc, ◌+◌, ◌-◌, ◌≤◌, ◌<◌}
-use native.Mathlib.Numerals.{add-one}
-use native.Mathlib.Omega.{arith}
+-- How many rows have marks: the mark words that are not 0, counted; and the report of it. Assumes nothing.
+use mathlib.Core.Path.{◌≡◌, refl, sym, ap, ◌∙◌}
+use mathlib.Core.Bool.{Bool, true, false}
+use mathlib.Core.List.{List, [], ◌∷◌, map}
+use Prim.Native.Nat.{ℕ, zero, suc, ◌≤◌}
+use native.Mathlib.Nat.{le_of_suc-le-suc, not-suc-le-zero}
 use borrow.Author.Tests.{eq-eqb, ne_eqb}
-use lib.Dec.{eqb}
-use lib.ListN.{length, get_or}
+use lib.ListN.{length, take, get_or}
+use Rattle.std.specs.Prelude.{cond}
+use Rattle.std.specs.List.{filter}
 use Rattle.field.specs.Lists.{when◌then◌else◌, up_from}
+use Rattle.field.proofs.Lists.{map-up-suc}
 use Rattle.fills.specs.Lists.{only}
+use Rattle.plans.specs.Plan.{plan_of}
+use Rattle.steps.specs.Steps.{lossy}
+use Rattle.steps.specs.Parts.{bench_of, standing_of}
+use Rattle.rounds.specs.Ended.{has_marks}
+use Rattle.rounds.specs.Reports.{rows_left, end_report}
+use Rattle.plans.specs.declared.Answer.{Answer}
+use Rattle.plans.specs.declared.Answer.TheVariants.{Restored, Stuck}
 
--- whether row r has marks
-abbrev pub lossy_at : List ℕ → ℕ → Bool
-lossy_at marks r = not (eqb (get_or marks r 0) 0)
+one-more : (b : Bool) (w : ℕ) (ws : List ℕ) (bs : List Bool) → length ws ≡ length (only (λ m. m) bs)
+    → length (cond b (w ∷ ws) ws) ≡ length (only (λ m. m) (b ∷ bs))
+unfolding only when◌then◌else◌
+one-more true w ws bs e = ap suc e
+one-more false w ws bs e = e
 
--- the rows from r on that have marks
-abbrev pub left_from : (rows : ℕ) → List ℕ → ℕ → ℕ
-left_from rows marks r = length (only (λ m. m) (map (lossy_at marks) (up_from r (rows - r))))
+-- among the first words those that have marks are as many as the rows that have them
+pub left-counted : (ws : List ℕ) (rows : ℕ) → rows ≤ length ws
+    → length (filter has_marks (take rows ws)) ≡ length (only (λ m. m) (map (λ r. has_marks (get_or ws r 0)) (up_from 0 rows)))
+unfolding up_from only
+left-counted ws zero h = refl
+left-counted [] (suc rows) h = absurd (not-suc-le-zero h)
+left-counted (w ∷ ws) (suc rows) h =
+    one-more (has_marks w) w (filter has_marks (take rows ws)) (map (λ r. has_marks (get_or (w ∷ ws) r 0)) (up_from 1 rows))
+    (left-counted ws rows (le_of_suc-le-suc h)
+    ∙ ap (λ l. length (only (λ m. m) l)) (sym (map-up-suc (λ r. has_marks (get_or (w ∷ ws) r 0)) 0 rows)))
 
-pub record Leaving (rows : ℕ) (marks : List ℕ) (r left : ℕ) : Type 0 where
-  pub within : r ≤ rows
-  pub few : left ≤ rows - r
-  pub counted : left ≡ left_from rows marks r
+-- ---- the report of so many rows left
 
-module _ (rows : ℕ) (marks : List ℕ) where
-  pub leaving-starts : Leaving rows marks rows 0
-  unfolding up_from only
-  leaving-starts =
-      let none : 0 ≡ rows - rows = omega arith in
-      record { within = omega arith; few = omega arith; counted = ap (λ n. length (only (λ m. m) (map (lossy_at marks) (up_from rows n)))) none }
+module _ (p t : ℕ) (marks restored : List ℕ) (room : (plan_of p).rows ≤ length marks) {rows left : ℕ} (high : rows ≡ (plan_of p).rows)
+    (e : left ≡ length (filter has_marks (take rows marks))) where
+  abbrev Reported : Answer → Type 0
+  Reported a = record { answer = a; level = t; rows = restored; left = left } ≡ end_report (standing_of (bench_of p t [] marks []) 0 restored)
 
-  -- with row r - 1
-  counts : {r : ℕ} {b : Bool} → 0 < r → r ≤ rows → lossy_at marks (r - 1) ≡ b
-      → length (only (λ m. m) (b ∷ map (lossy_at marks) (up_from r (rows - r)))) ≡ left_from rows marks (r - 1)
-  unfolding up_from
-  counts {r} h l e =
-      let one : suc (r - 1) ≡ r = omega arith in
-      let more : suc (rows - r) ≡ rows - (r - 1) = omega arith in
-      ap₂ (λ b k. length (only (λ m. m) (b ∷ map (lossy_at marks) (up_from k (rows - r))))) (sym e) (sym one)
-      ∙ ap (λ n. length (only (λ m. m) (map (lossy_at marks) (up_from (r - 1) n)))) more
+  counted : left ≡ length (only (λ m. m) (map (λ r. has_marks (get_or marks r 0)) (up_from 0 (plan_of p).rows)))
+  counted = e ∙ ap (λ n. length (filter has_marks (take n marks))) high ∙ left-counted marks (plan_of p).rows room
 
-  module _ {r left : ℕ} (h : 0 < r) (l : Leaving rows marks r left) where
-    pub leaving-marked : (get_or marks (r - 1) 0 ≡ 0 → ⊥) → Leaving rows marks (r - 1) (left + 1)
-    unfolding only when◌then◌else◌
-    leaving-marked ne = record {
-      within = omega (arith, l.within);
-      few = omega (arith, l.few, l.within);
-      counted = add-one left ∙ ap suc l.counted ∙ counts h l.within (ap not (ne_eqb (get_or marks (r - 1) 0) 0 ne));
-    }
+  pub report-restored : left ≡ 0 → Reported Restored
+  unfolding end_report rows_left lossy when◌then◌else◌
+  report-restored z = rw (← counted, eq-eqb left 0 z)
 
-    pub leaving-unmarked : get_or marks (r - 1) 0 ≡ 0 → Leaving rows marks (r - 1) left
-    unfolding only when◌then◌else◌
-    leaving-unmarked z = record {
-      within = omega (arith, l.within);
-      few = omega (arith, l.few, l.within);
-      counted = l.counted ∙ counts h l.within (ap not (eq-eqb (get_or marks (r - 1) 0) 0 z));
-    }
-
-  pub leaving-ends : {r left : ℕ} → r ≤ 0 → Leaving rows marks r left → left ≡ length (only (λ m. m) (map (lossy_at marks) (up_from 0 rows)))
-  leaving-ends {r} {left} h l =
-      l.counted ∙ ap₂ (λ a n. length (only (λ m. m) (map (lossy_at marks) (up_from a n)))) (omega arith) (omega arith)
+  pub report-stuck : (left ≡ 0 → ⊥) → Reported Stuck
+  unfolding end_report rows_left lossy when◌then◌else◌
+  report-stuck ne = rw (← counted, ne_eqb left 0 ne)

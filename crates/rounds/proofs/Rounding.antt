@@ -1,176 +1,199 @@
 -- The rounds, level by level: the code's invariant, with a start, a turn for each finding, and its ends. Assumes nothing.
 use mathlib.Core.Path.{◌≡◌, refl, sym, ap, ap₂, ◌∙◌, subst}
-use mathlib.Core.List.{List, [], map}
+use mathlib.Core.List.{List, []}
 use Prim.Native.Nat.{ℕ, suc, pred, ◌+◌, ◌*◌, ◌-◌, ◌<◌, ◌≤◌}
 use native.Mathlib.Nat.{suc-mul, zero-add, add_comm}
 use native.Mathlib.Numerals.{add-one, sub-one}
 use native.Mathlib.Omega.{arith}
-use borrow.Author.Tests.{eq-eqb, ne_eqb, lt-ltb, le-ltb}
-use lib.Dec.{eqb, ltb, eqb→eq}
-use lib.ListN.{length, get_or, set, replicate, length-set, length-replicate}
+use lib.Dec.{eqb, eqb→eq}
+use lib.ListN.{length, get_or, set, replicate, length-set}
 use lib.Seq.{get_or-set_other}
-use Rattle.field.specs.Lists.{when◌then◌else◌, up_from}
-use Rattle.fills.specs.Lists.{all, only}
-use Rattle.plans.specs.Rooms.{learned_room}
-use Rattle.plans.specs.Plan.{plan_of}
-use Rattle.steps.specs.Steps.{lossy, level_fill, raise}
-use Rattle.steps.specs.Rounds.{Turn, end, clash, more, turns}
+use Rattle.std.specs.Prelude.{Option, Some, None}
+use Rattle.fills.specs.Lists.{all}
+use Rattle.plans.specs.Plan.{Plan, plan_of}
+use Rattle.steps.specs.Steps.{learned, level_fill, raise, level_step_by, stepped}
+use Rattle.steps.specs.Rounds.{Turn, end, more, turns}
 use Rattle.rounds.specs.Reports.{rounds_on, rows_left, end_report, bare}
 use Rattle.steps.specs.Parts.{bench_of, standing_of}
-use Rattle.levels.specs.Learned.{Learns}
+use Rattle.levels.specs.Learned.{learning_of}
 use Rattle.levels.proofs.Rising.{learning-failing, learning-blocked, learning-learned}
-use Rattle.walks.specs.Walk.{Settled, Walked}
-use Rattle.rounds.specs.Ended.{start_of, Ended}
+use Rattle.walks.specs.Walk.{Settled, WalkedAll, WalkEnd, Walked, WalkReady}
+use Rattle.rounds.specs.Ended.{RoundsReady, Ended}
+use Rattle.plans.specs.declared.Bench.{Bench}
 use Rattle.plans.specs.declared.Report.{Report}
 use Rattle.plans.specs.declared.Place.TheVariants.{Row, Across}
-use Rattle.plans.specs.declared.Answer.TheVariants.{Restored, Stuck, Clash}
+use Rattle.plans.specs.declared.Answer.TheVariants.{Clash}
 use Rattle.levels.specs.declared.Learning.{Learning}
 use Rattle.levels.specs.declared.Learning.TheVariants.{Blocked, Failing, Learned as AllLearned}
 use Rattle.plans.proofs.Flat.{all_get_d}
 use Rattle.plans.proofs.Plans.{shape}
-use Rattle.rounds.proofs.Leaving.{lossy_at}
-use Rattle.steps.proofs.Sound.{Sound, sound-of, sound-raise}
+use Rattle.steps.proofs.Sound.{Sound, sound-of, ready_of, sound-raise}
 use Rattle.walks.proofs.Settled.{settled-raise}
 use Rattle.steps.proofs.Turns.{turn-top, turn-blocked, turn-failing, turn-learned}
 
--- ---- the report
-
-module _ (p t left : ℕ) (marks restored : List ℕ) (e : left ≡ length (only (λ m. m) (map (lossy_at marks) (up_from 0 (plan_of p).rows)))) where
-  pub report-restored : left ≡ 0
-      → record { answer = Restored; level = t; rows = restored; left = left } ≡ end_report (standing_of (bench_of p t [] marks []) 0 restored)
-  unfolding end_report rows_left lossy when◌then◌else◌
-  report-restored z = rw (← e, eq-eqb left 0 z)
-
-  pub report-stuck : (left ≡ 0 → ⊥)
-      → record { answer = Stuck; level = t; rows = restored; left = left } ≡ end_report (standing_of (bench_of p t [] marks []) 0 restored)
-  unfolding end_report rows_left lossy when◌then◌else◌
-  report-stuck ne = rw (← e, ne_eqb left 0 ne)
-
 -- ---- the invariant
 
--- at level t, before its round: the lists are as long as they were; the turns of the rounds to come lead where all turns do; no row was restored at level t or
--- above; and above level 1 every row without marks has its learned sums
-pub record Rounding (p : ℕ) (symbols₀ marks₀ symbols marks sums restored : List ℕ) (t : ℕ) : Type 0 where
-  pub long : length symbols ≡ length symbols₀
-  pub words : length marks ≡ length marks₀
-  pub places : length sums ≡ learned_room
-  pub low : 1 ≤ t
-  pub high : t ≤ length (plan_of p).levels
-  pub sound : Sound (bench_of p t symbols marks sums)
-  pub settled : (t ≡ 1 → ⊥) → Settled (bench_of p t symbols marks sums)
+-- before a round on b: the turns to come lead where all turns from `first` do; no row was restored at b's level or above; and above level 1 every
+-- row without marks has its learned sums
+pub record Rounding (first b : Bench) (restored : List ℕ) : Type 0 where
+  pub plan : b.plan ≡ first.plan
+  pub low : 1 ≤ b.level
+  pub high : b.level ≤ length (plan_of first.plan).levels
+  pub sound : Sound b
+  pub settled : (b.level ≡ 1 → ⊥) → Settled b
   pub three : length restored ≡ 3
-  pub none_yet : (i : ℕ) → t ≤ suc i → get_or restored i 0 ≡ 0
-  pub turned : rounds_on p (start_of p symbols₀ marks₀)
-      ≡ turns (suc (length (plan_of p).levels - t) * suc (plan_of p).rows) (standing_of (bench_of p t symbols marks sums) 0 restored)
+  pub none_yet : (i : ℕ) → b.level ≤ suc i → get_or restored i 0 ≡ 0
+  pub turned : rounds_on first.plan first
+      ≡ turns (suc (length (plan_of first.plan).levels - b.level) * suc (plan_of first.plan).rows) (standing_of b 0 restored)
 
-pub rounding-starts : (p : ℕ) (symbols marks : List ℕ) → Sound (start_of p symbols marks)
-    → Rounding p symbols marks symbols marks (replicate learned_room 0) (replicate 3 0) 1
+pub rounding-starts : (b : Bench) → RoundsReady b → Rounding b b (replicate 3 0)
 unfolding all
-rounding-starts p symbols marks s =
-    let all-levels : length (plan_of p).levels ≡ suc (length (plan_of p).levels - 1) = omega (arith, s.fit.level-le) in
+rounding-starts b r =
+    let s = sound-of r.ready in
+    let all-levels : length (plan_of b.plan).levels ≡ suc (length (plan_of b.plan).levels - b.level) = omega (arith, s.fit.level-le, r.first) in
     record {
-      long = refl;
-      words = refl;
-      places = length-replicate {A = ℕ} learned_room 0;
-      low = omega arith;
+      plan = refl;
+      low = omega (arith, r.first);
       high = s.fit.level-le;
       sound = s;
-      settled = λ above. absurd (above refl);
+      settled = λ above. absurd (above r.first);
       three = refl;
       none_yet = λ i h. eqb→eq (get_or (replicate 3 0) i 0) 0 (all_get_d (λ x. eqb x 0) 0 tt (replicate 3 0) tt i);
-      turned = ap (λ n. turns (n * suc (plan_of p).rows) (standing_of (start_of p symbols marks) 0 (replicate 3 0))) all-levels;
+      turned = ap (λ n. turns (n * suc (plan_of b.plan).rows) (standing_of b 0 (replicate 3 0))) all-levels;
     }
 
-module _ {p : ℕ} {symbols₀ marks₀ : List ℕ} where
-  -- ---- a round's rows are walked
+module _ {first b : Bench} {restored : List ℕ} (R : Rounding first b restored) where
+  abbrev P : Plan
+  P = plan_of first.plan
 
-  module _ {symbols marks sums restored : List ℕ} {t : ℕ} (R : Rounding p symbols₀ marks₀ symbols marks sums restored t)
-      {symbols' marks' : List ℕ} {row filled : ℕ} (W : Walked (bench_of p t symbols marks sums) (bench_of p t symbols' marks' sums) row filled) where
-    abbrev whole : Turn
-    whole = rounds_on p (start_of p symbols₀ marks₀)
+  pub walk-ready : WalkReady b
+  walk-ready = record { ready = ready_of R.sound; settled = R.settled }
 
-    -- the turns that are left behind the level step
-    abbrev rest : ℕ
-    rest = (length (plan_of p).levels - t) * suc (plan_of p).rows
+  -- the level's place among the rows restored
+  pub level-place : b.level - 1 < 3
+  level-place =
+      let few : length P.levels ≤ 3 = subst (λ p. length (plan_of p).levels ≤ 3) R.plan (shape b.plan R.sound.fit.plan-known).levels-le in
+      omega (arith, R.low, R.high)
 
-    walked : whole ≡ (when ltb row (plan_of p).rows then clash (Row row t) else turns (suc rest) (standing_of (bench_of p t symbols' marks' sums) (plan_of p).rows (more t filled restored)))
-    walked =
-        let turns-split : suc (plan_of p).rows + rest ≡ (plan_of p).rows + suc rest = omega arith in
-        R.turned
-        ∙ ap (λ n. turns n (standing_of (bench_of p t symbols marks sums) 0 restored))
-        (suc-mul (length (plan_of p).levels - t) (suc (plan_of p).rows) ∙ add_comm rest (suc (plan_of p).rows) ∙ turns-split)
-        ∙ W.turned (suc rest) restored (omega (arith, R.three, R.low, R.high, (shape p R.sound.fit.plan-known).levels-le))
+  -- ---- the rows of a round
 
-    pub rounded-clash : row < (plan_of p).rows → (r : Report) → r ≡ bare (Clash (Row row t)) → Ended whole r symbols' marks'
-    unfolding when◌then◌else◌
-    rounded-clash h r e =
-        subst (λ m. Ended m r symbols' marks')
-        (sym (walked ∙ ap (λ c. when c then clash (Row row t) else turns (suc rest) (standing_of (bench_of p t symbols' marks' sums) (plan_of p).rows (more t filled restored))) (lt-ltb row (plan_of p).rows h)))
-        e
+  abbrev whole : Turn
+  whole = rounds_on first.plan first
 
-    module _ (h : (plan_of p).rows ≤ row) where
-      counted : more t filled restored ≡ set restored (t - 1) filled
-      unfolding more
-      counted =
-          let e : pred t ≡ t - 1 = sym (sub-one t) in
-          ap₂ (λ i n. set restored i (n + filled)) e (R.none_yet (pred t) (omega (arith, R.low))) ∙ ap (set restored (t - 1)) (zero-add filled)
+  -- the turns that are left behind the level step
+  abbrev rest : ℕ
+  rest = (length P.levels - b.level) * suc P.rows
 
-      onward : whole ≡ turns (suc rest) (standing_of (bench_of p t symbols' marks' sums) (plan_of p).rows (set restored (t - 1) filled))
-      unfolding when◌then◌else◌
-      onward =
-          walked
-          ∙ ap (λ c. when c then clash (Row row t) else turns (suc rest) (standing_of (bench_of p t symbols' marks' sums) (plan_of p).rows (more t filled restored))) (le-ltb row (plan_of p).rows h)
-          ∙ ap (λ l. turns (suc rest) (standing_of (bench_of p t symbols' marks' sums) (plan_of p).rows l)) counted
+  walks : whole ≡ turns ((plan_of b.plan).rows + suc rest) (standing_of b 0 restored)
+  walks =
+      let turns-split : suc P.rows + rest ≡ P.rows + suc rest = omega arith in
+      R.turned
+      ∙ ap (λ n. turns n (standing_of b 0 restored)) (suc-mul (length P.levels - b.level) (suc P.rows) ∙ add_comm rest (suc P.rows) ∙ turns-split)
+      ∙ ap (λ p. turns ((plan_of p).rows + suc rest) (standing_of b 0 restored)) (sym R.plan)
 
-      sound : Sound (bench_of p t symbols' marks' sums)
-      sound = sound-of W.ready
+  room : pred b.level < length restored
+  room = omega (arith, R.three, level-place, R.low)
 
-      abbrev Out : Report → Type 0
-      Out r = Ended whole r symbols' marks'
+  -- up to a Clash
+  pub rounded-clash : (c : Bench) (failed : Option ℕ) (row filled : ℕ) → Walked b c failed filled → failed ≡ Some row
+      → (r : Report) → r ≡ bare (Clash (Row row b.level)) → Ended whole r c
+  rounded-clash c failed row filled w e r q =
+      subst (λ t. Ended t r c) (sym (walks ∙ (subst (λ f. WalkEnd b c f filled) e w.ends).turned (suc rest) restored room)) q
 
-      -- the report of the end, as the code makes it
-      out : whole ≡ end (standing_of (bench_of p t symbols' marks' sums) (plan_of p).rows (set restored (t - 1) filled))
-          → (r : Report) → r ≡ end_report (standing_of (bench_of p t [] marks' []) 0 (set restored (t - 1) filled)) → Out r
-      unfolding end_report rows_left
-      out e r q = subst (λ m. Ended m r symbols' marks') (sym e) (q, refl, refl)
+  -- or all of them
+  module _ (c : Bench) (failed : Option ℕ) (filled : ℕ) (w : Walked b c failed filled) (passed : failed ≡ None) where
+    W : WalkedAll b c filled
+    W = subst (λ f. WalkEnd b c f filled) passed w.ends
 
-      pub rounded-top : t ≡ length (plan_of p).levels → (r : Report) → r ≡ end_report (standing_of (bench_of p t [] marks' []) 0 (set restored (t - 1) filled)) → Out r
-      rounded-top e = out (onward ∙ turn-top (bench_of p t symbols' marks' sums) sound.fit e rest (set restored (t - 1) filled))
+    pub plan_kept : {d : Bench} → d ≡ c → d.plan ≡ first.plan
+    plan_kept same = ap (λ (d : Bench). d.plan) same ∙ w.plan ∙ R.plan
 
-      module _ (ne : t ≡ length (plan_of p).levels → ⊥) {a : Learning} {sums' : List ℕ} (learns : Learns (bench_of p t symbols' marks' sums) a sums') where
-        below : t < length (plan_of p).levels
-        below = omega (arith, R.high)
+    -- the rows restored now
+    abbrev now : List ℕ
+    now = set restored (b.level - 1) filled
 
-        pub rounded-blocked : a ≡ Blocked → (r : Report) → r ≡ end_report (standing_of (bench_of p t [] marks' []) 0 (set restored (t - 1) filled)) → Out r
-        rounded-blocked k =
-            out (onward ∙ turn-blocked (bench_of p t symbols' marks' sums) sound.fit below (learning-blocked _ (sym learns.answer ∙ k)) rest (set restored (t - 1) filled))
+    counted : more b.level filled restored ≡ now
+    unfolding more
+    counted =
+        let e : pred b.level ≡ b.level - 1 = sym (sub-one b.level) in
+        ap₂ (λ i n. set restored i (n + filled)) e (R.none_yet (pred b.level) (omega (arith, R.low))) ∙ ap (set restored (b.level - 1)) (zero-add filled)
 
-        pub rounded-failing : a ≡ Failing → (r : Report) → r ≡ bare (Clash (Across (t + 1))) → Out r
-        rounded-failing k r w =
-            subst (λ m. Ended m r symbols' marks')
-            (sym (onward ∙ turn-failing (bench_of p t symbols' marks' sums) sound.fit below (learning-failing _ (sym learns.answer ∙ k)) rest (set restored (t - 1) filled)))
-            (w ∙ ap (λ n. bare (Clash (Across n))) (add-one t))
+    -- the level step's turn, on c
+    onward : whole ≡ turns (suc rest) (standing_of c (plan_of c.plan).rows now)
+    onward =
+        walks ∙ W.turned (suc rest) restored room
+        ∙ ap₂ (λ p l. turns (suc rest) (standing_of c (plan_of p).rows l)) (sym w.plan) counted
 
-        pub rounding-turns : a ≡ AllLearned → length symbols' ≡ length symbols → length marks' ≡ length marks → length sums' ≡ length sums
-            → Rounding p symbols₀ marks₀ symbols' marks' sums' (set restored (t - 1) filled) (t + 1)
-        unfolding raise
-        rounding-turns k ls lm lk =
-            let b = bench_of p t symbols' marks' sums in
-            let levels-left : length (plan_of p).levels - t ≡ suc (length (plan_of p).levels - (t + 1)) = omega (arith, below) in
-            let told = learning-learned (level_fill b) (sym learns.answer ∙ k) in
-            let e : raise b told.0 ≡ bench_of p (t + 1) symbols' marks' sums' =
-            ap₂ (λ n s. bench_of p n symbols' marks' s) (sym (add-one t)) (sym (learns.sums told.0 told.1)) in
-            record {
-              long = ls ∙ R.long;
-              words = lm ∙ R.words;
-              places = lk ∙ R.places;
-              low = omega arith;
-              high = omega (arith, below);
-              sound = subst Sound e (sound-raise b sound told.0 below told.1);
-              settled = λ above. subst Settled e (settled-raise b sound below told.0 told.1 (W.settled h));
-              three = length-set restored (t - 1) filled ∙ R.three;
-              none_yet = λ i g. get_or-set_other restored (t - 1) i filled 0 (omega (arith, R.low)) ∙ R.none_yet i (omega arith);
-              turned = onward
-                  ∙ turn-learned b sound.fit below told.0 told.1 rest (set restored (t - 1) filled)
-                  ∙ ap₂ (λ n c. turns (n * suc (plan_of p).rows) (standing_of c 0 (set restored (t - 1) filled))) levels-left e;
-            }
+    sound : Sound c
+    sound = sound-of w.ready
+
+    -- the report of the end, as the code makes it
+    abbrev Reported : Report → Bench → Type 0
+    Reported r d = r ≡ end_report (standing_of (bench_of d.plan d.level [] d.marks []) 0 now)
+
+    out : whole ≡ end (standing_of c (plan_of c.plan).rows now) → {d : Bench} → d ≡ c → (r : Report) → Reported r d → Ended whole r d
+    unfolding end_report rows_left
+    out e same r q = subst (Ended whole r) (sym same) (subst (λ t. Ended t r c) (sym e) (subst (Reported r) same q, refl))
+
+    pub rounded-top : b.level ≡ length P.levels → {d : Bench} → d ≡ c → (r : Report) → Reported r d → Ended whole r d
+    rounded-top e =
+        out (onward ∙ turn-top c sound.fit (w.level ∙ e ∙ ap (λ p. length (plan_of p).levels) (sym (w.plan ∙ R.plan))) rest now)
+
+    -- it has a mark word for each row
+    pub words-there : {d : Bench} → d ≡ c → (plan_of d.plan).rows ≤ length d.marks
+    words-there same = subst (λ d. (plan_of d.plan).rows ≤ length d.marks) (sym same) w.ready.room.stripe.rows
+
+    -- ---- the level
+
+    module _ (ne : b.level ≡ length P.levels → ⊥) where
+      pub low : c.level < length (plan_of c.plan).levels
+      low = rw (w.level, w.plan, R.plan) (omega (arith, R.high, ne))
+
+      module _ {a : Learning} {d : Bench} (answer : a ≡ learning_of (level_fill c)) (leaves : d ≡ (level_step_by c (level_fill c)).bench) where
+        pub blocked-stays : a ≡ Blocked → d ≡ c
+        unfolding level_step_by stepped
+        blocked-stays k = leaves ∙ ap (λ f. (level_step_by c f).bench) (learning-blocked (level_fill c) (sym answer ∙ k))
+
+        pub rounded-blocked : a ≡ Blocked → {j : Bench} → j ≡ d → (r : Report) → Reported r j → Ended whole r j
+        rounded-blocked k same =
+            out (onward ∙ turn-blocked c sound.fit low (learning-blocked (level_fill c) (sym answer ∙ k)) rest now) (same ∙ blocked-stays k)
+
+        pub failing-stays : a ≡ Failing → d ≡ c
+        unfolding level_step_by stepped
+        failing-stays k = leaves ∙ ap (λ f. (level_step_by c f).bench) (learning-failing (level_fill c) (sym answer ∙ k))
+
+        pub rounded-failing : a ≡ Failing → (r : Report) → r ≡ bare (Clash (Across (b.level + 1))) → Ended whole r d
+        rounded-failing k r q =
+            subst (λ t. Ended t r d)
+            (sym (onward ∙ turn-failing c sound.fit low (learning-failing (level_fill c) (sym answer ∙ k)) rest now))
+            (q ∙ ap (λ n. bare (Clash (Across n))) (add-one b.level ∙ ap suc (sym w.level)))
+
+        module _ (k : a ≡ AllLearned) where
+          told : (cs : List (List ℕ)) × (level_fill c ≡ learned cs)
+          told = learning-learned (level_fill c) (sym answer ∙ k)
+
+          raised : d ≡ raise c told.0
+          unfolding level_step_by stepped
+          raised = leaves ∙ ap (λ f. (level_step_by c f).bench) told.1
+
+          -- the next round is a level higher
+          pub level-rises : d.level ≡ suc b.level
+          unfolding raise
+          level-rises = ap (λ (d : Bench). d.level) raised ∙ ap suc w.level
+
+          pub rounding-turns : Rounding first d now
+          unfolding raise
+          rounding-turns =
+              let levels-left : length P.levels - b.level ≡ suc (length P.levels - suc c.level) = omega (arith, R.high, ne, w.level) in
+              subst (λ d. Rounding first d now) (sym raised)
+              record {
+                plan = w.plan ∙ R.plan;
+                low = omega arith;
+                high = omega (arith, R.high, ne, w.level);
+                sound = sound-raise c sound told.0 low told.1;
+                settled = λ above. settled-raise c sound low told.0 told.1 W.settled;
+                three = length-set restored (b.level - 1) filled ∙ R.three;
+                none_yet = λ i g. get_or-set_other restored (b.level - 1) i filled 0 (omega (arith, R.low, w.level, g)) ∙ R.none_yet i (omega (arith, w.level, g));
+                turned = onward ∙ turn-learned c sound.fit low told.0 told.1 rest now
+                    ∙ ap (λ n. turns (n * suc P.rows) (standing_of (raise c told.0) 0 now)) levels-left;
+              }

@@ -30,6 +30,6 @@ end_report m = record {
   left = rows_left m.bench;
 }
 
--- beside a Clash and a refusal level, rows and left are 0
+-- beside a Clash, level, rows and left are 0
 unfoldable pub bare : Answer → Report
 bare a = record { answer = a; level = 0; rows = replicate 3 0; left = 0 }

@@ -1,35 +1,25 @@
 // Rounds of row steps and level steps until they stop, and the report of how they stop.
 #![tactic(auto)]
 
-ghost use Rattle.std.specs.Prelude.{◌≡◌, not, [], map, ◌≤◌, eqb, length, get_or};
-ghost use Rattle.field.specs.Lists.{up_from};
-ghost use Rattle.fills.specs.Lists.{only};
+ghost use Rattle.std.specs.Prelude.{◌≡◌, [], ◌≤◌, length};
+ghost use Rattle.std.specs.List.{filter};
 ghost use Rattle.plans.specs.Plan.{plan_of};
-ghost use Rattle.steps.specs.Parts.{bench_of, standing_of, Ready};
+ghost use Rattle.steps.specs.Parts.{bench_of, standing_of};
 ghost use Rattle.rounds.specs.Reports.{rounds_on, bare, end_report};
-ghost use Rattle.rounds.specs.Ended.{start_of, Ended, clashes};
+ghost use Rattle.rounds.specs.Ended.{Ended, RoundsReady, has_marks};
 
 use levels::Learning;
-use plans::{Answer, CHECKS, LEARNED, Place, Report};
+use plans::{Answer, Bench, Place, Report};
 
 // How many of the rows have marks.
-fn rows_left(rows: usize, marks: &[u64]) -> usize
-    requires { rows ≤ length marks.now }
-    ensures { result ≡ length (only (λ m. m) (map (λ r. not (eqb (get_or marks.now r 0) 0)) (up_from 0 rows))) }
+fn rows_left(marks: &[u64]) -> usize
+    ensures { result ≡ length (filter has_marks marks.now) }
 {
-    let mut left = 0;
-    let mut r = rows;
-    while 0 < r {
-        r -= 1;
-        if marks[r] != 0 {
-            left += 1;
-        }
-    }
-    left
+    marks.iter().filter(|word| **word != 0).count()
 }
 
 // A report with nothing beside its answer.
-pub fn bare_report(answer: Answer) -> Report
+fn bare_report(answer: Answer) -> Report
     ensures { result ≡ bare answer }
 {
     Report {
@@ -40,75 +30,53 @@ pub fn bare_report(answer: Answer) -> Report
     }
 }
 
-// What the rounds end in at Blocked or Top: Restored where no mark is left, else Stuck.
+// What the rounds end in at Blocked or Top: Restored where no mark is left, else Stuck. By parts: a stripe whose every row is tied by count is
+// never copied to a bench.
 pub fn end_report(plan: usize, level: usize, restored: [usize; 3], marks: &[u64]) -> Report
     requires { (plan_of plan).rows ≤ length marks.now }
     ensures { result ≡ end_report (standing_of (bench_of plan level [] marks.now []) 0 restored) }
 {
     let facts = tables::facts_of(plan);
-    let left = rows_left(facts.rows, marks);
-    if left == 0 {
-        return Report {
-            answer: Answer::Restored,
-            level: level,
-            rows: restored,
-            left: left,
-        };
-    }
+    let left = rows_left(&marks[..facts.rows]);
+    let answer = if left == 0 {
+        Answer::Restored
+    } else {
+        Answer::Stuck
+    };
     Report {
-        answer: Answer::Stuck,
-        level: level,
+        answer,
+        level,
         rows: restored,
-        left: left,
+        left,
     }
 }
 
-// Rounds on a bench at level 1 of these symbols and marks, until they stop. Symbols and marks become those of the bench where the rounds
-// end.
-pub fn rounds(plan: usize, symbols: &mut [u8], marks: &mut [u64]) -> Report
-    requires { Ready (start_of plan symbols.old marks.old) }
-    ensures { Ended (rounds_on plan (start_of plan symbols.old marks.old)) result symbols.new marks.new }
+// Rounds on a bench at level 1 until they stop; the bench becomes the one where they end.
+pub fn rounds(bench: &mut Bench) -> Report
+    requires { RoundsReady bench.old }
+    ensures ended { Ended (rounds_on bench.old.plan bench.old) result bench.new }
+    ensures plan { bench.new.plan ≡ bench.old.plan }
 {
-    let facts = tables::facts_of(plan);
-    let rows = facts.rows;
-    let levels = facts.levels;
-    let mut room = [0u8; CHECKS];
-    let size = tables::put_checks(plan, &mut room);
-    let end = tables::put_table(facts.field, &mut room, size);
-    let lent = &room[..end];
-    let checks = &lent[..size];
-    let table = &lent[size..];
-    let mut sums = [0u8; LEARNED];
+    let levels = tables::facts_of(bench.plan).levels;
     let mut restored = [0usize; 3];
-    let mut level = 1;
+    // the bench's level counts the rounds
     loop {
-        let walk = walks::walk_rows(plan, level, table, checks, symbols, marks, &sums);
-        let row = walk.row;
-        if row < rows {
-            let place = Place::Row { row, level };
-            return bare_report(Answer::Clash(place));
+        let level = bench.level;
+        let walk = walks::walk_rows(bench);
+        if let Some(row) = walk.clash {
+            return bare_report(Answer::Clash(Place::Row { row, level }));
         }
         restored[level - 1] = walk.filled;
         if level == levels {
             break;
         }
-        match levels::learn(plan, level, table, checks, symbols, marks, &mut sums) {
+        match levels::learn(bench) {
             Learning::Failing => {
                 return bare_report(Answer::Clash(Place::Across { level: level + 1 }));
             }
             Learning::Blocked => break,
-            Learning::Learned => level += 1,
+            Learning::Learned => {}
         }
     }
-    end_report(plan, level, restored, &marks[..])
-}
-
-// Whether the answer is Clash.
-pub fn is_clash(answer: Answer) -> bool
-    ensures { result ≡ clashes answer }
-{
-    match answer {
-        Answer::Clash(_) => true,
-        _ => false,
-    }
+    end_report(bench.plan, bench.level, restored, &bench.marks)
 }

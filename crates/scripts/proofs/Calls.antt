@@ -4,7 +4,7 @@ use mathlib.Core.Logic.{◌≢◌}
 use mathlib.Core.List.{List, [], ◌∷◌}
 use Prim.Native.Nat.{ℕ}
 use lib.ListN.{length}
-use Rattle.plans.specs.Answers.{step_number}
+use Rattle.plans.specs.Answers.{step_number, as_number}
 use Rattle.steps.specs.Steps.{started}
 use Rattle.plans.specs.declared.Bench.{Bench}
 use Rattle.layout.specs.Layout.{bench_size, bench_bytes, bench_in}
@@ -63,7 +63,7 @@ module _ {buffer : List ℕ} {b : Bench} (h : Holds buffer b) where
   unfolding start_number step_answer
   call-answers (start p stripe marks) = sized-fit bench_size buffer _ _ (holds-long h)
   call-answers (step m) =
-      sized-fit bench_size buffer _ _ (holds-long h) ∙ ap (λ c. step_number (step_of m c).answer) h.reads
+      sized-fit bench_size buffer _ _ (holds-long h) ∙ ap (λ c. as_number step_number (step_of m c).answer) h.reads
 
 -- ---- calls one after the other
 

@@ -12,18 +12,19 @@ use lib.Dec.{T, eqb, ltb, ltb→lt, nltb→le}
 use lib.ListN.{length, take, drop, get_or, set, replicate, length-append, length-replicate, get_or-replicate}
 use lib.Pow.{pow_pos, pow_mono}
 use lib.Seq.{take-add, take_all, take_at, drop_at, ext_get_or, get_or-append-add, get_or-set_same, get_or-set_other}
+use Rattle.std.specs.Prelude.{Ok}
 use Rattle.field.specs.Lists.{when◌then◌else◌}
 use Rattle.fills.specs.Fill.{Fill, tied, none, one}
 use Rattle.fills.proofs.Tests.{either}
 use Rattle.plans.specs.Plan.{Plan, plan_of}
-use Rattle.plans.specs.Answers.{step_number}
+use Rattle.plans.specs.Answers.{step_number, as_number}
 use Rattle.plans.specs.Refusal.{unasked, all_below, lent_refusal, bench_refusal}
 use Rattle.plans.specs.Rooms.{row_room, symbol_room, learned_room}
 use Rattle.words.specs.Words.{byte_range, word_bits, bytes_of, number_at, words_at}
-use Rattle.steps.specs.Steps.{fresh, empty, started_by, started, stepped, unless_refused, row_fill, put_row, row_step_by, row_step, Learned, blocked, failing, learned, level_fill, raise, level_step_by, level_step}
+use Rattle.steps.specs.Steps.{fresh, empty, started_by, started, Stepped, stepped, unless_refused, row_fill, put_row, row_step_by, row_step, Learned, blocked, failing, learned, level_fill, raise, level_step_by, level_step}
 use Rattle.steps.specs.Parts.{bench_of}
 use Rattle.plans.specs.declared.Bench.{Bench}
-use Rattle.plans.specs.declared.Stepped.{Stepped}
+use Rattle.plans.specs.declared.Step.{Step}
 use Rattle.plans.specs.declared.Step.TheVariants.{Whole, Filled, Top}
 use Rattle.plans.proofs.Rows.{same-or-other}
 use Rattle.plans.proofs.Plans.{shape}
@@ -144,7 +145,7 @@ empty-of-code = record {
 }
 
 pub start-of-code : StartOfCode
-unfolding started_by started
+unfolding stepped started_by started
 start-of-code p stripe marks = go (lent_refusal p stripe marks) refl
   where
     go : (n : ℕ) → lent_refusal p stripe marks ≡ n → OfCode (started_by n p stripe marks).bench
@@ -185,7 +186,7 @@ pub level-step-of-code : LevelStepOfCode
 unfolding when◌then◌else◌ stepped unless_refused level_step_by level_step
 level-step-of-code b c = go (bench_refusal b unasked) (ltb b.level (length (plan_of b.plan).levels)) (level_fill b)
   where
-    go : (n : ℕ) (low : Bool) (l : Learned) → OfCode (unless_refused n b (when low then level_step_by b l else stepped b Top)).bench
+    go : (n : ℕ) (low : Bool) (l : Learned) → OfCode (unless_refused n b (when low then level_step_by b l else stepped b (Ok Top))).bench
     go zero true blocked = c
     go zero true failing = c
     go zero true (learned cs) = raise-of-code b c cs
@@ -202,12 +203,12 @@ module _ (b : Bench) (s : Sized b) (r : ℕ) where
   put_back f h z row e =
       let sound : Sound b = record { fit = f; room = sized-room b s } in ap (put_row b r) (whole_row b sound r h z row e) ∙ put_whole b sound r h z
 
-  row_stays : step_number (row_step b r).answer ≢ 4 → (row_step b r).bench ≡ b
-  unfolding when◌then◌else◌ step_number stepped unless_refused row_step_by row_step
+  row_stays : as_number step_number (row_step b r).answer ≢ 4 → (row_step b r).bench ≡ b
+  unfolding when◌then◌else◌ step_number as_number stepped unless_refused row_step_by row_step
   row_stays h = go (bench_refusal b (ltb r P.rows)) refl (row_fill b r) refl h
     where
       go : (n : ℕ) → bench_refusal b (ltb r P.rows) ≡ n → (f : Fill) → row_fill b r ≡ f
-          → step_number (unless_refused n b (row_step_by b r f)).answer ≢ 4 → (unless_refused n b (row_step_by b r f)).bench ≡ b
+          → as_number step_number (unless_refused n b (row_step_by b r f)).answer ≢ 4 → (unless_refused n b (row_step_by b r f)).bench ≡ b
       go (suc n) e f q h = refl
       go zero e tied q h = refl
       go zero e none q h = refl
@@ -218,12 +219,12 @@ module _ (b : Bench) (s : Sized b) (r : ℕ) where
               let f = bench-fit b (ltb r P.rows) e in put_back f.0 (ltb→lt r P.rows f.1) (eqb-true (get_or b.marks r 0) 0 z) row q
           by false z h = absurd (h refl)
 
-level-stays : (b : Bench) → step_number (level_step b).answer ≢ 6 → (level_step b).bench ≡ b
-unfolding when◌then◌else◌ step_number stepped unless_refused level_step_by level_step
+level-stays : (b : Bench) → as_number step_number (level_step b).answer ≢ 6 → (level_step b).bench ≡ b
+unfolding when◌then◌else◌ step_number as_number stepped unless_refused level_step_by level_step
 level-stays b h = go (bench_refusal b unasked) (ltb b.level (length (plan_of b.plan).levels)) (level_fill b) h
   where
-    go : (n : ℕ) (c : Bool) (l : Learned) → let s = unless_refused n b (when c then level_step_by b l else stepped b Top) in
-        step_number s.answer ≢ 6 → s.bench ≡ b
+    go : (n : ℕ) (c : Bool) (l : Learned) → let s = unless_refused n b (when c then level_step_by b l else stepped b (Ok Top)) in
+        as_number step_number s.answer ≢ 6 → s.bench ≡ b
     go zero true blocked h = refl
     go zero true failing h = refl
     go zero true (learned cs) h = absurd (h refl)
@@ -232,8 +233,8 @@ level-stays b h = go (bench_refusal b unasked) (ltb b.level (length (plan_of b.p
 
 -- ---- buffers
 
-module _ (step : Bench → Stepped) (l : List ℕ) (t : T (all_below byte_range l)) (n : ℕ) where
-  buffer-stays : (length l ≡ bench_size → step_number (step (bench_in l)).answer ≢ n → (step (bench_in l)).bench ≡ bench_in l)
+module _ (step : Bench → Stepped Step) (l : List ℕ) (t : T (all_below byte_range l)) (n : ℕ) where
+  buffer-stays : (length l ≡ bench_size → as_number step_number (step (bench_in l)).answer ≢ n → (step (bench_in l)).bench ≡ bench_in l)
       → step_answer step l ≢ n → step_buffer step l ≡ l
   unfolding step_answer step_buffer
   buffer-stays stays h = go (eqb (length l) bench_size) refl
@@ -243,7 +244,7 @@ module _ (step : Bench → Stepped) (l : List ℕ) (t : T (all_below byte_range 
       go true e =
           let fits = eqb-true (length l) bench_size e in
           sized-fit bench_size l _ _ fits
-          ∙ ap bench_bytes (stays fits (λ q. h (sized-fit bench_size l (step_number (step (bench_in l)).answer) 11 fits ∙ q)))
+          ∙ ap bench_bytes (stays fits (λ q. h (sized-fit bench_size l (as_number step_number (step (bench_in l)).answer) 11 fits ∙ q)))
           ∙ read-is-written l t fits
 
 pub row-step-stays : RowStepStays

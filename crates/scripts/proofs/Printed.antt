@@ -5,15 +5,15 @@ use mathlib.Core.List.{List, ◌++◌, flat_map}
 use Prim.Native.Nat.{ℕ}
 use native.Mathlib.Omega.{arith}
 use lib.Dec.{eqb}
+use Rattle.std.specs.Prelude.{Result}
 use Rattle.field.specs.Lists.{when◌then◌else◌}
 use Rattle.fills.proofs.Beside.{beside-alike}
 use Rattle.plans.specs.Plan.{plan_of, row_at, marks_at}
-use Rattle.plans.specs.Answers.{answer_number, report_values}
 use Rattle.plans.specs.Refusal.{unasked}
 use Rattle.plans.specs.declared.Report.{Report}
 use Rattle.repair.specs.Mending.{mend_stripe, mend_marks}
 use Rattle.files.specs.File.{plan_in, marks_in, symbols_in, file_refusal}
-use Rattle.texts.specs.Text.{item, line_end, symbol_digits, symbol_text, shown, grid, answer_text, mend_text, printed}
+use Rattle.texts.specs.Text.{item, line_end, symbol_digits, symbol_text, shown, grid, told_text, mend_text, printed}
 use Rattle.demands.specs.Silence.{SameUnmarked}
 use Rattle.demands.proofs.Blind.{flat-same, rows_alike}
 use Rattle.demands.proofs.Silence.{silent-mending}
@@ -34,9 +34,7 @@ pub silent-text : SilentText
 unfolding mend_text
 silent-text p marks s t h =
     let m = silent-mending p marks s t h in
-    ap₂ (λ (r : Report) rows.
-    item "plan " p ++ item " answer " (answer_number r.answer) ++ answer_text r.answer (report_values (plan_of p) r) rows)
-    m.report
+    ap₂ (λ (r : Result Report ℕ) rows. item "plan " p ++ told_text (plan_of p) r rows) m.report
     (grid-same p (mend_marks p s marks) (mend_stripe p s marks) (mend_stripe p t marks) m.stripes
     ∙ ap (grid (plan_of p) (mend_stripe p t marks)) m.marks-left)
 

@@ -10,7 +10,7 @@ use Rattle.fills.specs.Lists.{all, only}
 use Rattle.fills.specs.Marks.{bits_of}
 use Rattle.plans.specs.Plan.{word_of, plan1, plan3, no_plan, known, plan_of, row_at, marks_at}
 use Rattle.plans.specs.Rooms.{row_room}
-use Rattle.plans.specs.Answers.{step_number, outcome_number}
+use Rattle.plans.specs.Answers.{step_number, as_number}
 use Rattle.plans.specs.Refusal.{first_failed, marks_fit, all_below, bench_tests, bench_refusal}
 use Rattle.steps.specs.Steps.{fresh, started_by, started, stepped, unless_refused, put_row, row_step, lossy, raise, level_step}
 use Rattle.plans.specs.declared.Bench.{Bench}
@@ -67,9 +67,9 @@ abbrev calls : List Call
 calls = step (on_row 0) ∷ step on_level ∷ start 1 example_stripe example_marks ∷ []
 
 calls-numbers : numbers calls (bench_in used) ≡ 10 ∷ 10 ∷ 0 ∷ []
-unfolding when◌then◌else◌ no_plan plan_of known first_failed bench_tests bench_refusal started_by started stepped unless_refused row_step level_step step_number outcome_number
+unfolding when◌then◌else◌ no_plan plan_of known first_failed bench_tests bench_refusal started_by started stepped unless_refused row_step level_step step_number as_number
     bench_in used
-calls-numbers = ap (λ n. 10 ∷ 10 ∷ outcome_number (started_by n 1 example_stripe example_marks).answer ∷ []) example.fit
+calls-numbers = ap (λ n. 10 ∷ 10 ∷ as_number (λ _. 0) (started_by n 1 example_stripe example_marks).answer ∷ []) example.fit
 
 pub calls-told : told calls used ≡ 10 ∷ 10 ∷ 0 ∷ []
 calls-told = (calls-are-steps calls used used-bytes used-long).answers ∙ calls-numbers

@@ -20,7 +20,7 @@ use Rattle.repair.proofs.Sheet.{sheet}
 use Rattle.words.specs.Words.{bytes_of, number_at}
 use Rattle.files.specs.File.{header_of, blanked, plan_in, marks_in, symbols_in, file_refusal}
 use Rattle.files.specs.Example.{example_file}
-use Rattle.texts.specs.Text.{bytes, digits_in, decimal, hex, hexes, item, line_end, symbol_digits, symbol_text, shown, grid, captioned, end_text, place_text, answer_text, mend_text, printed}
+use Rattle.texts.specs.Text.{bytes, digits_in, decimal, hex, hexes, item, line_end, symbol_digits, symbol_text, shown, grid, captioned, end_text, place_text, answer_text, told_text, mend_text, printed}
 use Rattle.scripts.specs.Sheet.{FileSheet}
 use Rattle.plans.specs.declared.Place.TheVariants.{Row, Across}
 use Rattle.plans.specs.declared.Answer.TheVariants.{Clash}
@@ -34,7 +34,7 @@ unfolding when◌then◌else◌ up_from ◌⊕◌ size double times mul dot gf2 
     fresh stepped unless_refused row_fill put_row row_step_by row_step lossy across check_fill is_none vector_in level_fill keep_sums raise level_step_by level_step
     more after_row after_level take_turn go_on turns mended rows_left end_report turn_report turn_stripe turn_marks mend_report mend_stripe mend_marks
     bytes_of marks_offset wide_marks word_bytes symbols_offset file_length header_of blanked plan_in number_at marks_in symbols_in file_refusal
-    bytes digits_in decimal hex hexes item line_end symbol_digits symbol_text shown grid captioned end_text answer_text mend_text printed
+    bytes digits_in decimal hex hexes item line_end symbol_digits symbol_text shown grid captioned end_text answer_text told_text mend_text printed
     example_stripe example_marks example_file
 file-sheet = record { library = sheet; file_stripe = refl; file_marks = refl; file_printed = refl }
 

@@ -4,7 +4,7 @@ use mathlib.Core.List.{List, map}
 use Prim.Native.Nat.{ℕ}
 use lib.ListN.{length, take}
 use Rattle.plans.specs.Plan.{plan_of}
-use Rattle.steps.specs.Steps.{fresh, started_by, started}
+use Rattle.steps.specs.Steps.{fresh, stepped, started_by, started}
 use Rattle.repair.specs.Mending.{turn_stripe, turn_marks}
 use Rattle.plans.specs.declared.Bench.{Bench}
 use Rattle.layout.specs.Layout.{bench_size, bench_bytes, bench_in}
@@ -33,7 +33,7 @@ module _ (p : ℕ) (stripe marks : List ℕ) (premise : Premise p stripe marks) 
   a = fresh p stripe marks
 
   start-holds : (buffer : List ℕ) → length buffer ≡ bench_size → Holds (start_buffer p stripe marks buffer) a
-  unfolding started_by started
+  unfolding stepped started_by started
   start-holds buffer e =
       subst (Holds (start_buffer p stripe marks buffer)) (ap (λ n. (started_by n p stripe marks).bench) premise.fit)
       (start-leaves p stripe marks buffer e)

@@ -1,11 +1,11 @@
 -- The calls of a script on one bench buffer, one after the other, and the same on the bench that the buffer holds.
 use Rattle.std.specs.Prelude.{ℕ, ◌≡◌, ◌≢◌, List, [], ◌∷◌, map, T, length}
-use Rattle.plans.specs.Answers.{step_number, outcome_number}
+use Rattle.plans.specs.Answers.{step_number, as_number}
 use Rattle.plans.specs.Refusal.{all_below}
 use Rattle.words.specs.Words.{byte_range}
-use Rattle.steps.specs.Steps.{started, row_step, level_step}
+use Rattle.steps.specs.Steps.{Stepped, started, row_step, level_step}
 use Rattle.plans.specs.declared.Bench.{Bench}
-use Rattle.plans.specs.declared.Stepped.{Stepped}
+use Rattle.plans.specs.declared.Step.{Step}
 use Rattle.layout.specs.Layout.{bench_size, bench_bytes, bench_in}
 use Rattle.shelf.specs.Calls.{start_number, start_buffer, step_answer, step_buffer}
 use Rattle.demands.specs.Words.{Move, on_row, on_level, after, walk}
@@ -19,7 +19,7 @@ pub data Call : Type 0 where
   step : Move → Call
 
 -- the step of a row, or of the level, on a bench
-abbrev pub step_of : Move → Bench → Stepped
+abbrev pub step_of : Move → Bench → Stepped Step
 step_of (on_row r) = λ b. row_step b r
 step_of on_level = level_step
 
@@ -52,8 +52,8 @@ bench_after b (step m) = after b m
 
 -- the number of the answer
 abbrev pub number_of : Bench → Call → ℕ
-number_of b (start p stripe marks) = outcome_number (started p stripe marks).answer
-number_of b (step m) = step_number (step_of m b).answer
+number_of b (start p stripe marks) = as_number (λ _. 0) (started p stripe marks).answer
+number_of b (step m) = as_number step_number (step_of m b).answer
 
 abbrev pub bench_run : List Call → Bench → Bench
 bench_run [] b = b

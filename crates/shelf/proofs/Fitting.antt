@@ -2,26 +2,25 @@
 use mathlib.Core.Path.{◌≡◌, refl, sym, subst}
 use mathlib.Core.Bool.{Bool, true, false}
 use mathlib.Core.List.{List, [], ◌∷◌}
+use Rattle.std.specs.Prelude.{Result, Ok}
 use Prim.Native.Nat.{ℕ, zero, suc, ◌<◌, ◌≤◌}
 use native.Mathlib.Nat.{le_trans}
 use native.Mathlib.Omega.{arith}
-use borrow.Author.Tests.{ltb-true, eqb-true}
-use lib.Dec.{T, eqb, ltb, ltb→lt, lt→ltb}
+use borrow.Author.Tests.{ltb-true}
+use lib.Dec.{T, ltb, ltb→lt, lt→ltb}
 use lib.ListN.{length}
 use Rattle.field.specs.Lists.{when◌then◌else◌}
 use Rattle.field.proofs.Test.{both_left, both_right, both}
 use Rattle.fills.specs.Lists.{all}
 use Rattle.plans.specs.Plan.{plan_of}
-use Rattle.plans.specs.Answers.{answer_values, report_values}
+use Rattle.plans.specs.Answers.{report_values}
 use Rattle.plans.specs.Refusal.{unasked, all_below, lent_refusal, bench_refusal}
-use Rattle.steps.specs.Steps.{fresh, empty, started_by, started, stepped, unless_refused, Learned, blocked, failing, learned, level_fill, raise, level_step_by, level_step}
+use Rattle.steps.specs.Steps.{Stepped, fresh, empty, started_by, started, stepped, unless_refused, Learned, blocked, failing, learned, level_fill, raise, level_step_by, level_step}
 use Rattle.repair.specs.Mending.{mend_report}
 use Rattle.texts.specs.Parts.{numbers}
-use Rattle.rounds.specs.Reports.{bare}
 use Rattle.plans.specs.declared.Bench.{Bench}
-use Rattle.plans.specs.declared.Started.{Started}
-use Rattle.plans.specs.declared.Stepped.{Stepped}
 use Rattle.plans.specs.declared.Report.{Report}
+use Rattle.plans.specs.declared.Step.{Step}
 use Rattle.plans.specs.declared.Step.TheVariants.{Top}
 use Rattle.plans.proofs.Plans.{shape}
 use Rattle.words.specs.Words.{byte_range}
@@ -29,7 +28,7 @@ use Rattle.layout.specs.Parts.{Small}
 use Rattle.steps.proofs.Fit.{lent-fit, bench-fit}
 use Rattle.steps.proofs.Sound.{level-plan}
 use Rattle.files.proofs.Stripes.{known-below}
-use Rattle.printing.proofs.Printing.{report-below}
+use Rattle.printing.proofs.Printing.{report-printable}
 
 -- ---- lists of small numbers
 
@@ -42,20 +41,14 @@ below-le q r l (x ∷ xs) t =
 
 -- ---- a report
 
-module _ (p : ℕ) (stripe marks : List ℕ) where
-  pub report-fits : {r : Report} → r ≡ mend_report p stripe marks → T (all_below byte_range (report_values (plan_of p) r))
-  unfolding when◌then◌else◌ all all_below answer_values report_values bare mend_report
-  report-fits e = subst (λ r. T (all_below byte_range (report_values (plan_of p) r))) (sym e) (go (eqb (lent_refusal p stripe marks) 0) refl)
-    where
-      go : (b : Bool) → eqb (lent_refusal p stripe marks) 0 ≡ b → T (all_below byte_range (report_values (plan_of p) (mend_report p stripe marks)))
-      go true e = below-le numbers byte_range (omega arith) (report_values (plan_of p) (mend_report p stripe marks)) (report-below p stripe marks (eqb-true (lent_refusal p stripe marks) 0 e)).1
-      go false e = rw e tt
+pub report-fits : (p : ℕ) (stripe marks : List ℕ) {r : Report} → Ok r ≡ mend_report p stripe marks → T (all_below byte_range (report_values (plan_of p) r))
+report-fits p stripe marks {r} e = below-le numbers byte_range (omega arith) (report_values (plan_of p) r) (report-printable p stripe marks e).values
 
 -- ---- a bench
 
-pub start_small : (p : ℕ) (stripe marks : List ℕ) {s : Started} → s ≡ started p stripe marks → Small s.bench
-unfolding fresh empty started_by started
-start_small p stripe marks e = subst (λ (s : Started). Small s.bench) (sym e) (go (lent_refusal p stripe marks) refl)
+pub start_small : (p : ℕ) (stripe marks : List ℕ) {b : Bench} (answer : Result Unit ℕ) → stepped b answer ≡ started p stripe marks → Small b
+unfolding fresh empty stepped started_by started
+start_small p stripe marks answer e = subst (λ (s : Stepped Unit). Small s.bench) (sym e) (go (lent_refusal p stripe marks) refl)
   where
     go : (n : ℕ) → lent_refusal p stripe marks ≡ n → Small (started_by n p stripe marks).bench
     go zero e = record { plan = omega (arith, known-below p (lent-fit p stripe marks e).plan-known); level = omega arith }
@@ -68,7 +61,7 @@ module _ (b : Bench) where
   level-most h = go (bench_refusal b unasked) refl (ltb b.level (length (plan_of b.plan).levels)) refl (level_fill b)
     where
       go : (n : ℕ) → bench_refusal b unasked ≡ n → (c : Bool) → ltb b.level (length (plan_of b.plan).levels) ≡ c → (l : Learned)
-          → (unless_refused n b (when c then level_step_by b l else stepped b Top)).bench.level < byte_range
+          → (unless_refused n b (when c then level_step_by b l else stepped b (Ok Top))).bench.level < byte_range
       go zero e true f blocked = h
       go zero e true f failing = h
       go zero e true f (learned cs) =
@@ -76,8 +69,8 @@ module _ (b : Bench) where
       go zero e false f l = h
       go (suc n) e c f l = h
 
-module _ (b : Bench) {s : Stepped} (small : Small b) where
-  pub level-small : s ≡ level_step b → Small s.bench
-  level-small e =
-      subst (λ (s : Stepped). Small s.bench) (sym e)
-      record { plan = subst (λ p. p < byte_range) (sym (level-plan b)) small.plan; level = level-most b small.level }
+pub level-small : (b : Bench) {new : Bench} (answer : Result Step ℕ) → Small b → stepped new answer ≡ level_step b → Small new
+unfolding stepped
+level-small b answer small e =
+    subst (λ (s : Stepped Step). Small s.bench) (sym e)
+    record { plan = subst (λ p. p < byte_range) (sym (level-plan b)) small.plan; level = level-most b small.level }

@@ -1,16 +1,15 @@
 -- What a call of mending leaves, by the report buffer's size and the answer. Assumes nothing.
 use mathlib.Core.Path.{◌≡◌, sym, ap, ◌∙◌}
-use mathlib.Core.Bool.{true, false}
 use mathlib.Core.List.{List}
+use Rattle.std.specs.Prelude.{Result}
 use Prim.Native.Nat.{ℕ}
 use lib.ListN.{length}
-use Rattle.field.specs.Lists.{when◌then◌else◌}
-use Rattle.plans.specs.Plan.{Plan, plan_of}
-use Rattle.plans.specs.Answers.{answer_number}
+use Rattle.plans.specs.Plan.{plan_of}
+use Rattle.plans.specs.Answers.{answer_number, answered, as_number}
 use Rattle.repair.specs.Mending.{mend_report, mend_stripe, mend_marks}
 use Rattle.plans.specs.declared.Report.{Report}
-use Rattle.layout.specs.Layout.{report_size, report_bytes}
-use Rattle.numbers.specs.Numbers.{unfit, refuses}
+use Rattle.layout.specs.Layout.{report_size}
+use Rattle.numbers.specs.Numbers.{unfit}
 use Rattle.shelf.specs.Calls.{report_after, mend_number, mend_stripe_buffer, mend_marks_buffer, mend_report_buffer}
 use Rattle.shelf.proofs.Sizing.{sized-fit, sized-unfit}
 
@@ -29,23 +28,14 @@ module _ (p : ℕ) (stripe marks report : List ℕ) where
     (sym (sized-unfit report_size report _ _ h), (sym (sized-unfit report_size report _ _ h), sym (sized-unfit report_size report _ _ h))),
   )
 
-  module _ (fits : length report ≡ report_size) (mended : Report) (e : mended ≡ mend_report p stripe marks) where
-    pub mends-fit : {n : ℕ} {s m r : List ℕ} → n ≡ answer_number mended.answer → s ≡ mend_stripe p stripe marks → m ≡ mend_marks p stripe marks
-        → r ≡ report_after (plan_of p) mended report → Mended n s m r
-    unfolding mend_number mend_stripe_buffer mend_marks_buffer mend_report_buffer
-    mends-fit en es em er = (
-      en ∙ ap (λ (r : Report). answer_number r.answer) e ∙ sym (sized-fit report_size report _ _ fits),
-      (
-        es ∙ sym (sized-fit report_size report _ _ fits),
-        (em ∙ sym (sized-fit report_size report _ _ fits), er ∙ ap (λ r. report_after (plan_of p) r report) e ∙ sym (sized-fit report_size report _ _ fits)),
-      ),
-    )
-
-module _ (P : Plan) (r : Report) (report : List ℕ) where
-  pub after-refusal : refuses r.answer ≡ true → report ≡ report_after P r report
-  unfolding report_after when◌then◌else◌
-  after-refusal e = sym (ap (λ b. when b then report else report_bytes P r) e)
-
-  pub after-answer : refuses r.answer ≡ false → report_bytes P r ≡ report_after P r report
-  unfolding report_after when◌then◌else◌
-  after-answer e = sym (ap (λ b. when b then report else report_bytes P r) e)
+  pub mends-fit : length report ≡ report_size → (mended : Result Report ℕ) → mended ≡ mend_report p stripe marks → {n : ℕ} {s m r : List ℕ}
+      → n ≡ as_number answer_number (answered mended) → s ≡ mend_stripe p stripe marks → m ≡ mend_marks p stripe marks
+      → r ≡ report_after (plan_of p) mended report → Mended n s m r
+  unfolding mend_number mend_stripe_buffer mend_marks_buffer mend_report_buffer
+  mends-fit fits mended e en es em er = (
+    en ∙ ap (λ r. as_number answer_number (answered r)) e ∙ sym (sized-fit report_size report _ _ fits),
+    (
+      es ∙ sym (sized-fit report_size report _ _ fits),
+      (em ∙ sym (sized-fit report_size report _ _ fits), er ∙ ap (λ r. report_after (plan_of p) r report) e ∙ sym (sized-fit report_size report _ _ fits)),
+    ),
+  )

@@ -1,6 +1,7 @@
 -- A row step on a bench's bytes: nothing changes but the symbols and the row's mark word. Assumes nothing.
 use mathlib.Core.Path.{◌≡◌, refl, sym, ap, ◌∙◌, subst}
 use mathlib.Core.List.{List, ◌++◌}
+use Rattle.std.specs.Prelude.{Result}
 use Prim.Native.Nat.{ℕ, zero, suc, ◌+◌, ◌*◌, ◌<◌, ◌≤◌}
 use native.Mathlib.Omega.{arith}
 use lib.Dec.{ltb}
@@ -9,14 +10,13 @@ use lib.Seq.{sets, set-get_or, set-set, set_out}
 use Rattle.field.proofs.Words.{at_each}
 use Rattle.fills.specs.Fill.{Fill, none, tied, one}
 use Rattle.plans.specs.Plan.{plan_of}
-use Rattle.plans.specs.Answers.{step_number}
+use Rattle.plans.specs.Answers.{step_number, as_number}
 use Rattle.plans.specs.Refusal.{bench_refusal}
 use Rattle.plans.specs.Rooms.{row_room, symbol_room}
 use Rattle.plans.specs.declared.Bench.{Bench}
 use Rattle.plans.specs.declared.Step.{Step}
-use Rattle.plans.specs.declared.Stepped.{Stepped}
 use Rattle.plans.proofs.Parts.{part-back}
-use Rattle.steps.specs.Steps.{stepped, unless_refused, row_fill, put_row, row_step_by, row_step}
+use Rattle.steps.specs.Steps.{Stepped, stepped, unless_refused, row_fill, put_row, row_step_by, row_step}
 use Rattle.steps.specs.Parts.{bench_of}
 use Rattle.steps.proofs.Fit.{Sized}
 use Rattle.words.specs.Words.{byte_range, bytes_of}
@@ -47,14 +47,14 @@ row-marks b r = go (bench_refusal b (ltb r (plan_of b.plan).rows)) (row_fill b r
     go (suc n) f = sym (set-get_or b.marks r 0)
 
 -- the step was taken on the bench b in the bytes l, and left the symbols v and the marks ms
-pub record Taken (l : List ℕ) (row : ℕ) (b : Bench) (v ms : List ℕ) (s : Step) : Type 0 where
+pub record Taken (l : List ℕ) (row : ℕ) (b : Bench) (v ms : List ℕ) (s : Result Step ℕ) : Type 0 where
   pub fits : length l ≡ bench_size
   pub bytes : (i : ℕ) → get_or l i 0 < byte_range
   pub came : b ≡ bench_in l
   pub long : length v ≡ symbol_room
   pub step : stepped (bench_of b.plan b.level v ms b.sums) s ≡ row_step b row
 
-module _ {l : List ℕ} {row : ℕ} {b : Bench} {v ms : List ℕ} {s : Step} (t : Taken l row b v ms s) where
+module _ {l : List ℕ} {row : ℕ} {b : Bench} {v ms : List ℕ} {s : Result Step ℕ} (t : Taken l row b v ms s) where
   -- the bench with these symbols, and with other marks
   abbrev with : List ℕ → Bench
   with ms = bench_of (bench_in l).plan (bench_in l).level v ms (bench_in l).sums
@@ -65,7 +65,7 @@ module _ {l : List ℕ} {row : ℕ} {b : Bench} {v ms : List ℕ} {s : Step} (t 
   marks-are : ms ≡ set (bench_in l).marks row (get_or ms row 0)
   unfolding stepped
   marks-are =
-      let e : ms ≡ (row_step (bench_in l) row).bench.marks = ap (λ (s : Stepped). s.bench.marks) taken in
+      let e : ms ≡ (row_step (bench_in l) row).bench.marks = ap (λ (s : Stepped Step). s.bench.marks) taken in
       e ∙ row-marks (bench_in l) row ∙ ap (λ ms. set (bench_in l).marks row (get_or ms row 0)) (sym e)
 
   -- the bytes with these symbols in their place
@@ -82,7 +82,7 @@ module _ {l : List ℕ} {row : ℕ} {b : Bench} {v ms : List ℕ} {s : Step} (t 
   abbrev Told : ℕ → List ℕ → Type 0
   Told n new = (n ≡ step_answer (λ b. row_step b row) l) × (new ≡ step_buffer (λ b. row_step b row) l)
 
-  module _ {n : ℕ} (number : n ≡ step_number s) where
+  module _ {n : ℕ} (number : n ≡ as_number step_number s) where
     told : {new : List ℕ} → new ≡ bench_bytes (with ms) → Told n new
     unfolding stepped
     told e = steps-fit (λ b. row_step b row) l (bench_in l) (stepped (with ms) s) t.fits refl taken number e

@@ -2,7 +2,7 @@
 #![tactic(auto)]
 
 ghost use Rattle.std.specs.Prelude.{◌≡◌};
-ghost use Rattle.plans.specs.Answers.{verdict_number};
+ghost use Rattle.plans.specs.Answers.{as_number, verdict_number};
 ghost use Rattle.codewords.specs.Codeword.{tested};
 ghost use Rattle.encoding.specs.Data.{encode_refusal, extract_refusal, extract_data};
 ghost use Rattle.interleaved.specs.Interleaved.{interleaved};
@@ -43,7 +43,7 @@ pub extern "C" fn shelf_level_step(bench: &mut [u8]) -> usize
 // Whether a stripe is a codeword.
 #[unsafe(no_mangle)]
 pub extern "C" fn shelf_is_codeword(plan: usize, stripe: &[u8]) -> usize
-    ensures { result ≡ verdict_number (tested plan stripe.now) }
+    ensures { result ≡ as_number verdict_number (tested plan stripe.now) }
 {
     shelf::shelf_is_codeword(plan, stripe)
 }
@@ -51,7 +51,7 @@ pub extern "C" fn shelf_is_codeword(plan: usize, stripe: &[u8]) -> usize
 // Whether a stripe is a codeword of plan 3, by its interleaved form.
 #[unsafe(no_mangle)]
 pub extern "C" fn shelf_is_interleaved(stripe: &[u8]) -> usize
-    ensures { result ≡ verdict_number (interleaved stripe.now) }
+    ensures { result ≡ as_number verdict_number (interleaved stripe.now) }
 {
     shelf::shelf_is_interleaved(stripe)
 }

@@ -1,11 +1,12 @@
 -- How learning a level ends where the weights tell it, how a step ends by its refusal, and a started bench. Assumes nothing.
-use mathlib.Core.Path.{◌≡◌, refl, sym, ap, ◌∙◌, subst}
+use mathlib.Core.Path.{◌≡◌, refl, sym, ap, ap₂, ◌∙◌, subst}
 use mathlib.Core.Bool.{Bool, not}
-use mathlib.Core.List.{List, [], ◌∷◌}
+use mathlib.Core.List.{List, [], ◌∷◌, ◌++◌}
 use Prim.Native.Nat.{ℕ, zero, suc, ◌<◌}
 use native.Mathlib.Omega.{arith}
 use lib.Dec.{T}
-use lib.ListN.{length, replicate, length-map}
+use lib.ListN.{length, drop, replicate, length-map}
+use Rattle.std.specs.Prelude.{Ok, Err}
 use Rattle.field.specs.Lists.{up_from}
 use Rattle.field.proofs.Lists.{length_up}
 use Rattle.fills.specs.Lists.{zeros}
@@ -17,11 +18,11 @@ use Rattle.plans.specs.Plan.{Plan, Level, plan_of, level_of, across}
 use Rattle.plans.specs.Refusal.{lent_refusal}
 use Rattle.plans.specs.Rooms.{row_room, symbol_room, learned_room}
 use Rattle.plans.specs.Tables.{padded}
-use Rattle.steps.specs.Steps.{fresh, empty, started_by, started, lossy, check_fill, blocked, level_fill, stepped, unless_refused}
+use Rattle.steps.specs.Steps.{fresh, empty, started_by, started, lossy, check_fill, blocked, level_fill, Stepped, stepped, unless_refused}
 use Rattle.plans.specs.declared.Bench.{Bench}
-use Rattle.plans.specs.declared.Stepped.{Stepped}
-use Rattle.plans.specs.declared.Step.TheVariants.{Refused}
-use Rattle.plans.specs.declared.Outcome.TheVariants.{Done, Refused as NotStarted}
+use Rattle.plans.specs.declared.Step.{Step}
+use Rattle.steps.specs.Parts.{bench_of}
+use Rattle.plans.proofs.Padded.{copied-over}
 use Rattle.plans.proofs.Spread.{fields, weights-tied}
 use Rattle.steps.proofs.Passing.{Ones, ends-blocked}
 
@@ -71,25 +72,39 @@ module _ (b : Bench) where
 -- ---- refusals
 
 -- a step that is refused, and one that is not
-pub is-refused : (n : ℕ) (b : Bench) (s : Stepped) → (n ≡ 0 → ⊥) → stepped b (Refused n) ≡ unless_refused n b s
+pub is-refused : (n : ℕ) (b : Bench) (s : Stepped Step) → (n ≡ 0 → ⊥) → stepped b (Err n) ≡ unless_refused n b s
 unfolding unless_refused
 is-refused zero b s ne = absurd (ne refl)
 is-refused (suc n) b s ne = refl
 
-pub is-taken : {n : ℕ} (b : Bench) (s : Stepped) → n ≡ 0 → unless_refused n b s ≡ s
+pub is-taken : {n : ℕ} (b : Bench) (s : Stepped Step) → n ≡ 0 → unless_refused n b s ≡ s
 unfolding unless_refused
 is-taken b s e = ap (λ n. unless_refused n b s) e
 
 -- ---- the start
 
 module _ (p : ℕ) (stripe marks : List ℕ) where
-  -- a fresh bench, as it is put together
-  pub started-done : {symbols words : List ℕ} → symbols ≡ padded symbol_room stripe → words ≡ padded row_room marks → lent_refusal p stripe marks ≡ 0
-      → record { bench = record { plan = p; level = 1; symbols = symbols; marks = words; sums = replicate learned_room 0 }; answer = Done } ≡ started p stripe marks
-  unfolding padded fresh started_by started
-  started-done es em e = rw (e, es, em)
+  -- a bench as it is written over another
+  abbrev written : (front words : List ℕ) → Bench → Bench
+  written front words b = record {
+    plan = p;
+    level = 1;
+    symbols = front ++ drop (length stripe) b.symbols;
+    marks = words ++ drop (length marks) b.marks;
+    sums = b.sums;
+  }
 
-  pub started-refused : (n : ℕ) → n ≡ lent_refusal p stripe marks → (n ≡ 0 → ⊥) → record { bench = empty; answer = NotStarted n } ≡ started p stripe marks
+  pub fresh-made : {b : Bench} {front words : List ℕ} → b ≡ empty → front ≡ stripe → words ≡ marks → written front words b ≡ fresh p stripe marks
+  unfolding padded fresh empty
+  fresh-made {front = front} {words} e es em =
+      ap (written front words) e
+      ∙ ap₂ (λ s m. bench_of p 1 s m (replicate learned_room 0)) (copied-over symbol_room stripe es) (copied-over row_room marks em)
+
+  pub started-done : {b : Bench} → b ≡ fresh p stripe marks → lent_refusal p stripe marks ≡ 0 → stepped b (Ok tt) ≡ started p stripe marks
+  unfolding started_by started
+  started-done eb e = rw (e, eb)
+
+  pub started-refused : (n : ℕ) → n ≡ lent_refusal p stripe marks → (n ≡ 0 → ⊥) → stepped empty (Err n) ≡ started p stripe marks
   unfolding started_by started
   started-refused zero e ne = absurd (ne refl)
   started-refused (suc n) e ne = rw (← e)

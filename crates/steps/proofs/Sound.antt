@@ -11,6 +11,7 @@ use lib.Dec.{T, ltb, ltb→lt, lt→ltb, nltb→le}
 use lib.ListN.{length, get_or, length-set}
 use lib.Pow.{pow_pos}
 use lib.Seq.{length-sets, get_or-set_same, get_or-set_other}
+use Rattle.std.specs.Prelude.{Ok}
 use Rattle.field.specs.Lists.{when◌then◌else◌, up_from}
 use Rattle.field.specs.Field.{Field, size, dot}
 use Rattle.field.proofs.Test.{both_left, both_right, both}
@@ -135,7 +136,7 @@ module _ (b : Bench) where
   unfolding when◌then◌else◌ level_step level_step_by unless_refused stepped raise
   level-plan = go (bench_refusal b unasked) (ltb b.level (length P.levels)) (level_fill b)
     where
-      go : (n : ℕ) (c : Bool) (l : Learned) → (unless_refused n b (when c then level_step_by b l else stepped b Top)).bench.plan ≡ b.plan
+      go : (n : ℕ) (c : Bool) (l : Learned) → (unless_refused n b (when c then level_step_by b l else stepped b (Ok Top))).bench.plan ≡ b.plan
       go zero true failing = refl
       go zero true blocked = refl
       go zero true (learned cs) = refl
@@ -195,10 +196,10 @@ module _ (b : Bench) where
     unfolding row_step unless_refused
     row_step_lem r h = ap (λ n. unless_refused n b (row_step_by b r (row_fill b r))) (fit-bench b (ltb r P.rows) f (lt→ltb r P.rows h))
 
-    pub level-step : level_step b ≡ (when ltb b.level (length P.levels) then level_step_by b (level_fill b) else stepped b Top)
+    pub level-step : level_step b ≡ (when ltb b.level (length P.levels) then level_step_by b (level_fill b) else stepped b (Ok Top))
     unfolding unasked level_step unless_refused
     level-step =
-        ap (λ n. unless_refused n b (when ltb b.level (length P.levels) then level_step_by b (level_fill b) else stepped b Top))
+        ap (λ n. unless_refused n b (when ltb b.level (length P.levels) then level_step_by b (level_fill b) else stepped b (Ok Top)))
         (fit-bench b unasked f tt)
 
     -- ---- a filled row
@@ -340,7 +341,7 @@ module _ (b : Bench) where
         subst (λ c. Sound c.bench) (sym (level-step s.fit)) (go (ltb b.level (length P.levels)) refl (level_fill b) refl)
       where
         go : (c : Bool) → ltb b.level (length P.levels) ≡ c → (l : Learned) → level_fill b ≡ l
-            → Sound (when c then level_step_by b l else stepped b Top).bench
+            → Sound (when c then level_step_by b l else stepped b (Ok Top)).bench
         go false q l e = s
         go true q failing e = s
         go true q blocked e = s

@@ -8,14 +8,15 @@ use borrow.Author.Tests.{lt-ltb, le-ltb, eq-eqb, ne_eqb}
 use lib.Dec.{ltb}
 use lib.ListN.{length, get_or, set}
 use lib.Seq.{set-get_or, set-set, get_or-set_same}
+use Rattle.std.specs.Prelude.{Ok}
 use Rattle.field.specs.Lists.{when◌then◌else◌}
 use Rattle.fills.specs.Fill.{Fill, tied, none, one}
 use Rattle.plans.specs.Plan.{plan_of}
-use Rattle.steps.specs.Steps.{stepped, row_fill, put_row, row_step_by, Learned, blocked, failing, learned, level_fill, raise, level_step_by}
+use Rattle.steps.specs.Steps.{Stepped, stepped, row_fill, put_row, row_step_by, Learned, blocked, failing, learned, level_fill, raise, level_step_by}
 use Rattle.steps.specs.Rounds.{Turn, end, clash, more, after_row, after_level, take_turn, go_on, turns}
 use Rattle.steps.specs.Parts.{standing_of}
 use Rattle.plans.specs.declared.Bench.{Bench}
-use Rattle.plans.specs.declared.Stepped.{Stepped}
+use Rattle.plans.specs.declared.Step.{Step}
 use Rattle.plans.specs.declared.Step.TheVariants.{Whole, Filled, Raised, Blocked, Top, Clash}
 use Rattle.plans.specs.declared.Place.TheVariants.{Row, Across}
 use Rattle.steps.proofs.Fit.{BenchFit}
@@ -40,7 +41,7 @@ more-one t k restored h =
 
 module _ (b : Bench) (fit : BenchFit b) (r : ℕ) (inside : r < (plan_of b.plan).rows) where
   -- the rounds after the row's step
-  abbrev after_step : List ℕ → Stepped → Turn
+  abbrev after_step : List ℕ → Stepped Step → Turn
   after_step restored s = after_row (standing_of b r restored) s.answer s.bench
 
   row-turn : (restored : List ℕ) → take_turn (standing_of b r restored) ≡ after_step restored (row_step_by b r (row_fill b r))
@@ -67,7 +68,7 @@ module _ (b : Bench) (fit : BenchFit b) (r : ℕ) (inside : r < (plan_of b.plan)
   unfolding after_row row_step_by stepped go_on when◌then◌else◌
   turn-whole row e z same n restored =
       row-turns n restored (one row) e
-      ∙ ap (λ c. go_on (turns n) (after_step restored (stepped (put_row b r row) (when c then Whole else Filled)))) (eq-eqb (get_or b.marks r 0) 0 z)
+      ∙ ap (λ c. go_on (turns n) (after_step restored (stepped (put_row b r row) (Ok (when c then Whole else Filled))))) (eq-eqb (get_or b.marks r 0) 0 z)
       ∙ ap (λ c. turns n (standing_of c (suc r) restored)) same
 
   pub turn-filled : (row : List ℕ) → row_fill b r ≡ one row → (get_or b.marks r 0 ≡ 0 → ⊥) → (n k : ℕ) (restored : List ℕ) → pred b.level < length restored
@@ -75,14 +76,14 @@ module _ (b : Bench) (fit : BenchFit b) (r : ℕ) (inside : r < (plan_of b.plan)
   unfolding after_row row_step_by stepped go_on when◌then◌else◌
   turn-filled row e nz n k restored h =
       row-turns n (more b.level k restored) (one row) e
-      ∙ ap (λ c. go_on (turns n) (after_step (more b.level k restored) (stepped (put_row b r row) (when c then Whole else Filled)))) (ne_eqb (get_or b.marks r 0) 0 nz)
+      ∙ ap (λ c. go_on (turns n) (after_step (more b.level k restored) (stepped (put_row b r row) (Ok (when c then Whole else Filled))))) (ne_eqb (get_or b.marks r 0) 0 nz)
       ∙ ap (λ l. turns n (standing_of (put_row b r row) (suc r) l)) (more-one b.level k restored h)
 
 -- ---- the level step's turn
 
 module _ (b : Bench) (fit : BenchFit b) where
-  level-turns : (n : ℕ) (restored : List ℕ) (s : Stepped)
-      → (when ltb b.level (length (plan_of b.plan).levels) then level_step_by b (level_fill b) else stepped b Top) ≡ s
+  level-turns : (n : ℕ) (restored : List ℕ) (s : Stepped Step)
+      → (when ltb b.level (length (plan_of b.plan).levels) then level_step_by b (level_fill b) else stepped b (Ok Top)) ≡ s
       → turns (suc n) (standing_of b (plan_of b.plan).rows restored)
       ≡ go_on (turns n) (after_level (standing_of b (plan_of b.plan).rows restored) s.answer s.bench)
   unfolding turns take_turn when◌then◌else◌
@@ -93,28 +94,28 @@ module _ (b : Bench) (fit : BenchFit b) where
       → turns (suc n) (standing_of b (plan_of b.plan).rows restored) ≡ end (standing_of b (plan_of b.plan).rows restored)
   unfolding when◌then◌else◌ stepped after_level go_on
   turn-top e n restored =
-      level-turns n restored (stepped b Top)
-      (ap (λ c. when c then level_step_by b (level_fill b) else stepped b Top) (le-ltb b.level (length (plan_of b.plan).levels) (omega arith)))
+      level-turns n restored (stepped b (Ok Top))
+      (ap (λ c. when c then level_step_by b (level_fill b) else stepped b (Ok Top)) (le-ltb b.level (length (plan_of b.plan).levels) (omega arith)))
 
   module _ (low : b.level < length (plan_of b.plan).levels) where
     below_top : (l : Learned) → level_fill b ≡ l
-        → (when ltb b.level (length (plan_of b.plan).levels) then level_step_by b (level_fill b) else stepped b Top) ≡ level_step_by b l
+        → (when ltb b.level (length (plan_of b.plan).levels) then level_step_by b (level_fill b) else stepped b (Ok Top)) ≡ level_step_by b l
     unfolding when◌then◌else◌
     below_top l e =
-        ap (λ c. when c then level_step_by b (level_fill b) else stepped b Top) (lt-ltb b.level (length (plan_of b.plan).levels) low)
+        ap (λ c. when c then level_step_by b (level_fill b) else stepped b (Ok Top)) (lt-ltb b.level (length (plan_of b.plan).levels) low)
         ∙ ap (level_step_by b) e
 
     pub turn-blocked : level_fill b ≡ blocked → (n : ℕ) (restored : List ℕ)
         → turns (suc n) (standing_of b (plan_of b.plan).rows restored) ≡ end (standing_of b (plan_of b.plan).rows restored)
     unfolding level_step_by stepped after_level go_on
-    turn-blocked e n restored = level-turns n restored (stepped b Blocked) (below_top blocked e)
+    turn-blocked e n restored = level-turns n restored (stepped b (Ok Blocked)) (below_top blocked e)
 
     pub turn-failing : level_fill b ≡ failing → (n : ℕ) (restored : List ℕ)
         → turns (suc n) (standing_of b (plan_of b.plan).rows restored) ≡ clash (Across (suc b.level))
     unfolding level_step_by stepped after_level go_on
-    turn-failing e n restored = level-turns n restored (stepped b Clash) (below_top failing e)
+    turn-failing e n restored = level-turns n restored (stepped b (Ok Clash)) (below_top failing e)
 
     pub turn-learned : (cs : List (List ℕ)) → level_fill b ≡ learned cs → (n : ℕ) (restored : List ℕ)
         → turns (suc n) (standing_of b (plan_of b.plan).rows restored) ≡ turns n (standing_of (raise b cs) 0 restored)
     unfolding level_step_by stepped after_level go_on
-    turn-learned cs e n restored = level-turns n restored (stepped (raise b cs) Raised) (below_top (learned cs) e)
+    turn-learned cs e n restored = level-turns n restored (stepped (raise b cs) (Ok Raised)) (below_top (learned cs) e)

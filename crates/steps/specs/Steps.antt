@@ -1,5 +1,5 @@
 -- The bench and its steps.
-use Rattle.std.specs.Prelude.{ℕ, zero, suc, ◌*◌, ◌-◌, Bool, not, List, [], ◌∷◌, ◌++◌, map, eqb, ltb, length, take, drop, get_or, set, replicate}
+use Rattle.std.specs.Prelude.{ℕ, zero, suc, ◌*◌, ◌-◌, Bool, not, List, [], ◌∷◌, ◌++◌, map, eqb, ltb, length, take, drop, get_or, set, replicate, Result, Ok, Err}
 use Rattle.std.proofs.lemmas.List.Edits.{sets}
 use Rattle.field.specs.Lists.{when◌then◌else◌, up_from}
 use Rattle.fills.specs.Lists.{any, zeros}
@@ -8,11 +8,16 @@ use Rattle.plans.specs.Plan.{Plan, plan_of, level_of, checks_to, row_at, marks_a
 use Rattle.plans.specs.Refusal.{sums_at, unasked, lent_refusal, bench_refusal}
 use Rattle.plans.specs.Rooms.{row_room, symbol_room, sum_room, learned_room}
 use Rattle.plans.specs.declared.Bench.{Bench}
-use Rattle.plans.specs.declared.Stepped.{Stepped}
-use Rattle.plans.specs.declared.Started.{Started}
 use Rattle.plans.specs.declared.Step.{Step}
-use Rattle.plans.specs.declared.Step.TheVariants.{Whole, Filled, Tied, Raised, Blocked, Top, Clash, Refused}
-use Rattle.plans.specs.declared.Outcome.TheVariants.{Done, Refused as Undone}
+use Rattle.plans.specs.declared.Step.TheVariants.{Whole, Filled, Tied, Raised, Blocked, Top, Clash}
+
+-- the bench that a call leaves, and what it answers: a refusal by its number
+pub record Stepped (A : Type 0) : Type 0 where
+  pub bench : Bench
+  pub answer : Result A ℕ
+
+unfoldable pub stepped : {A : Type 0} → Bench → Result A ℕ → Stepped A
+stepped b s = record { bench = b; answer = s }
 
 -- ---- start
 
@@ -30,22 +35,19 @@ fresh p stripe marks = record {
 unfoldable pub empty : Bench
 empty = record { plan = 0; level = 0; symbols = replicate symbol_room 0; marks = replicate row_room 0; sums = replicate learned_room 0 }
 
-unfoldable pub started_by : (refusal : ℕ) → ℕ → List ℕ → List ℕ → Started
-started_by zero p stripe marks = record { bench = fresh p stripe marks; answer = Done }
-started_by (suc n) p stripe marks = record { bench = empty; answer = Undone (suc n) }
+unfoldable pub started_by : (refusal : ℕ) → ℕ → List ℕ → List ℕ → Stepped Unit
+started_by zero p stripe marks = stepped (fresh p stripe marks) (Ok tt)
+started_by (suc n) p stripe marks = stepped empty (Err (suc n))
 
-unfoldable pub started : ℕ → List ℕ → List ℕ → Started
+unfoldable pub started : ℕ → List ℕ → List ℕ → Stepped Unit
 started p stripe marks = started_by (lent_refusal p stripe marks) p stripe marks
 
 -- ---- a step's end
 
-unfoldable pub stepped : Bench → Step → Stepped
-stepped b s = record { bench = b; answer = s }
-
 -- a refused step leaves the bench as it was
-unfoldable pub unless_refused : (refusal : ℕ) → Bench → Stepped → Stepped
+unfoldable pub unless_refused : (refusal : ℕ) → Bench → Stepped Step → Stepped Step
 unless_refused zero b s = s
-unless_refused (suc n) b s = stepped b (Refused (suc n))
+unless_refused (suc n) b s = stepped b (Err (suc n))
 
 -- ---- row step
 
@@ -65,12 +67,12 @@ put_row b r row = record {
   sums = b.sums;
 }
 
-unfoldable pub row_step_by : Bench → ℕ → Fill → Stepped
-row_step_by b r none = stepped b Clash
-row_step_by b r tied = stepped b Tied
-row_step_by b r (one row) = stepped (put_row b r row) (when eqb (get_or b.marks r 0) 0 then Whole else Filled)
+unfoldable pub row_step_by : Bench → ℕ → Fill → Stepped Step
+row_step_by b r none = stepped b (Ok Clash)
+row_step_by b r tied = stepped b (Ok Tied)
+row_step_by b r (one row) = stepped (put_row b r row) (Ok (when eqb (get_or b.marks r 0) 0 then Whole else Filled))
 
-unfoldable pub row_step : Bench → ℕ → Stepped
+unfoldable pub row_step : Bench → ℕ → Stepped Step
 row_step b r = unless_refused (bench_refusal b (ltb r (plan_of b.plan).rows)) b (row_step_by b r (row_fill b r))
 
 -- ---- level step
@@ -121,12 +123,12 @@ raise b cs =
       sums = keep_sums (length (checks_to P b.level)) (map (new_sums cs) (up_from 0 P.rows)) b.sums;
     }
 
-unfoldable pub level_step_by : Bench → Learned → Stepped
-level_step_by b failing = stepped b Clash
-level_step_by b blocked = stepped b Blocked
-level_step_by b (learned cs) = stepped (raise b cs) Raised
+unfoldable pub level_step_by : Bench → Learned → Stepped Step
+level_step_by b failing = stepped b (Ok Clash)
+level_step_by b blocked = stepped b (Ok Blocked)
+level_step_by b (learned cs) = stepped (raise b cs) (Ok Raised)
 
-unfoldable pub level_step : Bench → Stepped
+unfoldable pub level_step : Bench → Stepped Step
 level_step b =
     unless_refused (bench_refusal b unasked) b
-    (when ltb b.level (length (plan_of b.plan).levels) then level_step_by b (level_fill b) else stepped b Top)
+    (when ltb b.level (length (plan_of b.plan).levels) then level_step_by b (level_fill b) else stepped b (Ok Top))

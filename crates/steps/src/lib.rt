@@ -1,43 +1,32 @@
 // A bench started.
 #![tactic(auto)]
 
-pub mod copies;
-
 ghost use Rattle.std.specs.Prelude.{◌≡◌};
-ghost use Rattle.steps.specs.Steps.{started};
+ghost use Rattle.plans.specs.Answers.{numbered};
+ghost use Rattle.plans.specs.Refusal.{lent_refusal};
+ghost use Rattle.steps.specs.Steps.{fresh, empty, stepped, started};
 
-use plans::{Bench, LEARNED, Outcome, ROWS, SYMBOLS, Started};
+use plans::{Bench, Refusal};
 
-// A bench at level 1 that holds the stripe and the marks as lent, all sums zero; or, where they are refused, a bench of zeros.
-// Stripe and marks stay as they are.
-pub fn start(plan: usize, stripe: &[u8], marks: &[u64]) -> Started
-    ensures { result ≡ started plan stripe.now marks.now }
+// Makes of a bench of zeros one at level 1 that holds the stripe and the marks as lent, all sums zero.
+pub fn make_fresh(plan: usize, stripe: &[u8], marks: &[u64], bench: &mut Bench)
+    requires fits { lent_refusal plan stripe.now marks.now ≡ 0 }
+    requires blank { bench.old ≡ empty }
+    ensures { bench.new ≡ fresh plan stripe.now marks.now }
 {
-    let number = refusals::lent_refusal(plan, stripe, marks);
-    if number == 0 {
-        let symbols = copies::symbols_of(stripe);
-        let words = copies::words_of(marks);
-        let bench = Bench {
-            plan: plan,
-            level: 1,
-            symbols: symbols,
-            marks: words,
-            sums: [0; LEARNED],
-        };
-        return Started {
-            bench: bench,
-            answer: Outcome::Done,
-        };
-    }
-    let bench = Bench {
-        plan: 0,
-        level: 0,
-        symbols: [0; SYMBOLS],
-        marks: [0; ROWS],
-        sums: [0; LEARNED],
-    };
-    Started {
-        bench: bench,
-        answer: Outcome::Refused(number),
-    }
+    bench.plan = plan;
+    bench.level = 1;
+    bench.symbols[..stripe.len()].copy_from_slice(stripe);
+    bench.marks[..marks.len()].copy_from_slice(marks);
+}
+
+// Makes a bench at level 1 that holds the stripe and the marks as lent, all sums zero; or, where they are refused, a bench of zeros.
+// Stripe and marks stay as they are.
+pub fn start(plan: usize, stripe: &[u8], marks: &[u64], bench: &mut Bench) -> Result<(), Refusal>
+    ensures { stepped bench.new (numbered result) ≡ started plan stripe.now marks.now }
+{
+    *bench = Bench::EMPTY;
+    refusals::lent_refusal(plan, stripe, marks)?;
+    make_fresh(plan, stripe, marks, bench);
+    Ok(())
 }

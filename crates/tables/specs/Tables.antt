@@ -1,15 +1,14 @@
--- What the code's numbers of a plan are, and the tables that are lent for it.
-use Rattle.std.specs.Prelude.{ℕ, ◌+◌, ◌*◌, ◌^◌, ◌≡◌, List, map, length}
+-- What the code's numbers of a plan are.
+use Rattle.std.specs.Prelude.{◌+◌, ◌*◌, ◌^◌, ◌≡◌, map, length}
 use Rattle.field.specs.Lists.{up_from}
-use Rattle.field.specs.Field.{Field, size}
-use Rattle.field.specs.Ours.{field_of, table_of}
+use Rattle.field.specs.Field.{Field}
+use Rattle.field.specs.Ours.{field_of}
+use Rattle.field.specs.declared.Gf.{Gf}
 use Rattle.plans.specs.Plan.{Plan, level_of, checks_to, word_bytes, file_length}
-use Rattle.plans.specs.Tables.{check_table}
 use Rattle.tables.specs.declared.Facts.{Facts}
 
--- a field's number is its size, and names it
-pub record FieldNumber (F : Field) (q : ℕ) : Type 0 where
-  pub its-size : q ≡ size F
+-- the code's field is the plan's
+pub record FieldNumber (F : Field) (q : Gf) : Type 0 where
   pub names : field_of q ≡ F
 
 -- the code's facts are the plan's; what goes by level stands at the level's number, from 0 to 3
@@ -25,8 +24,3 @@ pub record FactsOf (P : Plan) (f : Facts) : Type 0 where
   pub totals : f.totals ≡ map (λ t. length (level_of P t).weights) (up_from 0 4)
   pub carried : f.carried ≡ Rattle.plans.specs.Plan.carried P
   pub file-length : f.file_length ≡ file_length P
-
--- the table of the plan's field, and its row checks
-pub record Lent (P : Plan) (table coefficients : List ℕ) : Type 0 where
-  pub products : table ≡ table_of (size P.field)
-  pub checks : coefficients ≡ check_table P

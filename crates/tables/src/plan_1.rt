@@ -1,9 +1,9 @@
 // Plan 1's numbers and tables.
 use crate::Facts;
-use plans::ROWS;
+use field::Gf;
 
 pub const FACTS: Facts = Facts {
-    field: 2,
+    field: Gf::Two,
     rows: 3,
     columns: 7,
     symbols: 21,
@@ -17,11 +17,11 @@ pub const FACTS: Facts = Facts {
 };
 
 // Row checks, one to a line, levels in order: parity; the bits of the locations.
-pub const CHECKS: [u8; 28] = *b"\
+pub static CHECKS: [u8; 28] = *b"\
     \x01\x01\x01\x01\x01\x01\x01\
     \x01\x00\x01\x00\x01\x00\x01\
     \x00\x01\x01\x00\x00\x01\x01\
     \x00\x00\x00\x01\x01\x01\x01";
 
-// The mark words of the check places, and zeros behind them.
-pub const PLACES: [u64; ROWS] = [0x40, 0x40, 0x74, 0, 0, 0, 0, 0, 0, 0, 0, 0];
+// The mark words of the check places.
+pub static PLACES: [u64; 3] = [0x40, 0x40, 0x74];

@@ -1,9 +1,9 @@
 // Plan 4's numbers and tables.
 use crate::Facts;
-use plans::ROWS;
+use field::Gf;
 
 pub const FACTS: Facts = Facts {
-    field: 256,
+    field: Gf::Bytes,
     rows: 12,
     columns: 24,
     symbols: 288,
@@ -17,7 +17,7 @@ pub const FACTS: Facts = Facts {
 };
 
 // Row checks, one to a line, levels in order: powers 0 and 1 of the locations; 2 and 3; 4 to 8.
-pub const CHECKS: [u8; 216] = *b"\
+pub static CHECKS: [u8; 216] = *b"\
     \x01\x01\x01\x01\x01\x01\x01\x01\x01\x01\x01\x01\x01\x01\x01\x01\x01\x01\x01\x01\x01\x01\x01\x01\
     \x01\x02\x04\x08\x10\x20\x40\x80\x1d\x3a\x74\xe8\xcd\x87\x13\x26\x4c\x98\x2d\x5a\xb4\x75\xea\xc9\
     \x01\x04\x10\x40\x1d\x74\xcd\x13\x4c\x2d\xb4\xea\x8f\x06\x18\x60\x9d\x4e\x25\x94\x6a\xb5\xee\x9f\
@@ -29,7 +29,7 @@ pub const CHECKS: [u8; 216] = *b"\
     \x01\x1d\x4c\x8f\x9d\x6a\x46\x5d\x5f\x65\xfd\xfe\xd9\x0d\x81\x3b\x85\x4f\xa8\x49\xe6\xfc\xe3\x95";
 
 // The mark words of the check places.
-pub const PLACES: [u64; ROWS] = [
+pub static PLACES: [u64; 12] = [
     0xc00000, 0xc00000, 0xc00000, 0xc00000, 0xc00000, 0xc00000, 0xc00000, 0xc00000, 0xc00000,
     0xf00000, 0xf00000, 0xff8000,
 ];

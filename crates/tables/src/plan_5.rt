@@ -1,9 +1,9 @@
 // Plan 5's numbers and tables.
 use crate::Facts;
-use plans::ROWS;
+use field::Gf;
 
 pub const FACTS: Facts = Facts {
-    field: 2,
+    field: Gf::Two,
     rows: 8,
     columns: 64,
     symbols: 512,
@@ -18,7 +18,7 @@ pub const FACTS: Facts = Facts {
 
 // Row checks, one to two lines (columns 0 to 30, 31 to 63), levels in order: parity and the bits of the locations; of their cubes; of their
 // fifth powers.
-pub const CHECKS: [u8; plans::CHECKS] = *b"\
+pub static CHECKS: [u8; 1216] = *b"\
     \x01\x01\x01\x01\x01\x01\x01\x01\x01\x01\x01\x01\x01\x01\x01\x01\x01\x01\x01\x01\x01\x01\x01\x01\x01\x01\x01\x01\x01\x01\x01\
     \x01\x01\x01\x01\x01\x01\x01\x01\x01\x01\x01\x01\x01\x01\x01\x01\x01\x01\x01\x01\x01\x01\x01\x01\x01\x01\x01\x01\x01\x01\x01\x01\x01\
     \x01\x00\x00\x00\x00\x00\x01\x00\x00\x00\x00\x01\x01\x00\x00\x00\x01\x00\x01\x00\x00\x01\x01\x01\x01\x00\x01\x00\x00\x00\x01\
@@ -58,8 +58,8 @@ pub const CHECKS: [u8; plans::CHECKS] = *b"\
     \x00\x01\x01\x01\x01\x01\x01\x00\x01\x00\x01\x01\x01\x00\x00\x00\x01\x01\x00\x00\x01\x01\x01\x00\x01\x01\x00\x00\x00\x00\x00\
     \x01\x01\x01\x01\x00\x00\x01\x00\x00\x01\x00\x01\x00\x01\x00\x00\x01\x01\x00\x01\x00\x00\x00\x00\x01\x00\x00\x00\x01\x00\x01\x01\x00";
 
-// The mark words of the check places, and zeros behind them.
-pub const PLACES: [u64; ROWS] = [
+// The mark words of the check places.
+pub static PLACES: [u64; 8] = [
     0x800000000000003f,
     0x800000000000003f,
     0x800000000000003f,
@@ -68,8 +68,4 @@ pub const PLACES: [u64; ROWS] = [
     0x800000000000003f,
     0x800000000000003f,
     0x800000000003ffff,
-    0,
-    0,
-    0,
-    0,
 ];

@@ -1,5 +1,5 @@
 -- The text that `mend` prints, for any bytes that it reads.
-use Rattle.std.specs.Prelude.{ℕ, zero, suc, ◌+◌, ◌/◌, ◌%◌, Bool, eqb, leb, ltb, replicate}
+use Rattle.std.specs.Prelude.{ℕ, zero, suc, ◌+◌, ◌/◌, ◌%◌, Bool, eqb, leb, ltb, replicate, Result, Ok, Err}
 use Prim.Native.Char.{code}
 use Prim.Native.String.{String, [] as ε, ◌∷◌ as ◌∶◌}
 use mathlib.Core.List.{List, [], ◌∷◌, ◌++◌, flat_map}
@@ -14,7 +14,8 @@ use Rattle.files.specs.File.{plan_in, marks_in, symbols_in, file_refusal}
 use Rattle.plans.specs.declared.Place.{Place}
 use Rattle.plans.specs.declared.Place.TheVariants.{Row, Across}
 use Rattle.plans.specs.declared.Answer.{Answer}
-use Rattle.plans.specs.declared.Answer.TheVariants.{Restored, Stuck, Clash, Refused}
+use Rattle.plans.specs.declared.Report.{Report}
+use Rattle.plans.specs.declared.Answer.TheVariants.{Restored, Stuck, Clash}
 
 -- ---- bytes
 
@@ -84,14 +85,16 @@ unfoldable pub answer_text : Answer → (values rows : List ℕ) → List ℕ
 answer_text Restored values rows = end_text values ++ line_end ++ rows
 answer_text Stuck values rows = end_text values ++ line_end ++ rows
 answer_text (Clash place) values rows = place_text place values ++ line_end
-answer_text (Refused n) values rows = line_end
+
+-- what follows the plan: the answer's number and text
+unfoldable pub told_text : Plan → Result Report ℕ → (rows : List ℕ) → List ℕ
+told_text P (Ok r) rows = item " answer " (answer_number r.answer) ++ answer_text r.answer (report_values P r) rows
+told_text P (Err n) rows = item " answer " n ++ line_end
 
 unfoldable pub mend_text : ℕ → (stripe marks : List ℕ) → List ℕ
 mend_text p stripe marks =
     let P = plan_of p in
-    let r = mend_report p stripe marks in
-    item "plan " p ++ item " answer " (answer_number r.answer)
-    ++ answer_text r.answer (report_values P r) (grid P (mend_stripe p stripe marks) (mend_marks p stripe marks))
+    item "plan " p ++ told_text P (mend_report p stripe marks) (grid P (mend_stripe p stripe marks) (mend_marks p stripe marks))
 
 -- what is printed for a file
 unfoldable pub printed : List ℕ → List ℕ

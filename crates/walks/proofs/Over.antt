@@ -2,16 +2,21 @@
 -- step Blocked. Assumes nothing.
 use mathlib.Core.Path.{◌≡◌, refl, sym, ap, ap₂, ◌∙◌}
 use mathlib.Core.Logic.{◌≢◌, ◌⊎◌, ⊎_elim}
-use mathlib.Core.Bool.{Bool, true, false, not, ◌&&◌, ◌||◌, and-false, not-not}
-use mathlib.Core.List.{List, map}
+use mathlib.Core.Bool.{Bool, true, false, not, ◌&&◌}
+use mathlib.Core.List.{List, [], ◌∷◌, map}
 use Prim.Native.Nat.{ℕ, zero, suc, ◌+◌, ◌<◌, ◌≤◌}
 use native.Mathlib.Omega.{arith}
-use borrow.Author.Tests.{ltb-true, le-ltb, ne_eqb}
+use borrow.Author.Tests.{ltb-true, ne_eqb}
 use lib.Count.{ones_in, ones}
 use lib.Dec.{T, eqb, ltb}
-use lib.ListN.{length, get_or}
+use lib.ListN.{length, get_or, take, length-map}
+use lib.Seq.{length-take-le, ext_get_or, get_or-take}
+use Rattle.std.specs.List.{list_all}
 use Rattle.field.specs.Lists.{when◌then◌else◌, up_from}
-use Rattle.field.proofs.Lists.{map-up-same}
+use Rattle.field.specs.Field.{size, gf2}
+use Rattle.field.specs.Ours.{field_of}
+use Rattle.field.specs.declared.Gf.TheVariants.{Two}
+use Rattle.field.proofs.Lists.{map-up-same, length_up, get_or-map-below}
 use Rattle.fills.specs.Lists.{all, only}
 use Rattle.fills.specs.Marks.{bits_of}
 use Rattle.fills.specs.Fill.{tied}
@@ -25,13 +30,14 @@ use Rattle.plans.specs.Tables.{tied_by_count}
 use Rattle.tables.specs.Tables.{FactsOf}
 use Rattle.tables.specs.declared.Facts.{Facts}
 use Rattle.plans.specs.declared.Bench.{Bench}
-use Rattle.plans.proofs.Scan.{true-and, up-false, up-each}
+use Rattle.plans.proofs.Scan.{true-and, up-each}
 use Rattle.plans.proofs.Rows.{row-end}
 use Rattle.plans.proofs.Plans.{shape}
 use Rattle.plans.proofs.Spread.{fields, first-spread}
 use Rattle.steps.specs.Steps.{row_fill, lossy, blocked, level_fill}
 use Rattle.steps.specs.Rounds.{end, turns}
 use Rattle.steps.specs.Parts.{bench_of, standing_of}
+use Rattle.rows.proofs.Lending.{two-sized}
 use Rattle.walks.specs.Walk.{over_marked}
 use Rattle.steps.proofs.Levels.{checks-le, sums-length}
 use Rattle.steps.proofs.Sound.{Sound}
@@ -40,30 +46,41 @@ use Rattle.steps.proofs.Turns.{turn-tied, turn-blocked}
 
 -- ---- the code's test, m being the number of sums
 
+-- the first n words are those of the rows
+pub front-at : (n : ℕ) (l : List ℕ) → n ≤ length l → take n l ≡ map (λ r. get_or l r 0) (up_from 0 n)
+front-at n l h =
+    let long = length-take-le n l h in
+    ext_get_or 0 (take n l) (map (λ r. get_or l r 0) (up_from 0 n)) (long ∙ sym (length-map (up_from 0 n) _ ∙ length_up 0 n))
+    (λ i below. let inside : i < n = omega (arith, long) in
+    get_or-take n l i 0 inside ∙ sym (get_or-map-below (λ r. get_or l r 0) n i 0 inside))
+
+all-map : (test : ℕ → Bool) (g : ℕ → ℕ) (rs : List ℕ) → list_all test (map g rs) ≡ all (λ r. test (g r)) rs
+unfolding all
+all-map test g [] = refl
+all-map test g (r ∷ rs) = ap (λ b. test (g r) && b) (all-map test g rs)
+
 module _ {P : Plan} {f : Facts} {m : ℕ} (is : FactsOf P f) (count : m ≡ length (checks_to P 1)) (marks : List ℕ) where
-  -- a count tells in this plan
-  abbrev tells : Bool
-  tells = not (eqb f.field 2) || eqb m 1
+  -- over bits a count tells where there is one sum
+  sized-two : f.field ≡ Two → eqb (size P.field) 2 ≡ true
+  unfolding field_of size gf2
+  sized-two e = rw (← is.field.names, e)
 
-  abbrev over : ℕ → Bool
-  over r = ltb m (ones (get_or marks r 0))
+  sized-other : f.field ≢ Two → eqb (size P.field) 2 ≡ false
+  sized-other ne = ne_eqb (size P.field) 2 (λ two. ne (two-sized f.field (ap size is.field.names ∙ two)))
 
-  by-numbers : {a b : Bool} → tells ≡ a → all over (up_from 0 f.rows) ≡ b → (a && b) ≡ over_marked P marks
+  pub over-bits : f.field ≡ Two → m ≢ 1 → false ≡ over_marked P marks
   unfolding tied_by_count over_marked
-  by-numbers ea eb = sym (ap₂ ◌&&◌ ea eb) ∙ rw (is.field.its-size, is.rows, count)
+  over-bits e many = rw (sized-two e, ← count, ne_eqb m 1 many)
 
-  -- over bits it does where there is one sum
-  tells-bits : {many : Bool} → f.field ≡ 2 → not (eqb m 1) ≡ many → tells ≡ not many
-  tells-bits e h = rw (e, ← h) (sym (not-not (eqb m 1)))
+  tells : ((f.field ≡ Two) × (m ≡ 1)) ⊎ (f.field ≢ Two) → tied_by_count P ≡ true
+  unfolding tied_by_count
+  tells = ⊎_elim (λ w. rw (sized-two w.0, ← count, w.1)) (λ ne. rw (sized-other ne))
 
-  pub over-bits : f.field ≡ 2 → not (eqb m 1) ≡ true → false ≡ over_marked P marks
-  over-bits e many = by-numbers (tells-bits e many) refl
-
-  pub over-not : (r : ℕ) → r < f.rows → ones (get_or marks r 0) ≤ m → false ≡ over_marked P marks
-  over-not r h few = sym (and-false tells) ∙ by-numbers refl (up-false over f.rows r h (le-ltb _ _ few))
-
-  pub over-all : ((f.field ≡ 2) × (not (eqb m 1) ≡ false)) ⊎ (f.field ≢ 2) → all over (up_from 0 f.rows) ≡ true → true ≡ over_marked P marks
-  over-all t each = by-numbers {a = true} (⊎_elim (λ w. tells-bits w.0 w.1) (λ ne. rw (ne_eqb f.field 2 ne)) t) each
+  pub over-all : ((f.field ≡ Two) × (m ≡ 1)) ⊎ (f.field ≢ Two) → f.rows ≤ length marks
+      → list_all (λ w. ltb m (ones w)) (take f.rows marks) ≡ over_marked P marks
+  unfolding over_marked
+  over-all t enough =
+      rw (tells t, front-at f.rows marks enough, all-map (λ w. ltb m (ones w)) (λ r. get_or marks r 0) (up_from 0 f.rows), is.rows, count)
 
 -- what it says
 pub over-each : (P : Plan) (marks : List ℕ) → over_marked P marks ≡ true

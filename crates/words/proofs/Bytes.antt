@@ -1,16 +1,19 @@
 -- Words of n bytes: written and read they are the same, and so are bytes read and written. Assumes nothing.
 use mathlib.Core.Path.{◌≡◌, refl, sym, ap, ap₂, ◌∙◌, subst}
-use mathlib.Core.List.{List, [], ◌∷◌, ◌++◌, map, flat_map, append_assoc}
+use mathlib.Core.List.{List, [], ◌∷◌, ◌++◌, map, flat_map, append-nil, append_assoc}
 use Prim.Native.Nat.{ℕ, zero, suc, ◌+◌, ◌-◌, ◌*◌, ◌/◌, ◌%◌, ◌^◌, ◌≤◌, ◌<◌}
-use native.Mathlib.Nat.{add-suc, add_comm, mul-zero, mul-suc, mul-le-mul_left, div-one, div-div-eq-div-mul, div-lt_iff_lt-mul, pow-suc, pow-succ', pow-le-pow_right, zero-lt-suc, not-suc-le-zero, le_of_suc-le-suc, le_of_eq, le_trans}
+use native.Mathlib.Nat.{add-suc, add_comm, mul-zero, mul-suc, mul-le-mul_left, div-one, div-div-eq-div-mul, div-lt_iff_lt-mul, pow-suc, pow-succ', zero-lt-suc, not-suc-le-zero, le_of_suc-le-suc, le_of_eq, le_trans}
 use native.Mathlib.Numerals.{add-one}
 use native.Mathlib.Omega.{arith}
-use lib.ListN.{length, get_or, take, drop, length-map, length-append}
+use mir.Syntax.{w8}
+use mir.Val.{Fits}
+use lib.ListN.{length, get_or, take, drop, length-map, length-append, length-take, get_or-append, take-append-drop}
 use lib.Pow.{pow-add, pow_mono}
-use lib.Seq.{get_or-append-add, drop-cons, take-add, drop-drop}
+use lib.Seq.{get_or-append-add, get_or-append_seam, drop-cons, take-add, drop-drop}
 use Rattle.field.specs.Lists.{up_from}
 use Rattle.field.proofs.Lists.{length_up, get_or-map-below}
 use Rattle.field.proofs.Words.{EachBelow, each_at}
+use Rattle.words.proofs.Stores.{part_length}
 use Rattle.words.specs.Words.{byte_range, word_bits, bytes_of, number_at, words_at}
 
 -- ---- a number's bytes
@@ -57,6 +60,21 @@ unfolding number_at
 word-behind zero a l i = refl
 word-behind (suc n) a l i =
     ap₂ (λ b m. b + byte_range * m) (get_or-append-add a l i 0) (ap (number_at n (a ++ l)) (sym (add-suc (length a) i)) ∙ word-behind n a l (suc i))
+
+-- a word that is read for itself
+word-front : (n : ℕ) (a b : List ℕ) (i : ℕ) → i + n ≤ length a → number_at n (a ++ b) i ≡ number_at n a i
+unfolding number_at
+word-front zero a b i h = refl
+word-front (suc n) a b i h = ap₂ (λ x m. x + byte_range * m) (get_or-append a b 0 i (omega arith)) (word-front n a b (suc i) (omega arith))
+
+pub word-of-part : (i n : ℕ) (l : List ℕ) → i + n ≤ length l → number_at (length (take (i + n - i) (drop i l))) (take (i + n - i) (drop i l)) 0 ≡ number_at n l i
+word-of-part i n l h =
+    let part = take (i + n - i) (drop i l) in
+    let rest = drop (i + n - i) (drop i l) in
+    let long : length part ≡ n = part_length i n l h in
+    let front : length (take i l) + 0 ≡ i = simp length-take (omega arith) in
+    ap (λ k. number_at k part 0) long ∙ sym (word-front n part rest 0 (omega arith)) ∙ sym (word-behind n (take i l) (part ++ rest) 0)
+    ∙ ap₂ (number_at n) (ap (λ k. take i l ++ k) (take-append-drop (i + n - i) (drop i l)) ∙ take-append-drop i l) front
 
 bytes_word : (n x : ℕ) (l : List ℕ) → x < byte_range ^ n → number_at n (bytes_of n x ++ l) 0 ≡ x
 unfolding bytes_of number_at
@@ -134,43 +152,48 @@ module _ (file : List ℕ) (bytes : EachBelow byte_range file) where
 
 -- ---- a loop that reads a number, from its high byte down
 
--- the last i of the n bytes from `at` on are read
-pub record Reading (bytes : List ℕ) (at n i word : ℕ) : Type 0 where
-  pub within : i ≤ n
-  pub small : word < byte_range ^ i
-  pub number : word ≡ number_at i bytes (at + (n - i))
+-- behind the bytes that are left stand those that were read
+pub record Reading (bytes left : List ℕ) (word : ℕ) : Type 0 where
+  pub passed : List ℕ
+  pub parts : bytes ≡ left ++ passed
+  pub small : word < byte_range ^ length passed
+  pub number : word ≡ number_at (length passed) passed 0
 
-module _ (bytes : List ℕ) (at n : ℕ) where
-  pub reading-starts : Reading bytes at n 0 0
+pub reading-starts : (bytes : List ℕ) → Reading bytes bytes 0
+unfolding number_at
+reading-starts bytes = record { passed = []; parts = sym (append-nil bytes); small = omega arith; number = refl }
+
+module _ {bytes rest : List ℕ} {word : ℕ} (h : Reading bytes rest word) (left : List ℕ) (b : ℕ) (e : rest ≡ left ++ (b ∷ []))
+    (bytes-fit : (i : ℕ) → Fits w8 (get_or bytes i 0)) where
+  parted : bytes ≡ left ++ b ∷ h.passed
+  parted = h.parts ∙ ap (λ l. l ++ h.passed) e ∙ append_assoc left (b ∷ []) h.passed
+
+  byte : b < byte_range
+  byte = rw (ap (λ l. get_or l (length left) 0) parted ∙ get_or-append_seam left b h.passed 0) at (bytes-fit (length left)).fits
+
+  grown : word * byte_range + b < byte_range ^ suc (length h.passed)
+  grown = omega (arith, pow-suc byte_range (length h.passed), h.small, byte)
+
+  -- nothing is lost in a word of the code
+  pub reading-fits : 8 * length bytes ≤ word_bits → word * byte_range + b < 2 ^ word_bits
+  reading-fits few =
+      let all = ap length parted ∙ length-append left (b ∷ h.passed) in
+      let room : 8 * suc (length h.passed) ≤ word_bits = omega arith in
+      le_trans grown (le_trans (le_of_eq (byte_power (suc (length h.passed)))) (pow_mono room))
+
+  pub reading-turns : Reading bytes left (word * byte_range + b)
   unfolding number_at
-  reading-starts = record { within = omega arith; small = omega arith; number = refl }
+  reading-turns = record {
+    passed = b ∷ h.passed;
+    parts = parted;
+    small = grown;
+    number =
+        ap (λ m. m * byte_range + b) (h.number ∙ sym (word-behind (length h.passed) (b ∷ []) h.passed 0))
+        ∙ turned (number_at (length h.passed) (b ∷ h.passed) 1);
+  }
+    where
+      turned : (m : ℕ) → m * byte_range + b ≡ b + byte_range * m
+      turned m = omega arith
 
-  module _ {i word : ℕ} (h : Reading bytes at n i word) (more : i < n) (b : ℕ) (byte : b < byte_range) where
-    grown : word * byte_range + b < byte_range ^ suc i
-    grown = omega (arith, pow-suc byte_range i, h.small)
-
-    -- nothing is lost in a word of the code
-    pub reading-fits : 8 * n ≤ word_bits → word * byte_range + b < 2 ^ word_bits
-    reading-fits few =
-        le_trans grown (le_trans (pow-le-pow_right (zero-lt-suc 255) more) (le_trans (le_of_eq (byte_power n)) (pow_mono few)))
-
-    pub reading-turns : {j : ℕ} → j ≡ at + (n - suc i) → b ≡ get_or bytes j 0 → Reading bytes at n (i + 1) (word * byte_range + b)
-    unfolding number_at
-    reading-turns {j} place e = record {
-      within = omega arith;
-      small = subst (λ k. word * byte_range + b < byte_range ^ k) (sym (add-one i)) grown;
-      number =
-          let next : suc (at + (n - suc i)) ≡ at + (n - i) = omega arith in
-          ap₂ (λ m b. m * byte_range + b) (h.number ∙ ap (number_at i bytes) (sym next)) (e ∙ ap (λ j. get_or bytes j 0) place)
-          ∙ turned (number_at i bytes (suc (at + (n - suc i)))) (get_or bytes (at + (n - suc i)) 0)
-          ∙ ap (λ k. number_at k bytes (at + (n - k))) (sym (add-one i));
-    }
-      where
-        turned : (m b : ℕ) → m * byte_range + b ≡ b + byte_range * m
-        turned m b = omega arith
-
-  pub reading-ends : {i word : ℕ} → Reading bytes at n i word → n ≤ i → word ≡ number_at n bytes at
-  reading-ends {i} h all =
-      let e : i ≡ n = omega (arith, h.within) in
-      let here : at + (n - i) ≡ at = omega arith in
-      h.number ∙ ap₂ (λ k j. number_at k bytes j) e here
+pub reading-ends : {bytes : List ℕ} {word : ℕ} → Reading bytes [] word → word ≡ number_at (length bytes) bytes 0
+reading-ends h = h.number ∙ ap (λ l. number_at (length l) l 0) (sym h.parts)

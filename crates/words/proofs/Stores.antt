@@ -1,11 +1,12 @@
 -- Runs of stores into a list, what parts of it they change, and lists one behind the other. Assumes nothing.
 use mathlib.Core.Path.{◌≡◌, refl, sym, ap, ap₂, ◌∙◌}
 use mathlib.Core.List.{List, [], ◌∷◌, ◌++◌, flat_map, append-nil, append_assoc}
-use Prim.Native.Nat.{ℕ, zero, suc, ◌+◌, ◌≤◌}
+use Prim.Native.Nat.{ℕ, zero, suc, ◌+◌, ◌-◌, ◌≤◌}
 use native.Mathlib.Nat.{add-suc, add-zero, zero-add, le_of_eq}
 use native.Mathlib.Omega.{arith}
-use lib.ListN.{length, take, drop, set, length-take, length-set, take-append-drop, drop_of_length-le}
-use lib.Seq.{sets, sets-eq, set_out, drop-set-lt, drop-set-add, take-add}
+use lib.ListN.{length, take, drop, set, length-take, length-drop, length-set, take-append-drop, drop_of_length-le}
+use borrow.Rule.Slice.PartMut.{put_mid}
+use lib.Seq.{sets, sets-eq, set_out, drop-set-lt, drop-set-add, drop-drop, take-add}
 
 take-set : (m : ℕ) (l : List ℕ) (i a : ℕ) → take m (set l i a) ≡ set (take m l) i a
 take-set zero l i a = refl
@@ -49,6 +50,16 @@ sets_behind n x l =
     ap₂ ◌++◌ (sym (take-sets n x l n ∙ sets-out x (take n l) n (simp length-take (omega arith))))
     (sym (drop-sets n x l 0) ∙ ap (λ i. drop n (sets l i x)) (add-zero n))
     ∙ take-append-drop n (sets l n x)
+
+-- a part of n numbers, as code takes it
+pub part_length : (i n : ℕ) (l : List ℕ) → i + n ≤ length l → length (take (i + n - i) (drop i l)) ≡ n
+part_length i n l h = simp (length-take, length-drop) (omega arith)
+
+-- a part that was written over
+pub part-written : (i n : ℕ) (x l : List ℕ) → length x ≡ n → i + n ≤ length l → put_mid i (i + n - i) l x ≡ sets l i x
+part-written i n x l e h =
+    sym (sets-eq x l i (omega arith)
+    ∙ ap (λ k. take i l ++ x ++ k) (ap (λ k. drop k l) (omega arith) ∙ sym (drop-drop (i + n - i) i l)) ∙ append_assoc (take i l) x (drop (i + n - i) (drop i l)))
 
 -- storing what is there changes nothing
 pub sets_same : (x l : List ℕ) (i : ℕ) → i + length x ≤ length l → take (length x) (drop i l) ≡ x → sets l i x ≡ l

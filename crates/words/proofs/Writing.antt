@@ -70,6 +70,10 @@ module _ (old : List ℕ) (at : ℕ) (xs : List ℕ) where
   pub writing-ends : {i : ℕ} {l : List ℕ} → Writing old at xs i l → length xs ≤ i → l ≡ sets old at xs
   writing-ends {i} h all = h.written ∙ ap (sets old at) (take_all i xs all)
 
+  -- a list that is written over one as long
+  pub writing-whole : {i : ℕ} {l : List ℕ} → Writing old at xs i l → at ≡ 0 → length xs ≡ length old → length old ≤ i → l ≡ xs
+  writing-whole h front long all = writing-ends h (omega arith) ∙ ap (λ n. sets old n xs) front ∙ sets-whole xs old long
+
   pub writing-put : {i : ℕ} {l : List ℕ} {next : ℕ} → Writing old at xs i l → length xs ≤ i → next ≡ at + length xs → next ≤ length old
       → Put old at xs next l
   writing-put h all n within = record { reached = n; inside = within; written = writing-ends h all }

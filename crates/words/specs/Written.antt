@@ -9,12 +9,7 @@ pub record Put (old : List ℕ) (at : ℕ) (xs : List ℕ) (next : ℕ) (new : L
   pub inside : next ≤ length old
   pub written : new ≡ sets old at xs
 
--- a word of `size` bytes, no longer than the code's words, stands at `at`
-pub record WordIn (bytes : List ℕ) (at size : ℕ) : Type 0 where
-  pub narrow : 8 * size ≤ word_bits
-  pub inside : at + size ≤ length bytes
-
--- so many such words stand from `at` on
+-- so many words of `size` bytes, no longer than the code's words, stand from `at` on
 pub record WordsIn (bytes : List ℕ) (at size words : ℕ) : Type 0 where
   pub narrow : 8 * size ≤ word_bits
   pub inside : at + size * words ≤ length bytes

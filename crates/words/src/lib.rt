@@ -4,7 +4,7 @@
 ghost use Rattle.std.specs.Prelude.{◌≡◌, ◌+◌, ◌*◌, ◌/◌, ◌%◌, ◌^◌, ◌≤◌, ◌<◌, eqb, length};
 ghost use mathlib.Core.List.{flat_map};
 ghost use Rattle.words.specs.Words.{word_bits, bytes_of, number_at, words_at};
-ghost use Rattle.words.specs.Written.{Put, WordIn, WordsIn};
+ghost use Rattle.words.specs.Written.{Put, WordsIn};
 
 // Whether the mark word has a mark at this column.
 pub fn is_marked(word: u64, column: usize) -> bool
@@ -14,35 +14,33 @@ pub fn is_marked(word: u64, column: usize) -> bool
     (word >> column) % 2 == 1
 }
 
+// A buffer and a place in it: what is written are files, reports and benches of scripts, each lent as it is.
+
 // Copies `bytes` into `out` from `at` on, and gives the place behind them. The rest of `out` is unchanged.
 pub fn put(bytes: &[u8], out: &mut [u8], at: usize) -> usize
     requires { at + length bytes.now ≤ length out.old }
     ensures { Put out.old at bytes.now result out.new }
 {
-    for i in 0..bytes.len() {
-        out[at + i] = bytes[i];
-    }
-    at + bytes.len()
+    let end = at + bytes.len();
+    out[at..end].copy_from_slice(bytes);
+    end
 }
 
 // The two bytes of an offset or a length.
 pub fn size_bytes(n: usize) -> [u8; 2]
     ensures { result ≡ bytes_of 2 n }
 {
-    let low = n % 256;
-    let high = n / 256 % 256;
-    [low as u8, high as u8]
+    ((n % 0x1_0000) as u16).to_le_bytes()
 }
 
-// The word of the `size` bytes that stand at `at`: from the high byte down.
-fn word_at(bytes: &[u8], at: usize, size: usize) -> u64
-    requires { WordIn bytes.now at size }
-    ensures { result ≡ number_at size bytes.now at }
+// The word that these bytes are: from the high byte down.
+fn word_of(bytes: &[u8]) -> u64
+    requires { 8 * length bytes.now ≤ word_bits }
+    ensures { result ≡ number_at (length bytes.now) bytes.now 0 }
 {
-    let mut word: u64 = 0;
-    for i in 0..size {
-        let place = size - 1 - i;
-        word = word * 0x100 + bytes[at + place] as u64;
+    let mut word = 0;
+    for byte in bytes.iter().rev() {
+        word = word * 0x100 + u64::from(*byte);
     }
     word
 }
@@ -52,22 +50,21 @@ pub fn read_words(bytes: &[u8], at: usize, size: usize, words: &mut [u64])
     requires { WordsIn bytes.now at size (length words.old) }
     ensures { words.new ≡ words_at size bytes.now at (length words.old) }
 {
-    for r in 0..words.len() {
-        words[r] = word_at(bytes, at + size * r, size);
+    for (r, word) in words.iter_mut().enumerate() {
+        let start = at + size * r;
+        *word = word_of(&bytes[start..start + size]);
     }
 }
 
-// Writes the word's `size` low bytes into `out` from `at` on, and gives the place behind them. The rest of `out` is unchanged.
-fn put_word(word: u64, size: usize, out: &mut [u8], at: usize) -> usize
-    requires { at + size ≤ length out.old }
-    ensures { Put out.old at (bytes_of size word) result out.new }
+// Fills `bytes` with the word's low bytes.
+fn put_word(word: u64, bytes: &mut [u8])
+    ensures { bytes.new ≡ bytes_of (length bytes.old) word }
 {
     let mut left = word;
-    for i in 0..size {
-        out[at + i] = (left % 0x100) as u8;
-        left = left / 0x100;
+    for byte in bytes.iter_mut() {
+        *byte = (left % 0x100) as u8;
+        left /= 0x100;
     }
-    at + size
 }
 
 // Writes `size` bytes of each word into `out` from `at` on, and gives the place behind them. The rest of `out` is unchanged.
@@ -76,8 +73,10 @@ pub fn put_words(words: &[u64], size: usize, out: &mut [u8], at: usize) -> usize
     ensures { Put out.old at (flat_map (bytes_of size) words.now) result out.new }
 {
     let mut next = at;
-    for r in 0..words.len() {
-        next = put_word(words[r], size, out, next);
+    for word in words {
+        let end = next + size;
+        put_word(*word, &mut out[next..end]);
+        next = end;
     }
     next
 }

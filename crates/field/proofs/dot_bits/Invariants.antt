@@ -1,10 +1,8 @@
--- `field::dot_bits`: the invariant is that the low bit of the columns passed and those to come make the whole sum. Assumes nothing.
+-- The low bit of the columns passed and those to come make the whole sum. Assumes nothing.
 use Prim.Native.Nat.{◌%◌}
-use mathlib.Core.Path.{◌≡◌}
-use lib.ListN.{length}
-use Rattle.field.specs.Ours.{field_of}
+use Rattle.field.specs.Field.{gf2}
 use Rattle.field.proofs.Summing.{Summing}
 use Rattle.field.proofs.dot_bits.Given as goal
 
 abbrev pub invariant-loop-c : goal.invariant-loop-c
-invariant-loop-c l = (l.c-end ≡ length l.check) × Summing (field_of 2) l.check l.row l.c (l.sum % 2)
+invariant-loop-c l = Summing gf2 l.check l.row l.c-iterator.a.rest.now l.c-iterator.b.rest.now (l.sum % 2)

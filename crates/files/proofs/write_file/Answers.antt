@@ -1,14 +1,17 @@
 -- Refused, the file stays; else it is written whole. Assumes nothing.
 use mathlib.Core.Path.{◌∙◌}
+use Rattle.plans.proofs.Refusals.{accepted, refused}
 use Rattle.files.specs.File.{write_file}
-use Rattle.encoding.proofs.Carrying.{outcome-refused, outcome-done, left-new, left-old}
+use Rattle.files.proofs.Files.{left-new, left-old}
 use Rattle.files.proofs.write_file.Goals as goal
 
-pub returns-then-number-ne0 : goal.returns-then-number-ne0
+pub returns-in_err-write_refusal-clause-file_after : goal.returns-in_err-write_refusal-clause-file_after
 unfolding write_file
-returns-then-number-ne0 c = let e = c.write_refusal-number.ensures in record { value = outcome-refused e c.if-number-ne0.true; file_after = left-old e _ _ c.if-number-ne0.true }
+returns-in_err-write_refusal-clause-file_after c = left-old _ _ (refused _ c.in_err-write_refusal.ensures)
 
-pub returns : goal.returns
+pub put_file-requires : goal.put_file-requires
+put_file-requires c = accepted c.in_ok-write_refusal.ensures
+
+pub returns-clause-file_after : goal.returns-clause-file_after
 unfolding write_file
-returns c = let e = c.write_refusal-number.ensures in
-    let z = c.if-number-ne0.false in record { value = outcome-done e z; file_after = c.put_file.ensures ∙ left-new e _ _ z }
+returns-clause-file_after c = c.put_file.ensures ∙ left-new _ _ (accepted c.in_ok-write_refusal.ensures)

@@ -1,49 +1,37 @@
--- `gather_need`: what search leaves open, by the lemmas of equations on words.
-use mathlib.Core.Path.{ap, ◌∙◌}
-use mathlib.Core.List.{List}
-use Prim.Native.Nat.{ℕ, ◌-◌, ◌^◌, ◌<◌}
-use native.Mathlib.Omega.{arith}
-use Rattle.field.specs.Field.{◌⊕◌}
+-- `gather_need`: where a sum is not its target a bit is left, by the lemmas of equations on words.
+use mathlib.Core.Bool.{not}
+use mathlib.Core.Path.{◌≡◌, refl, ap, ◌∙◌}
+use Prim.Native.Nat.{ℕ, ◌<◌}
+use lib.Dec.{eqb}
+use lib.ListN.{length}
+use Rattle.std.proofs.Common.{rules}
+use Rattle.field.specs.Field.{◌⊕◌, gf2}
 use Rattle.field.specs.Ours.{field_of}
-use Rattle.field.proofs.Fields.{our-field}
-use Rattle.equations.specs.System.{vec, ent, inner, Elements}
-use Rattle.equations.proofs.Inner.{inner-lt}
+use Rattle.field.proofs.Fields.{gf2-field}
+use Rattle.field.proofs.Sum.{of-bits}
+use Rattle.equations.specs.System.{vec, ent, inner}
 use Rattle.equations.specs.Words.{bit_at}
 use Rattle.equations.proofs.Bits.{below-2}
-use Rattle.equations.proofs.Wording.{wording-start, wording-turn, wording-end, wording-fits, packed-bit}
+use Rattle.equations.proofs.Inner.{inner-lt}
+use Rattle.equations.proofs.Wording.{packed-is, packed-bit}
 use Rattle.gathering.proofs.gather_need.Goals as goal
 
--- what is left of a target is a bit
-bits : (checks target shown : List ℕ) (n : ℕ) → Elements (field_of 2) (vec target) → (i : ℕ)
-    → vec target i ⊕ inner (field_of 2) (ent checks n i) (vec shown) n < 2
-bits checks target shown n h i = below-2 _ ((our-field 2).sum_lt _ _ (h i) (inner-lt _ (our-field 2) _ _ _))
-
-pub loop-i-init : goal.loop-i-init
-loop-i-init c = wording-start _ _
-
--- there is room for another bit in the word
-pub overflow_mul-word : goal.overflow_mul-word
-overflow_mul-word c =
-    let small = bits c.args.checks.now c.args.target.now c.args.shown.now c.args.n c.requires.sums in
-    let left : c.loop-i.word < 2 ^ 31 = wording-fits _ small _ _ _ c.loop-i.invariant (omega (arith, c.requires.few)) (omega arith) in
-    omega arith
-
-pub overflow_add-word : goal.overflow_add-word
+other : (a b : ℕ) → a < 2 → b < 2 → not (eqb a b) ≡ eqb (a ⊕ b) 1
 unfolding ◌⊕◌
-overflow_add-word c =
-    let small = bits c.args.checks.now c.args.target.now c.args.shown.now c.args.n c.requires.sums in
-    let left : c.loop-i.word < 2 ^ 31 = wording-fits _ small _ _ _ c.loop-i.invariant (omega (arith, c.requires.few)) (omega arith) in
-    let remainder : vec c.args.target.now (c.loop-i.i - 1) ⊕ c.row_sum-sum.result < 2 = rw c.row_sum-sum.ensures (small _) in
-    omega arith
-
-pub loop-i-preserved : goal.loop-i-preserved
-unfolding ◌⊕◌
-loop-i-preserved c =
-    let target = c.args.target.now in
-    let i = c.loop-i.i - 1 in
-    wording-turn _ _ _ _ (vec target i ⊕ c.row_sum-sum.result) c.loop-i.invariant (omega arith)
-    (ap (λ x. vec target i ⊕ x) c.row_sum-sum.ensures)
+other a b la lb =
+    of-bits (λ a. not (eqb a b) ≡ eqb (a ⊕ b) 1) (of-bits (λ b. not (eqb 0 b) ≡ eqb (0 ⊕ b) 1) refl refl b lb)
+    (of-bits (λ b. not (eqb 1 b) ≡ eqb (1 ⊕ b) 1) refl refl b lb) a la
 
 pub returns : goal.returns
-returns c = λ i l. ap (λ w. bit_at w i) (wording-end _ _ _ _ c.loop-i.invariant (omega arith))
-    ∙ packed-bit _ (bits c.args.checks.now c.args.target.now c.args.shown.now c.args.n c.requires.sums) _ i l
+unfolding field_of
+returns c =
+    let checks = c.args.checks.now in
+    let target = vec c.args.target.now in
+    let n = length c.args.shown.now in
+    let sum : ℕ → ℕ = λ i. inner gf2 (ent checks n i) (vec c.args.shown.now) n in
+    let small : (i : ℕ) → target i ⊕ sum i < 2 = λ i. below-2 _ (gf2-field.sum_lt _ _ (c.requires.sums i) (inner-lt _ gf2-field _ _ _)) in
+    let each : (i : ℕ) → i < length c.args.target.now → eqb (bit_at c.word_of.result i) 1 ≡ not (eqb (target i) (sum i)) =
+    λ i l. let h = c.word_of.ensures.each i l in search rules in
+    λ i l. ap (λ w. bit_at w i) (packed-is _ small _ _ c.word_of.ensures.small
+    (λ j b. each j b ∙ other _ _ (below-2 _ (c.requires.sums j)) (below-2 _ (inner-lt _ gf2-field _ _ _))))
+    ∙ packed-bit _ small _ i l

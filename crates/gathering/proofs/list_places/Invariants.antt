@@ -1,13 +1,7 @@
--- `list_places`: the invariant `Placing` is that the first t places list the marked columns before c, and `rest` has the marks from c on. Assumes nothing.
-use mathlib.Core.Path.{◌≡◌}
-use Prim.Native.Nat.{◌-◌}
-use lib.ListN.{length}
+-- `list_places`: the invariant `Placing` is that the places so far list the lowest marked columns, and `rest` has the marks of the others. Assumes nothing.
 use Rattle.equations.specs.System.{vec}
 use Rattle.gathering.proofs.Words.{Placing}
 use Rattle.gathering.proofs.list_places.Given as goal
 
-abbrev pub invariant-loop-t : goal.invariant-loop-t
-invariant-loop-t l = (length l.places ≡ length l.initial.places) × Placing l.marks l.rest l.n l.k l.c l.t (vec l.places)
-
-abbrev pub decreases-loop-t : goal.decreases-loop-t
-decreases-loop-t l = l.k - l.t
+abbrev pub invariant-loop-place : goal.invariant-loop-place
+invariant-loop-place l = Placing l.marks l.rest l.k l.place-index (vec l.place-items)

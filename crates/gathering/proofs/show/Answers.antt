@@ -1,23 +1,60 @@
 -- `show`: zeros at the listed places of the copy hide what is marked, and leave the rest. Assumes nothing.
-use mathlib.Core.Path.{◌∙◌, ap}
-use Prim.Native.Nat.{ℕ, ◌<◌}
+use mathlib.Core.Path.{◌≡◌, ap, ◌∙◌}
+use mathlib.Core.List.{List}
+use Prim.Native.Nat.{ℕ, ◌^◌, ◌≤◌, ◌<◌}
 use native.Mathlib.Omega.{arith}
-use lib.ListN.{length}
+use lib.Count.{ones-le}
+use lib.ListN.{length, take}
+use Rattle.std.proofs.Common.{length-take, get_or-take}
 use Rattle.equations.specs.System.{vec}
-use Rattle.gathering.proofs.Columns.{scattered-hides}
-use Rattle.equations.proofs.Bits.{bit-bound, bit-of-none}
-use Rattle.std.proofs.Common.{rules}
+use Rattle.equations.proofs.Bits.{bit-bound}
+use Rattle.gathering.specs.Steps.{Places, Listed, scattered}
+use Rattle.gathering.proofs.Words.{places-same}
+use Rattle.gathering.proofs.Columns.{scattered-more, scattered-hides}
 use Rattle.gathering.proofs.show.Goals as goal
 
-pub scatter_word-requires : goal.scatter_word-requires
-scatter_word-requires c =
-    let placed : (t : ℕ) → t < c.list_places-k.result → vec c.list_places-k.new.places t < length c.copy.new.shown =
-    λ t l. omega (arith, c.requires, bit-bound _ c.args.marks _ c.requires.within (c.list_places-k.ensures.places.marked t l), c.copy.auto.shown) in
-    record { placed = record { listed = search rules; below = placed }; bits = search rules }
+-- the part that is listed
+module _ (marks k n : ℕ) (places : List ℕ) (L : Listed marks k (vec places)) (fit : marks < 2 ^ n) (narrow : n ≤ length places) where
+  few : k ≤ n
+  few = omega (arith, L.count, ones-le n marks fit)
 
-pub returns-clause-by_index : goal.returns-clause-by_index
-returns-clause-by_index c =
-    let placed : (t : ℕ) → t < c.list_places-k.result → vec c.list_places-k.new.places t < length c.copy.new.shown =
-    λ t l. omega (arith, c.requires, bit-bound _ c.args.marks _ c.requires.within (c.list_places-k.ensures.places.marked t l), c.copy.auto.shown) in
-    λ x l. ap (λ y. vec y x) c.scatter_word.ensures ∙ scattered-hides c.args.marks _ _ _ _ _ c.list_places-k.ensures.places
-    placed (λ t _. bit-of-none t) x (c.copy.ensures x l)
+  long : length (take k places) ≡ k
+  long = omega (arith, length-take k places, few)
+
+  listed : Places marks k (vec (take k places))
+  listed = places-same _ _ _ _ (λ t l. get_or-take k places t 0 l) L.places
+
+  below : (t : ℕ) → t < k → vec (take k places) t < n
+  below t l = bit-bound n marks _ fit (listed.marked t l)
+
+pub loop-place-init : goal.loop-place-init
+unfolding scattered
+loop-place-init c = c.copy_from_slice.ensures.after
+
+pub bounds-shown-place : goal.bounds-shown-place
+bounds-shown-place c =
+    let list = c.list_places-k in
+    let narrow : length c.args.v.now ≤ length list.new.places = omega (arith, list.array_long, c.requires.narrow) in
+    let l : c.loop-place.place-index < list.result = omega (arith, long _ _ _ _ list.ensures c.requires.within narrow) in
+    omega (arith, below _ _ _ _ list.ensures c.requires.within narrow _ l)
+
+pub loop-place-preserved : goal.loop-place-preserved
+loop-place-preserved c = scattered-more _ _ _ _ _ c.loop-place.invariant
+
+pub returns : goal.returns
+returns c =
+    let list = c.list_places-k in
+    let narrow : length c.args.v.now ≤ length list.new.places = omega (arith, list.array_long, c.requires.narrow) in
+    let size = long _ _ _ _ list.ensures c.requires.within narrow in
+    let end : c.loop-place.place-index ≡ list.result = omega (arith, size) in
+    let places = listed _ _ _ _ list.ensures c.requires.within narrow in
+    record {
+      few = few _ _ _ _ list.ensures c.requires.within narrow;
+      shown = record {
+        listed = rw size places;
+        within = c.requires.within;
+        size = omega arith;
+        hides = λ x l. ap (λ s. vec s x) (rw end at c.loop-place.invariant)
+            ∙ scattered-hides c.args.marks _ _ _ places (below _ _ _ _ list.ensures c.requires.within narrow) x;
+      };
+    }

@@ -1,9 +1,9 @@
--- The goals of `plain_sum` that the search leaves open.
-use Rattle.interleaved.proofs.Testing.{plainly-turns, plainly-ends}
+-- Ones for weights: the rows' total under them. Assumes nothing.
+use Rattle.field.specs.Ours.{field_of}
+use Rattle.plans.specs.Plan.{all_ones}
+use Rattle.codewords.specs.Asked.{total_row}
 use Rattle.interleaved.proofs.plain_sum.Goals as goal
 
-pub loop-r-preserved : goal.loop-r-preserved
-loop-r-preserved c = plainly-turns _ c.requires c.loop-r-test.true c.add_plain.ensures c.loop-r.invariant
-
 pub returns : goal.returns
-returns c = plainly-ends _ c.loop-r-test.false c.loop-r.invariant
+unfolding field_of all_ones total_row
+returns c = c.add_rows.ensures

@@ -8,12 +8,12 @@ use Rattle.layout.proofs.put_bench.Goals as goal
 
 pub put-requires : goal.put-requires
 put-requires c =
-    let symbols : length c.args.bench.symbols ≡ symbol_room = omega arith in
-    let marks : length c.args.bench.marks ≡ row_room = omega arith in
-    let sums : length c.args.bench.sums ≡ learned_room = omega arith in
+    let symbols : length c.args.bench.now.symbols ≡ symbol_room = omega arith in
+    let marks : length c.args.bench.now.marks ≡ row_room = omega arith in
+    let sums : length c.args.bench.now.sums ≡ learned_room = omega arith in
     omega (
       arith,
-      length-words c.args.bench symbols marks sums,
+      length-words c.args.bench.now symbols marks sums,
       c.requires.fits,
       c.put-at_symbols.ensures.reached,
       c.put-at_symbols.auto.out,
@@ -26,7 +26,7 @@ put-requires c =
 pub returns : goal.returns
 returns c =
     bench-put
-    c.args.bench
+    c.args.bench.now
     (omega arith)
     (omega arith)
     (omega arith)

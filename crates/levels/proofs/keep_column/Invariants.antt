@@ -1,8 +1,6 @@
 -- `keep_column`: the rows passed are written, and a row less is to come. Assumes nothing.
-use mathlib.Core.Path.{◌≡◌}
-use lib.ListN.{length}
 use Rattle.levels.proofs.Keeping.{Keeping}
 use Rattle.levels.proofs.keep_column.Given as goal
 
 abbrev pub invariant-loop-r : goal.invariant-loop-r
-invariant-loop-r l = (l.r-end ≡ length l.column) × Keeping l.at l.column l.initial.sums l.r l.sums
+invariant-loop-r l = Keeping l.at l.column l.initial.sums l.r l.sums

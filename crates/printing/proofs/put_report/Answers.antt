@@ -1,72 +1,68 @@
 -- By the answer: once it is known, so are its values and its text. Assumes nothing.
-use mathlib.Core.List.{List}
-use mathlib.Core.Path.{◌≡◌, ap, subst}
+use mathlib.Core.List.{List, ◌++◌}
+use mathlib.Core.Logic.{◌⊎◌, inl, inr}
+use mathlib.Core.Path.{◌≡◌, sym, ap, subst, ◌∙◌}
 use Prim.Native.Nat.{ℕ}
 use native.Mathlib.Omega.{arith}
 use lib.Dec.{T}
-use Rattle.plans.specs.declared.Answer.{Answer}
-use Rattle.plans.specs.declared.Report.{Report}
-use Rattle.plans.specs.Refusal.{all_below}
 use Rattle.plans.specs.Plan.{plan_of}
-use Rattle.plans.specs.Answers.{end_values, answer_values, report_values}
-use Rattle.words.proofs.Writing.{put_then, put_is}
-use Rattle.texts.specs.Text.{line_end, grid, answer_text}
+use Rattle.plans.specs.Answers.{place_values, end_values, answer_values, report_values}
+use Rattle.plans.specs.Refusal.{all_below}
+use Rattle.plans.specs.declared.Answer.{Answer}
+use Rattle.plans.specs.declared.Answer.TheVariants.{Restored, Stuck, Clash}
+use Rattle.plans.specs.declared.Place.{Place}
+use Rattle.plans.specs.declared.Report.{Report}
+use Rattle.texts.specs.Text.{line_end, grid, answer_text, end_text, place_text}
 use Rattle.texts.specs.Parts.{numbers}
-use Rattle.printing.specs.Parts.{Printable}
+use Rattle.texts.proofs.Texts.{behind, longer}
 use Rattle.printing.proofs.put_report.Goals as goal
 
--- what is known of the values and of the text of a report of plan p, once its answer is known
+-- what is known of the values of a report of plan p and of its text before all rows, once its answer is known
+module _ (p : ℕ) (r : Report) where
+  abbrev values : Answer → List ℕ
+  values a = answer_values a (end_values (plan_of p) r)
 
-values : (p : ℕ) → Report → Answer → List ℕ
-values p r a = answer_values a (end_values (plan_of p) r)
+  abbrev Small : Answer → Type 0
+  Small a = T (all_below numbers (values a))
 
-small : (p : ℕ) (r : Report) {stripe marks : List ℕ} {a : Answer} → r.answer ≡ a → Printable p r stripe marks → T (all_below numbers (values p r a))
-unfolding values report_values
-small p r e h = subst (λ a. T (all_below numbers (values p r a))) e h.values
+  end_small : (r.answer ≡ Restored) ⊎ (r.answer ≡ Stuck) → T (all_below numbers (report_values (plan_of p) r)) → T (all_below numbers (end_values (plan_of p) r))
+  unfolding answer_values report_values
+  end_small (inl e) t = subst Small e t
+  end_small (inr e) t = subst Small e t
 
-follows : (p : ℕ) → Report → (stripe marks : List ℕ) → Answer → List ℕ
-follows p r stripe marks a = answer_text a (values p r a) (grid (plan_of p) stripe marks)
+  place_small : {place : Place} → r.answer ≡ Clash place → T (all_below numbers (report_values (plan_of p) r)) → T (all_below numbers (place_values place))
+  unfolding answer_values report_values
+  place_small e t = subst Small e t
 
-pub put_end-requires : goal.put_end-requires
-unfolding values answer_values
-put_end-requires c =
-    let ask = c.requires in
-    record { sized = ask.printable.sized; values = small c.args.plan c.args.report c.in-Restored.is ask.printable; room = ask.room }
+  module _ (rows : List ℕ) where
+    end-follows : (r.answer ≡ Restored) ⊎ (r.answer ≡ Stuck)
+        → (end_text (end_values (plan_of p) r) ++ line_end) ++ rows ≡ answer_text r.answer (report_values (plan_of p) r) rows
+    unfolding answer_values report_values answer_text
+    end-follows (inl e) = sym (ap (λ a. answer_text a (values a) rows) e)
+    end-follows (inr e) = sym (ap (λ a. answer_text a (values a) rows) e)
 
-pub put_end-requires-in-Stuck : goal.put_end-requires-in-Stuck
-unfolding values answer_values
-put_end-requires-in-Stuck c =
-    let ask = c.requires in
-    record { sized = ask.printable.sized; values = small c.args.plan c.args.report c.in-Stuck.is ask.printable; room = ask.room }
+    place-follows : {place : Place} → r.answer ≡ Clash place → place_text place (place_values place) ++ line_end ≡ answer_text r.answer (report_values (plan_of p) r) rows
+    unfolding answer_values report_values answer_text
+    place-follows e = sym (ap (λ a. answer_text a (values a) rows) e)
 
-pub put_place-next-requires : goal.put_place-next-requires
-unfolding values answer_values
-put_place-next-requires c =
-    record { small = small c.args.plan c.args.report c.in-Clash.is c.requires.printable; room = omega (arith, c.requires.room) }
+pub put_summary-requires : goal.put_summary-requires
+put_summary-requires c =
+    let ask = c.requires.printable in
+    record { plan-known = ask.sized.plan-known; small = end_small c.args.plan c.args.report c.in-Restored.is ask.values; room = omega (arith, c.requires.room) }
 
-pub put-requires : goal.put-requires
-put-requires c = omega (arith, c.requires.room, c.put_place-next.ensures.most, c.put_place-next.auto.out)
-
-pub put-requires-in-Refused : goal.put-requires-in-Refused
-put-requires-in-Refused c = omega (arith, c.requires.room)
+pub put_place-requires : goal.put_place-requires
+put_place-requires c =
+    record { small = place_small c.args.plan c.args.report c.in-Clash.is c.requires.printable.values; room = omega (arith, c.requires.room) }
 
 pub returns-in-Restored : goal.returns-in-Restored
-unfolding values follows answer_values report_values answer_text line_end
 returns-in-Restored c =
-    put_is (ap (follows c.args.plan c.args.report c.args.stripe.now c.args.marks.now) c.in-Restored.is) c.put_end.ensures
-
-pub returns-in-Stuck : goal.returns-in-Stuck
-unfolding values follows answer_values report_values answer_text line_end
-returns-in-Stuck c =
-    put_is (ap (follows c.args.plan c.args.report c.args.stripe.now c.args.marks.now) c.in-Stuck.is) c.put_end-in-Stuck.ensures
+    let a = c.args in
+    let rows = grid (plan_of a.plan) a.stripe.now a.marks.now in
+    behind a.text.now _ rows c.put_summary.ensures.after c.put_grid.ensures ∙ ap (λ l. a.text.now ++ l) (end-follows a.plan a.report rows c.in-Restored.is)
 
 pub returns-in-Clash : goal.returns-in-Clash
-unfolding values follows answer_values report_values answer_text line_end
+unfolding line_end
 returns-in-Clash c =
-    put_is (ap (follows c.args.plan c.args.report c.args.stripe.now c.args.marks.now) c.in-Clash.is)
-    (put_then c.put_place-next.ensures.put c.put.ensures)
-
-pub returns-in-Refused : goal.returns-in-Refused
-unfolding values follows answer_values report_values answer_text line_end
-returns-in-Refused c =
-    put_is (ap (follows c.args.plan c.args.report c.args.stripe.now c.args.marks.now) c.in-Refused.is) c.put-in-Refused.ensures
+    let a = c.args in
+    let rows = grid (plan_of a.plan) a.stripe.now a.marks.now in
+    behind a.text.now _ line_end c.put_place.ensures.after c.put.ensures ∙ ap (λ l. a.text.now ++ l) (place-follows a.plan a.report rows c.in-Clash.is)

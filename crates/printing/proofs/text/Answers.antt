@@ -1,9 +1,11 @@
--- The text fits, and the rest of the room is zeros. Assumes nothing.
-use mathlib.Core.Path.{◌∙◌}
-use native.Mathlib.Nat.{zero-add}
+-- The text is copied out. Assumes nothing.
+use mathlib.Core.Path.{ap, ◌∙◌}
+use lib.ListN.{length}
+use Rattle.plans.specs.Tables.{padded}
 use Rattle.texts.specs.Text.{text_room}
-use Rattle.plans.proofs.Padded.{put-padded}
 use Rattle.printing.proofs.text.Goals as goal
 
 pub returns : goal.returns
-returns c = let p = c.put_text-size.ensures in record { value = p.reached ∙ zero-add _; out_after = put-padded text_room p }
+returns c =
+    let e = c.copy_to.ensures in
+    record { value = e.value ∙ ap length c.file_text.ensures; out_after = e.out_after ∙ ap (padded text_room) c.file_text.ensures }

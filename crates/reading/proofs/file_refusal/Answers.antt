@@ -1,47 +1,43 @@
 -- The first test that fails gives its number, those before it having passed. Assumes nothing.
-use mathlib.Core.Path.{sym, ap, ◌∙◌}
-use borrow.Author.Tests.{le-leb, lt-leb, eq-eqb, ne_eqb}
+use Rattle.std.proofs.Common.{rules}
+use mathlib.Core.Path.{◌≡◌, sym, ap, ◌∙◌}
+use mathlib.Core.Bool.{true, false}
+use lib.ListN.{take}
 use Rattle.fills.specs.Lists.{same}
-use Rattle.plans.specs.Plan.{file_length, plan_of, known}
-use Rattle.plans.specs.Refusal.{unasked}
-use Rattle.plans.proofs.Refusals.{passes, fails}
-use Rattle.files.specs.File.{header_of, file_refusal}
+use borrow.Author.Tests.{tests}
+use Rattle.field.specs.Lists.{when◌then◌else◌}
+use Rattle.plans.specs.Answers.{refusal_number, refused_by}
+use Rattle.plans.specs.Refusal.{first_failed, unasked}
+use Rattle.files.specs.File.{header_size, file_refusal}
+use Rattle.files.proofs.Files.{differ-same}
 use Rattle.reading.proofs.file_refusal.Goals as goal
 
 pub returns-then-file-lt-HEADER : goal.returns-then-file-lt-HEADER
-unfolding file_refusal
-returns-then-file-lt-HEADER c = sym (fails 20 _ (lt-leb _ _ c.if-file-lt-HEADER.true))
+unfolding when◌then◌else◌ first_failed file_refusal refusal_number refused_by
+returns-then-file-lt-HEADER c = search (rules, tests)
 
 pub returns-then-not-is_known : goal.returns-then-not-is_known
-unfolding file_refusal
-returns-then-not-is_known c =
-    let long = le-leb _ _ c.if-file-lt-HEADER.false in
-    sym (passes 20 _ long ∙ fails 10 _ (sym (c.is_known.ensures ∙ ap known c.plan_in-plan.ensures) ∙ c.if-not-is_known.true))
+unfolding when◌then◌else◌ first_failed file_refusal refusal_number refused_by
+returns-then-not-is_known c = search (rules, tests)
 
-pub returns-then-not-same : goal.returns-then-not-same
-unfolding file_refusal
-returns-then-not-same c =
-    let long = le-leb _ _ c.if-file-lt-HEADER.false in
-    let is-plan = sym (c.is_known.ensures ∙ ap known c.plan_in-plan.ensures) ∙ c.if-not-is_known.false in
-    sym (passes 20 _ long ∙ passes 10 _ is-plan ∙ fails 21 _ (sym (c.same.ensures ∙ ap (same _) (c.header_of-header.ensures ∙ ap header_of c.plan_in-plan.ensures)) ∙ c.if-not-same.true))
+pub returns-then-ne : goal.returns-then-ne
+unfolding when◌then◌else◌ first_failed file_refusal refusal_number refused_by
+returns-then-ne c =
+    let wrong : same (take header_size c.args.file.now) c.header_of-header.result ≡ false = differ-same _ _ c.ne.ensures c.if-ne.true in search (rules, tests)
 
 pub returns-then-file-facts_of : goal.returns-then-file-facts_of
-unfolding file_refusal
+unfolding when◌then◌else◌ first_failed file_refusal refusal_number refused_by
 returns-then-file-facts_of c =
-    let long = le-leb _ _ c.if-file-lt-HEADER.false in
-    let is-plan = sym (c.is_known.ensures ∙ ap known c.plan_in-plan.ensures) ∙ c.if-not-is_known.false in
-    let agrees = sym (c.same.ensures ∙ ap (same _) (c.header_of-header.ensures ∙ ap header_of c.plan_in-plan.ensures)) ∙ c.if-not-same.false in
-    let size = c.facts_of.ensures.file-length ∙ ap (λ p. file_length (plan_of p)) c.plan_in-plan.ensures in
-    sym (passes 20 _ long ∙ passes 10 _ is-plan ∙ passes 21 _ agrees ∙ fails 20 _ (ne_eqb _ _ (λ e. c.if-file-facts_of.true (e ∙ sym size))))
+    let right : same (take header_size c.args.file.now) c.header_of-header.result ≡ true = differ-same _ _ c.ne.ensures c.if-ne.false in search (rules, tests)
 
 pub returns-then-not-lengths : goal.returns-then-not-lengths
-unfolding file_refusal
+unfolding when◌then◌else◌ first_failed file_refusal refusal_number refused_by
 returns-then-not-lengths c =
-    let long = le-leb _ _ c.if-file-lt-HEADER.false in
-    let is-plan = sym (c.is_known.ensures ∙ ap known c.plan_in-plan.ensures) ∙ c.if-not-is_known.false in
-    let agrees = sym (c.same.ensures ∙ ap (same _) (c.header_of-header.ensures ∙ ap header_of c.plan_in-plan.ensures)) ∙ c.if-not-same.false in
-    let size = c.facts_of.ensures.file-length ∙ ap (λ p. file_length (plan_of p)) c.plan_in-plan.ensures in
-    sym (passes 20 _ long ∙ passes 10 _ is-plan ∙ passes 21 _ agrees ∙ passes 20 _ (eq-eqb _ _ (c.if-file-facts_of.false ∙ size)) ∙ fails 11 _ c.if-not-lengths.true)
+    let right : same (take header_size c.args.file.now) c.header_of-header.result ≡ true = differ-same _ _ c.ne.ensures c.if-ne.false in search (rules, tests)
+
+pub whole_refusal-requires : goal.whole_refusal-requires
+whole_refusal-requires c =
+    let right : same (take header_size c.args.file.now) c.header_of-header.result ≡ true = differ-same _ _ c.ne.ensures c.if-ne.false in search (rules, tests)
 
 pub returns : goal.returns
 unfolding unasked

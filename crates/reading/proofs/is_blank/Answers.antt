@@ -13,6 +13,7 @@ use Rattle.words.proofs.Writing.{front-set}
 use Rattle.files.specs.File.{blanked}
 use Rattle.files.specs.Parts.{Symbols}
 use Rattle.files.proofs.Stripes.{length-blanked, length-marks-of}
+use Rattle.files.proofs.Files.{bytes-same}
 use Rattle.reading.proofs.is_blank.Goals as goal
 
 module _ {p : ℕ} {symbols marks : List ℕ} (ask : Symbols p symbols marks) where
@@ -35,11 +36,8 @@ put_symbols-requires c = record { sized = c.requires; room = omega (arith, small
 pub slice_bounds-blank-end : goal.slice_bounds-blank-end
 slice_bounds-blank-end c = omega (arith, c.put_symbols.auto.file, small c.requires)
 
-pub slice_bounds-same-end : goal.slice_bounds-same-end
-slice_bounds-same-end c = front_long c.requires c.put_symbols.ensures.written
-
-pub same-requires : goal.same-requires
-same-requires c = front_long c.requires c.put_symbols.ensures.written
+pub slice_bounds-eq-end : goal.slice_bounds-eq-end
+slice_bounds-eq-end c = front_long c.requires c.put_symbols.ensures.written
 
 pub returns : goal.returns
-returns c = c.same.ensures ∙ ap (same c.args.symbols.now) (front c.requires c.put_symbols.ensures.written)
+returns c = c.eq.ensures ∙ bytes-same _ _ ∙ ap (same c.args.symbols.now) (front c.requires c.put_symbols.ensures.written)

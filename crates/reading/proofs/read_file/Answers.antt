@@ -1,32 +1,50 @@
 -- Refused, stripe and marks stay; else both are read. Assumes nothing.
-use mathlib.Core.Bool.{◌&&◌}
-use mathlib.Core.Path.{sym, ap, ◌∙◌}
+use mathlib.Core.Bool.{Bool, ◌&&◌}
+use mathlib.Core.Path.{◌≡◌, ap, ◌∙◌}
+use mathlib.Core.List.{List}
+use Prim.Native.Nat.{ℕ}
+use Rattle.std.proofs.lemmas.Result.{err_from_is_err_and}
+use Rattle.plans.proofs.Refusals.{accepted, refused}
 use Rattle.plans.specs.Refusal.{stripe_fits, words_fit}
 use Rattle.plans.specs.Plan.{plan_of}
-use Rattle.encoding.proofs.Carrying.{outcome-refused, outcome-done, left-new, left-old}
-use Rattle.files.specs.File.{file_refusal, read_refusal, read_stripe, read_marks}
-use Rattle.files.proofs.Files.{read-loading}
+use Rattle.files.specs.File.{plan_in, file_refusal, read_refusal, read_stripe, read_marks}
+use Rattle.files.proofs.Files.{left-new, left-old, read-loading}
 use Rattle.reading.proofs.read_file.Goals as goal
 
-pub returns-then-number-ne0 : goal.returns-then-number-ne0
-unfolding read_stripe read_marks read_refusal
-returns-then-number-ne0 c = let e = (let a = c.args in let plan = c.plan_in-plan.ensures in c.file_refusal-number.ensures ∙ ap (file_refusal a.file.now) (c.lengths_fit-lengths.ensures ∙ ap (λ p. stripe_fits (plan_of p) a.stripe.now && words_fit (plan_of p) a.marks.now) plan)) in
-    record {
-      value = outcome-refused e c.if-number-ne0.true;
-      stripe_after = left-old e _ _ c.if-number-ne0.true;
-      marks_after = left-old e _ _ c.if-number-ne0.true;
-    }
+-- the number, as the code asks for it
+asked : (file stripe marks : List ℕ) {p n : ℕ} {fit : Bool} → p ≡ plan_in file → fit ≡ (stripe_fits (plan_of p) stripe && words_fit (plan_of p) marks)
+    → n ≡ file_refusal file fit → n ≡ read_refusal file stripe marks
+unfolding read_refusal
+asked file stripe marks plan fits e =
+    e ∙ ap (file_refusal file) (fits ∙ ap (λ p. stripe_fits (plan_of p) stripe && words_fit (plan_of p) marks) plan)
+
+pub returns-in_err-file_refusal-clause-value : goal.returns-in_err-file_refusal-clause-value
+returns-in_err-file_refusal-clause-value c =
+    let p = err_from_is_err_and c.from_residual.result c.from_residual.ensures.1 in
+    rw (p.1, p.2) (asked _ _ _ c.plan_in-plan.ensures c.lengths_fit-lengths.ensures c.in_err-file_refusal.ensures)
+
+pub returns-in_err-file_refusal-clause-stripe_after : goal.returns-in_err-file_refusal-clause-stripe_after
+unfolding read_stripe
+returns-in_err-file_refusal-clause-stripe_after c =
+    left-old _ _ (refused _ (asked _ _ _ c.plan_in-plan.ensures c.lengths_fit-lengths.ensures c.in_err-file_refusal.ensures))
+
+pub returns-in_err-file_refusal-clause-marks_after : goal.returns-in_err-file_refusal-clause-marks_after
+unfolding read_marks
+returns-in_err-file_refusal-clause-marks_after c =
+    left-old _ _ (refused _ (asked _ _ _ c.plan_in-plan.ensures c.lengths_fit-lengths.ensures c.in_err-file_refusal.ensures))
 
 pub load-requires : goal.load-requires
-unfolding read_refusal
-load-requires c = read-loading _ _ _ (sym (let a = c.args in let plan = c.plan_in-plan.ensures in c.file_refusal-number.ensures ∙ ap (file_refusal a.file.now) (c.lengths_fit-lengths.ensures ∙ ap (λ p. stripe_fits (plan_of p) a.stripe.now && words_fit (plan_of p) a.marks.now) plan)) ∙ c.if-number-ne0.false)
+load-requires c = read-loading _ _ _ (accepted (asked _ _ _ c.plan_in-plan.ensures c.lengths_fit-lengths.ensures c.in_ok-file_refusal.ensures))
 
-pub returns : goal.returns
-unfolding read_stripe read_marks read_refusal
-returns c = let e = (let a = c.args in let plan = c.plan_in-plan.ensures in c.file_refusal-number.ensures ∙ ap (file_refusal a.file.now) (c.lengths_fit-lengths.ensures ∙ ap (λ p. stripe_fits (plan_of p) a.stripe.now && words_fit (plan_of p) a.marks.now) plan)) in
-    let z = c.if-number-ne0.false in
-    record {
-      value = outcome-done e z;
-      stripe_after = c.load.ensures.stripe_after ∙ left-new e _ _ z;
-      marks_after = c.load.ensures.marks_after ∙ left-new e _ _ z;
-    }
+pub returns-clause-value : goal.returns-clause-value
+returns-clause-value c = asked _ _ _ c.plan_in-plan.ensures c.lengths_fit-lengths.ensures c.in_ok-file_refusal.ensures
+
+pub returns-clause-stripe_after : goal.returns-clause-stripe_after
+unfolding read_stripe
+returns-clause-stripe_after c =
+    c.load.ensures.stripe_after ∙ left-new _ _ (accepted (asked _ _ _ c.plan_in-plan.ensures c.lengths_fit-lengths.ensures c.in_ok-file_refusal.ensures))
+
+pub returns-clause-marks_after : goal.returns-clause-marks_after
+unfolding read_marks
+returns-clause-marks_after c =
+    c.load.ensures.marks_after ∙ left-new _ _ (accepted (asked _ _ _ c.plan_in-plan.ensures c.lengths_fit-lengths.ensures c.in_ok-file_refusal.ensures))

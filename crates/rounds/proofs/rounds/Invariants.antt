@@ -1,13 +1,10 @@
--- `rounds`: the plan's tables are lent to every round. Before each `Rounding` holds: the turns to come lead where all turns do; a level less is to come.
--- A round ends in a row that fails; at the last level; in a level that fails or is blocked; or it learns the next. Assumes nothing.
+-- `rounds`: before each round `Rounding` holds: the turns to come lead where all turns do; a level less is to come. Assumes nothing.
 use Prim.Native.Nat.{suc, ◌-◌}
-use lib.ListN.{length}
-use Rattle.plans.specs.Plan.{plan_of}
 use Rattle.rounds.proofs.Rounding.{Rounding}
 use Rattle.rounds.proofs.rounds.Given as goal
 
-abbrev pub invariant-loop-checks : goal.invariant-loop-checks
-invariant-loop-checks l = Rounding l.plan l.initial.symbols l.initial.marks l.symbols l.marks l.sums l.restored l.level
+abbrev pub invariant-loop-row : goal.invariant-loop-row
+invariant-loop-row l = Rounding l.initial.bench l.bench l.restored
 
-abbrev pub decreases-loop-checks : goal.decreases-loop-checks
-decreases-loop-checks l = suc (length (plan_of l.plan).levels) - l.level
+abbrev pub decreases-loop-row : goal.decreases-loop-row
+decreases-loop-row l = suc l.levels - l.bench.level

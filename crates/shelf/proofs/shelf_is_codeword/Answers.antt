@@ -1,7 +1,7 @@
--- The verdict is told by its number. Assumes nothing.
+-- The answer is told by its number. Assumes nothing.
 use mathlib.Core.Path.{ap, ◌∙◌}
-use Rattle.plans.specs.Answers.{verdict_number}
+use Rattle.plans.specs.Answers.{as_number, verdict_number}
 use Rattle.shelf.proofs.shelf_is_codeword.Goals as goal
 
 pub returns : goal.returns
-returns c = c.of_verdict.ensures ∙ ap verdict_number c.is_codeword.ensures
+returns c = c.number.ensures ∙ ap (as_number verdict_number) c.is_codeword.ensures

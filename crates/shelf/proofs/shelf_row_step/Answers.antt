@@ -2,9 +2,11 @@
 -- row's word is put back. Assumes nothing.
 use mathlib.Core.Path.{◌≡◌, refl, sym, subst}
 use mathlib.Core.List.{List}
+use Rattle.std.specs.Prelude.{Result}
 use Prim.Native.Nat.{ℕ, ◌<◌}
 use native.Mathlib.Omega.{arith}
 use lib.ListN.{length, take, drop, get_or}
+use Rattle.plans.specs.Answers.{refusal_number}
 use Rattle.plans.specs.Rooms.{symbol_room}
 use Rattle.plans.specs.declared.Bench.{Bench}
 use Rattle.plans.specs.declared.Step.{Step}
@@ -23,17 +25,18 @@ use Rattle.shelf.proofs.shelf_row_step.Goals as goal
 abbrev bench : (l marks sums : List ℕ) → Bench
 bench l marks sums = bench_of (get_or l 0 0) (get_or l 1 0) (take symbol_room (drop symbols_from l)) marks sums
 
-taken : (l : List ℕ) (row : ℕ) {marks sums v ms : List ℕ} {s : Step} → length l ≡ bench_size → ((i : ℕ) → get_or l i 0 < byte_range)
+taken : (l : List ℕ) (row : ℕ) {marks sums v ms : List ℕ} {s : Result Step ℕ} → length l ≡ bench_size → ((i : ℕ) → get_or l i 0 < byte_range)
     → marks ≡ (bench_in l).marks → sums ≡ (bench_in l).sums → length v ≡ symbol_room
     → stepped (bench_of (get_or l 0 0) (get_or l 1 0) v ms sums) s ≡ row_step (bench l marks sums) row → Taken l row (bench l marks sums) v ms s
 taken l row fits bytes em es long step = record { fits = fits; bytes = bytes; came = bench-is l refl em es; long = long; step = step }
 
 pub returns-then-bench-ne-BENCH : goal.returns-then-bench-ne-BENCH
+unfolding refusal_number
 returns-then-bench-ne-BENCH c =
-    let h = steps-unfit _ _ c.if-bench-ne-BENCH.true in record { value = h.0; bench_after = h.1 }
+    let h = steps-unfit _ _ c.if-bench-ne-BENCH.true c.number.ensures in record { value = h.0; bench_after = h.1 }
 
-pub step_row-answer-requires : goal.step_row-answer-requires
-step_row-answer-requires c =
+pub step_row-step-requires : goal.step_row-step-requires
+step_row-step-requires c =
     let l = c.args.bench.now in
     let came = bench-is l refl c.marks_in-marks.ensures c.sums_in-sums.ensures in
     sized-room (bench l c.marks_in-marks.result c.sums_in-sums.result) (subst Sized (sym came) (sized-in l c.if-bench-ne-BENCH.false))
@@ -42,17 +45,17 @@ pub returns-then-row-ge-ROWS : goal.returns-then-row-ge-ROWS
 returns-then-row-ge-ROWS c =
     let l = c.args.bench.now in
     let bytes : (i : ℕ) → get_or l i 0 < byte_range = λ i. search rules in
-    let long : length c.step_row-answer.new.symbols ≡ symbol_room = omega arith in
-    let step = c.step_row-answer.ensures in
+    let long : length c.step_row-step.new.symbols ≡ symbol_room = omega arith in
+    let step = c.step_row-step.ensures in
     let t = taken l c.args.row c.if-bench-ne-BENCH.false bytes c.marks_in-marks.ensures c.sums_in-sums.ensures long step in
-    let h = row-past t c.of_step-number.ensures c.if-row-ge-ROWS.true in record { value = h.0; bench_after = h.1 }
+    let h = row-past t c.number-number.ensures c.if-row-ge-ROWS.true in record { value = h.0; bench_after = h.1 }
 
 pub returns : goal.returns
 returns c =
     let l = c.args.bench.now in
     let bytes : (i : ℕ) → get_or l i 0 < byte_range = λ i. search rules in
-    let long : length c.step_row-answer.new.symbols ≡ symbol_room = omega arith in
-    let step = c.step_row-answer.ensures in
+    let long : length c.step_row-step.new.symbols ≡ symbol_room = omega arith in
+    let step = c.step_row-step.ensures in
     let t = taken l c.args.row c.if-bench-ne-BENCH.false bytes c.marks_in-marks.ensures c.sums_in-sums.ensures long step in
-    let h = row_put t c.of_step-number.ensures (omega (arith, c.if-row-ge-ROWS.false)) c.put_mark.ensures in
+    let h = row_put t c.number-number.ensures (omega (arith, c.if-row-ge-ROWS.false)) c.put_mark.ensures in
     record { value = h.0; bench_after = h.1 }

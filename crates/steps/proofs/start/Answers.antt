@@ -1,20 +1,23 @@
--- `start`: what is refused gives the empty bench; else stripe and marks are copied with zeros behind them, which makes the fresh bench. Assumes nothing.
-use mathlib.Core.Path.{sym, ◌∙◌}
-use Rattle.steps.specs.Steps.{empty}
-use Rattle.plans.proofs.Plans.{rows-most, symbols-most}
-use Rattle.plans.proofs.Refusals.{lent_fits, stripe-length, marks-length}
+-- `start`: what is refused leaves the empty bench; else it becomes the fresh one. Assumes nothing.
+use mathlib.Core.Path.{refl, ap, ◌∙◌}
+use Rattle.plans.specs.Answers.{numbered}
+use Rattle.plans.proofs.Refusals.{accepted, number-pos, its-number, handed-on}
+use Rattle.steps.specs.Steps.{empty, stepped}
 use Rattle.steps.proofs.Ends.{started-done, started-refused}
 use Rattle.steps.proofs.start.Goals as goal
 
-pub symbols_of-symbols-requires : goal.symbols_of-symbols-requires
-symbols_of-symbols-requires c = rw (stripe-length _ _ _ (lent_fits _ _ _ (sym c.lent_refusal-number.ensures ∙ c.if-number-eq0.true)).lengths) (symbols-most _)
+pub returns-in_err-lent_refusal : goal.returns-in_err-lent_refusal
+unfolding empty
+returns-in_err-lent_refusal c = let e = c.in_err-lent_refusal.ensures in
+    ap (stepped empty) (handed-on _ _ c.from_residual.ensures.1) ∙ started-refused c.args.plan c.args.stripe.now c.args.marks.now _ (its-number _ e) (number-pos _)
 
-pub words_of-words-requires : goal.words_of-words-requires
-words_of-words-requires c = rw (marks-length _ _ _ (lent_fits _ _ _ (sym c.lent_refusal-number.ensures ∙ c.if-number-eq0.true)).lengths) (rows-most _)
+pub make_fresh-requires-clause-fits : goal.make_fresh-requires-clause-fits
+make_fresh-requires-clause-fits c = accepted c.in_ok-lent_refusal.ensures
 
-pub returns-then-number-eq0 : goal.returns-then-number-eq0
-returns-then-number-eq0 c = started-done _ _ _ c.symbols_of-symbols.ensures c.words_of-words.ensures (sym c.lent_refusal-number.ensures ∙ c.if-number-eq0.true)
+pub make_fresh-requires-clause-blank : goal.make_fresh-requires-clause-blank
+unfolding empty
+make_fresh-requires-clause-blank c = refl
 
 pub returns : goal.returns
-unfolding empty
-returns c = started-refused _ _ _ _ c.lent_refusal-number.ensures c.if-number-eq0.false
+unfolding numbered
+returns c = started-done c.args.plan c.args.stripe.now c.args.marks.now c.make_fresh.ensures (accepted c.in_ok-lent_refusal.ensures)

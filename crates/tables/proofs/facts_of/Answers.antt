@@ -1,5 +1,4 @@
 -- Each plan's numbers are computed from the plan. Assumes nothing.
-use native.Mathlib.Omega.{arith}
 use mathlib.Core.Path.{sym, subst}
 use Rattle.std.proofs.Common.{rules}
 use mathlib.Core.List.{flat_map}
@@ -9,7 +8,6 @@ use Rattle.field.specs.Ours.{field_of}
 use Rattle.field.specs.Power.{power}
 use Rattle.fills.specs.Lists.{only}
 use Rattle.fills.specs.Marks.{bits_of}
-use Rattle.field.proofs.Words.{◌&◌}
 use Rattle.plans.specs.Plan.{all_ones, bit_checks, word_of, locations1, plan1, elements, power_bits, front_and_last, binary_plan, plan2, plan5, locations3, powers3, plan3, locations4, powers4, weights4, plan4, no_plan, plan_of, no_level, level_of, checks_to, marks_at, marks_of, check_places_of, carried, marks_offset, wide_marks, word_bytes, symbols_offset, file_length}
 use Rattle.tables.specs.Tables.{FactsOf}
 use Rattle.plans.proofs.Plans.{unknown}
@@ -42,4 +40,4 @@ returns-in-5 c = subst (λ p. FactsOf (plan_of p) _) (sym c.in-5.is) (search rul
 
 pub returns-in_default : goal.returns-in_default
 unfolding when◌then◌else◌ up_from flat_map size gf2 only no_plan no_level level_of checks_to marks_at marks_of check_places_of carried marks_offset wide_marks word_bytes symbols_offset file_length field_of
-returns-in_default c = rw (unknown c.args.plan (omega arith & omega arith & omega arith & omega arith & omega arith & tt)) (search rules)
+returns-in_default c = rw (unknown c.args.plan (search rules)) (search rules)

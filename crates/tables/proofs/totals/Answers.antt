@@ -1,17 +1,31 @@
--- Past level 3 no plan has a level. Assumes nothing.
-use mathlib.Core.Path.{ap, sym}
+-- The totals stand at their level; past level 3 no plan has one. Assumes nothing.
+use Rattle.std.proofs.Common.{rules}
+use mathlib.Core.Path.{◌≡◌, sym, ap, ◌∙◌}
+use mathlib.Core.Logic.{inl, inr}
+use mathlib.Core.List.{map}
+use Prim.Native.Nat.{ℕ}
 use native.Mathlib.Omega.{arith}
-use lib.ListN.{length}
+use lib.Dec.{ltb, ltb→lt, nltb→le}
+use lib.ListN.{length, get_or, get_or-eq_default}
+use Rattle.field.specs.Lists.{up_from}
 use Rattle.field.proofs.Lists.{get_or-map-below}
-use Rattle.plans.specs.Plan.{Level, no_level}
+use Rattle.fills.proofs.Tests.{either}
+use Rattle.plans.specs.Plan.{Level, plan_of, no_level, level_of}
 use Rattle.plans.proofs.Plans.{levels-most, level-beyond}
 use Rattle.tables.proofs.totals.Goals as goal
 
-pub returns-then-level-lt4 : goal.returns-then-level-lt4
-returns-then-level-lt4 c = rw c.facts_of.ensures.totals (get_or-map-below _ 4 _ 0 (omega arith))
+at-level : (p t : ℕ) → get_or (map (λ t. length (level_of (plan_of p) t).weights) (up_from 0 4)) t 0 ≡ length (level_of (plan_of p) t).weights
+unfolding up_from no_level
+at-level p t =
+    elim (either (ltb t 4)) [
+      | inl l ↦ get_or-map-below (λ t. length (level_of (plan_of p) t).weights) 4 t 0 (ltb→lt t 4 l)
+      | inr l ↦
+          let most = levels-most p in
+          get_or-eq_default (map (λ t. length (level_of (plan_of p) t).weights) (up_from 0 4)) 0 (nltb→le t 4 l)
+          ∙ sym (ap (λ (L : Level). length L.weights) (level-beyond (plan_of p) t (omega (arith, nltb→le t 4 l))))
+    ]
 
-pub returns-else-level-lt4 : goal.returns-else-level-lt4
-unfolding no_level
-returns-else-level-lt4 c =
-    let most = levels-most c.args.plan in
-    sym (ap (λ (L : Level). length L.weights) (level-beyond _ _ (omega arith)))
+pub returns : goal.returns
+returns c =
+    let e : c.unwrap_or.result ≡ get_or c.facts_of.result.totals c.args.level 0 = search rules in
+    e ∙ rw c.facts_of.ensures.totals (at-level c.args.plan c.args.level)

@@ -1,80 +1,82 @@
 -- Each plan's weights are computed, level by level; the other levels have none. Assumes nothing.
 use native.Mathlib.Omega.{arith}
+use Rattle.std.proofs.Common.{rules}
 use mathlib.Core.Path.{◌≡◌, refl, sym, ap, ap₂}
-use mathlib.Core.Logic.{◌≢◌, inl, inr}
+use mathlib.Core.Logic.{◌≢◌}
 use mathlib.Core.List.{[], flat_map}
-use Prim.Native.Nat.{ℕ}
-use lib.ListN.{replicate}
+use Prim.Native.Nat.{ℕ, zero, suc}
 use Rattle.field.specs.Lists.{up_from}
 use Rattle.field.specs.Field.{◌⊕◌, size, double, times, mul, gf16, gf256}
 use Rattle.field.specs.Power.{power}
-use Rattle.field.proofs.Words.{◌&◌}
 use Rattle.plans.specs.Plan.{Plan, all_ones, binary_plan, plan1, plan2, plan3, weights4, plan4, plan5, no_plan, plan_of, no_level, level_of}
-use Rattle.plans.specs.Rooms.{weight_room}
-use Rattle.plans.specs.Tables.{padded, flat, weight_table}
-use Rattle.plans.proofs.Plans.{of-known, known-or-none, unknown, weights-none}
+use Rattle.plans.specs.Tables.{weight_table}
+use Rattle.plans.proofs.Plans.{unknown, weights-none}
+use Rattle.tables.proofs.weights.Goals.{in_default-via-in-1+in_default, in_default-via-in-2+in_default, in_default-via-in-3+in_default, in_default-via-in-4+in_default, in_default-via-in-5+in_default, in_default-via-in_default}
 use Rattle.tables.proofs.weights.Goals as goal
 
 -- what is computed for a number and a level stands for the plan and the level
 at : {p k t u : ℕ} → p ≡ k → t ≡ u → weight_table (plan_of k) u ≡ weight_table (plan_of p) t
 at e f = ap₂ (λ p t. weight_table (plan_of p) t) (sym e) (sym f)
 
--- without weights there are zeros
-zeros : (P : Plan) (t : ℕ) → (level_of P t).weights ≡ [] → replicate weight_room 0 ≡ weight_table P t
-unfolding flat_map padded flat weight_table
-zeros P t e = ap (flat weight_room) (sym e)
+none : (P : Plan) (t : ℕ) → (level_of P t).weights ≡ [] → [] ≡ weight_table P t
+unfolding flat_map weight_table
+none P t e = ap (λ rows. flat_map (λ row. row) rows) (sym e)
 
--- of the plans, only plan 1 has no level 3
-lower : {p : ℕ} → p ≢ 2 → p ≢ 3 → p ≢ 4 → p ≢ 5 → (level_of (plan_of p) 3).weights ≡ []
-unfolding up_from plan1 no_plan plan_of no_level level_of
-lower {p} n2 n3 n4 n5 =
-    elim (known-or-none p) [
-      | inl t ↦ of-known (λ k. p ≡ k → (level_of (plan_of p) 3).weights ≡ []) ((λ e. rw e refl) & (λ e. absurd (n2 e)) & (λ e. absurd (n3 e)) & (λ e. absurd (n4 e)) & (λ e. absurd (n5 e)) & tt) p t refl
-      | inr e ↦ rw e refl
-    ]
+others : (p t : ℕ) → t ≢ 2 → t ≢ 3 → [] ≡ weight_table (plan_of p) t
+others p t n2 n3 = none _ _ (weights-none p t n2 n3)
 
-pub returns-in-1 : goal.returns-in-1
-unfolding flat_map all_ones plan1 plan_of level_of padded flat weight_table
-returns-in-1 c = at c.in-1.is c.if-level-eq2.true
+-- plan 1 has no level 3
+lower : (t : ℕ) → t ≢ 2 → (level_of plan1 t).weights ≡ []
+unfolding plan1 no_level level_of
+lower zero n = refl
+lower (suc zero) n = refl
+lower (suc (suc zero)) n = absurd (n refl)
+lower (suc (suc (suc t))) n = refl
 
-pub returns-in-2 : goal.returns-in-2
-unfolding flat_map all_ones binary_plan plan2 plan_of level_of padded flat weight_table
-returns-in-2 c = at c.in-2.is c.if-level-eq2.true
+pub returns-in-1-eq2 : goal.returns-in-1-eq2
+unfolding flat_map all_ones plan1 plan_of level_of weight_table
+returns-in-1-eq2 c = at c.in-1-eq2.is-0 c.in-1-eq2.is-1
 
-pub returns-in-3 : goal.returns-in-3
-unfolding up_from flat_map ◌⊕◌ size double times mul gf16 power all_ones plan3 plan_of level_of padded flat weight_table
-returns-in-3 c = at c.in-3.is c.if-level-eq2.true
+pub returns-in-2-eq2 : goal.returns-in-2-eq2
+unfolding flat_map all_ones binary_plan plan2 plan_of level_of weight_table
+returns-in-2-eq2 c = at c.in-2-eq2.is-0 c.in-2-eq2.is-1
 
-pub returns-in-4 : goal.returns-in-4
-unfolding up_from flat_map ◌⊕◌ size double times mul gf256 power weights4 plan4 plan_of level_of padded flat weight_table
-returns-in-4 c = at c.in-4.is c.if-level-eq2.true
+pub returns-in-2-eq3 : goal.returns-in-2-eq3
+unfolding flat_map all_ones binary_plan plan2 plan_of level_of weight_table
+returns-in-2-eq3 c = at c.in-2-eq3.is-0 c.in-2-eq3.is-1
 
-pub returns-in-5 : goal.returns-in-5
-unfolding flat_map all_ones binary_plan plan5 plan_of level_of padded flat weight_table
-returns-in-5 c = at c.in-5.is c.if-level-eq2.true
+pub returns-in-3-eq2 : goal.returns-in-3-eq2
+unfolding flat_map up_from ◌⊕◌ size double times mul gf16 power all_ones plan3 plan_of level_of weight_table
+returns-in-3-eq2 c = at c.in-3-eq2.is-0 c.in-3-eq2.is-1
+
+pub returns-in-3-eq3 : goal.returns-in-3-eq3
+unfolding flat_map all_ones plan3 plan_of level_of weight_table
+returns-in-3-eq3 c = at c.in-3-eq3.is-0 c.in-3-eq3.is-1
+
+pub returns-in-4-eq2 : goal.returns-in-4-eq2
+unfolding flat_map up_from ◌⊕◌ size double times mul gf256 power weights4 plan4 plan_of level_of weight_table
+returns-in-4-eq2 c = at c.in-4-eq2.is-0 c.in-4-eq2.is-1
+
+pub returns-in-4-eq3 : goal.returns-in-4-eq3
+unfolding flat_map all_ones plan4 plan_of level_of weight_table
+returns-in-4-eq3 c = at c.in-4-eq3.is-0 c.in-4-eq3.is-1
+
+pub returns-in-5-eq2 : goal.returns-in-5-eq2
+unfolding flat_map all_ones binary_plan plan5 plan_of level_of weight_table
+returns-in-5-eq2 c = at c.in-5-eq2.is-0 c.in-5-eq2.is-1
+
+pub returns-in-5-eq3 : goal.returns-in-5-eq3
+unfolding flat_map all_ones binary_plan plan5 plan_of level_of weight_table
+returns-in-5-eq3 c = at c.in-5-eq3.is-0 c.in-5-eq3.is-1
 
 pub returns-in_default : goal.returns-in_default
-unfolding no_plan no_level level_of up_from
-returns-in_default c = zeros _ _ (rw (unknown c.args.plan (omega arith & omega arith & omega arith & omega arith & omega arith & tt)) refl)
-
-pub returns-in-2-plan : goal.returns-in-2-plan
-unfolding flat_map all_ones binary_plan plan2 plan_of level_of padded flat weight_table
-returns-in-2-plan c = at c.in-2-plan.is c.if-level-eq3.true
-
-pub returns-in-3-plan : goal.returns-in-3-plan
-unfolding flat_map all_ones plan3 plan_of level_of padded flat weight_table
-returns-in-3-plan c = at c.in-3-plan.is c.if-level-eq3.true
-
-pub returns-in-4-plan : goal.returns-in-4-plan
-unfolding flat_map all_ones plan4 plan_of level_of padded flat weight_table
-returns-in-4-plan c = at c.in-4-plan.is c.if-level-eq3.true
-
-pub returns-in-5-plan : goal.returns-in-5-plan
-unfolding flat_map all_ones binary_plan plan5 plan_of level_of padded flat weight_table
-returns-in-5-plan c = at c.in-5-plan.is c.if-level-eq3.true
-
-pub returns-in_default-plan : goal.returns-in_default-plan
-returns-in_default-plan c = zeros _ _ (rw c.if-level-eq3.true (lower {p = c.args.plan} (omega arith) (omega arith) (omega arith) (omega arith)))
-
-pub returns : goal.returns
-returns c = zeros _ _ (weights-none _ _ c.if-level-eq2.false c.if-level-eq3.false)
+unfolding up_from no_plan plan_of no_level level_of
+returns-in_default c =
+    elim c.in_default.branch [
+      | in_default-via-in-1+in_default w ↦ rw w.in_default.is-0 (none plan1 _ (lower c.args.level (omega arith)))
+      | in_default-via-in-2+in_default w ↦ others _ _ (omega arith) (omega arith)
+      | in_default-via-in-3+in_default w ↦ others _ _ (omega arith) (omega arith)
+      | in_default-via-in-4+in_default w ↦ others _ _ (omega arith) (omega arith)
+      | in_default-via-in-5+in_default w ↦ others _ _ (omega arith) (omega arith)
+      | in_default-via-in_default w ↦ rw (unknown c.args.plan (search rules)) (none no_plan _ refl)
+    ]

@@ -1,17 +1,20 @@
--- `check_sum`: the check and the row are parts of what is lent, as long as each other, and their dot product is the row's sum. Assumes nothing.
+-- `check_sum`: the check and the row are parts of the table and of the symbols, and their dot product is the row's sum. Assumes nothing.
 use mathlib.Core.Path.{◌∙◌}
 use native.Mathlib.Omega.{arith}
-use Rattle.walks.proofs.Checks.{check-place, sum-of-parts}
+use Rattle.walks.proofs.Checks.{check-place, row-place, sum-of-parts}
 use Rattle.walks.proofs.check_sum.Goals as goal
 
 pub overflow_mul-first : goal.overflow_mul-first
-overflow_mul-first c = record { fits = omega (arith, check-place c.facts_of-facts.ensures c.requires) }
+overflow_mul-first c = omega (arith, check-place c.args.bench.now c.facts_of-facts.ensures c.checks-checks.ensures c.requires.below)
 
 pub overflow_add-last : goal.overflow_add-last
-overflow_add-last c = record { fits = omega (arith, check-place c.facts_of-facts.ensures c.requires) }
+overflow_add-last c = omega (arith, check-place c.args.bench.now c.facts_of-facts.ensures c.checks-checks.ensures c.requires.below)
 
 pub slice_bounds-dot-end : goal.slice_bounds-dot-end
-slice_bounds-dot-end c = check-place c.facts_of-facts.ensures c.requires
+slice_bounds-dot-end c = check-place c.args.bench.now c.facts_of-facts.ensures c.checks-checks.ensures c.requires.below
+
+pub slice_bounds-dot-end-2 : goal.slice_bounds-dot-end-2
+slice_bounds-dot-end-2 c = row-place c.args.bench.now c.facts_of-facts.ensures c.checks-checks.ensures c.requires.inside
 
 pub returns : goal.returns
-returns c = c.dot.ensures ∙ sum-of-parts c.facts_of-facts.ensures c.requires
+returns c = c.dot.ensures ∙ sum-of-parts c.args.bench.now c.facts_of-facts.ensures c.checks-checks.ensures c.args.row c.requires.below

@@ -1,6 +1,6 @@
--- `walk_rows`: `Walking` is kept from row to row, by what the row's sums or its fill say; a row less is to come each time. Within a row
--- without marks the checks passed have the sums learned. It ends behind the last row, or at the first that fails. Assumes nothing.
-use Prim.Native.Nat.{ℕ, ◌+◌, ◌*◌, ◌-◌, ◌≤◌, ◌<◌}
+-- `walk_rows`: `Walking` is kept from row to row, by what the row's sums or its fill say. Within a row without marks the checks passed have
+-- the sums learned. It ends behind the last row, or at the first that fails. Assumes nothing.
+use Prim.Native.Nat.{ℕ, ◌+◌, ◌*◌, ◌<◌}
 use mathlib.Core.Path.{◌≡◌}
 use lib.ListN.{get_or}
 use Rattle.fills.specs.Fill.{sums_of}
@@ -9,14 +9,11 @@ use Rattle.plans.specs.Rooms.{sum_room}
 use Rattle.walks.proofs.Walking.{Walking, Tested}
 use Rattle.walks.proofs.walk_rows.Given as goal
 
+abbrev pub invariant-loop-row : goal.invariant-loop-row
+invariant-loop-row l = Tested l.initial.bench l.count × Walking l.initial.bench l.bench l.row l.filled
+
 abbrev pub invariant-loop-j : goal.invariant-loop-j
-invariant-loop-j l = (l.j ≤ l.count) × ((i : ℕ) → i < l.j → get_or (sums_of (plan_of l.plan).field (checks_to (plan_of l.plan) l.level) (row_at (plan_of l.plan) l.symbols l.row)) i 0 ≡ get_or l.sums (l.row * sum_room + i) 0)
-
-abbrev pub invariant-rows : goal.invariant-rows
-invariant-rows l = Tested l.plan l.level l.count × Walking l.plan l.level l.sums l.initial.symbols l.initial.marks l.symbols l.marks l.row l.filled
-
-abbrev pub decreases-loop-j : goal.decreases-loop-j
-decreases-loop-j l = l.count - l.j
-
-abbrev pub decreases-rows : goal.decreases-rows
-decreases-rows l = (plan_of l.plan).rows - l.row
+invariant-loop-j l = let b = l.bench in
+    (i : ℕ) → i < l.j
+    → get_or (sums_of (plan_of b.plan).field (checks_to (plan_of b.plan) b.level) (row_at (plan_of b.plan) b.symbols l.row)) i 0
+    ≡ get_or b.sums (l.row * sum_room + i) 0

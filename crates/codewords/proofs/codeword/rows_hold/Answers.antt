@@ -1,15 +1,17 @@
 -- The goals of `rows_hold` that the search leaves open.
-use Rattle.codewords.proofs.Holding.{rows-checks, rows-turn, rows-fail, rows_end}
+use Rattle.codewords.proofs.Holding.{all_give0, row-pos, rows-turn, rows-fail, rows-end}
 use Rattle.codewords.proofs.codeword.rows_hold.Goals as goal
 
-pub vanishes-requires : goal.vanishes-requires
-vanishes-requires c = rows-checks c.requires c.loop-r-test.true c.loop-r.invariant
-
 pub returns-then-not-vanishes : goal.returns-then-not-vanishes
-returns-then-not-vanishes c = rows-fail c.requires c.loop-r-test.true c.loop-r.invariant c.vanishes.ensures c.if-not-vanishes.true
+unfolding all_give0
+returns-then-not-vanishes c =
+    rows-fail c.args.plan c.facts_of-facts.ensures _ c.requires c.loop-r.r c.loop-r-test.true c.level_checks-checks.ensures c.vanishes.ensures c.if-not-vanishes.true
 
 pub loop-r-preserved : goal.loop-r-preserved
-loop-r-preserved c = rows-turn c.requires c.loop-r-test.true c.loop-r.invariant c.vanishes.ensures c.if-not-vanishes.false
+unfolding all_give0
+loop-r-preserved c =
+    rows-turn c.args.plan c.facts_of-facts.ensures _ c.requires c.loop-r.r c.loop-r-test.true c.level_checks-checks.ensures c.vanishes.ensures c.if-not-vanishes.false
+    c.loop-r.invariant
 
 pub returns : goal.returns
-returns c = rows_end c.loop-r-test.false c.loop-r.invariant
+returns c = rows-end c.args.plan c.facts_of-facts.ensures _ c.loop-r-test.false c.loop-r.invariant

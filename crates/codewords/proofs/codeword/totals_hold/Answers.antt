@@ -1,60 +1,66 @@
 -- The goals of `totals_hold` that the search leaves open.
-use mathlib.Core.Path.{sym}
+use mathlib.Core.Path.{◌≡◌, sym, subst, ◌∙◌}
+use Prim.Native.Nat.{ℕ, ◌-◌, ◌≤◌}
 use native.Mathlib.Omega.{arith}
-use Rattle.tables.proofs.Numbers.{numbers}
-use Rattle.codewords.proofs.Holding.{checks-end, totals-order, totals-part, totals-room, weights-end, weights-within}
-use Rattle.codewords.proofs.Holding.{total-room, zero-length, total-long, total-length, totals-checks, totals-turn, totals-fail, totals-end}
+use lib.Dec.{T}
+use lib.ListN.{length}
+use Rattle.field.proofs.Laws.{IsField}
+use Rattle.field.proofs.Fields.{our-field}
+use Rattle.plans.specs.Plan.{known, plan_of}
+use Rattle.plans.specs.Tables.{weight_table}
+use Rattle.plans.proofs.Plans.{levels-known, columns-most}
+use Rattle.codewords.proofs.Walk.{cutting-turns, cutting-fails, cutting-ends}
+use Rattle.codewords.proofs.Holding.{all_give0, rows-pos, weights-cut, none-length, rows-inside, total-pos, its-total}
 use Rattle.codewords.proofs.codeword.totals_hold.Goals as goal
 
-pub overflow_mul-from : goal.overflow_mul-from
-overflow_mul-from c = omega (arith, checks-end (numbers _ c.facts_of-facts.ensures) _ c.sums_to-first.ensures)
+its-known : (p level : ℕ) → 1 ≤ level → level ≤ length (plan_of p).levels → T (known p)
+its-known p level above within = levels-known p (level - 1) (omega arith)
 
-pub overflow_mul-to : goal.overflow_mul-to
-overflow_mul-to c = omega (arith, checks-end (numbers _ c.facts_of-facts.ensures) _ c.sums_to-last.ensures)
+pub chunks_exact-weights-items-requires : goal.chunks_exact-weights-items-requires
+chunks_exact-weights-items-requires c =
+    rw c.facts_of-facts.ensures.rows (rows-pos c.args.plan (its-known c.args.plan c.args.level c.requires.above c.requires.within))
 
-pub overflow_mul-start : goal.overflow_mul-start
-overflow_mul-start c = omega (arith, (weights-end c.requires c.loop-i.invariant c.loop-i-test.true))
+pub loop-weights-init : goal.loop-weights-init
+loop-weights-init c =
+    let p = c.args.plan in
+    let k = its-known p c.args.level c.requires.above c.requires.within in
+    let size : c.into_iter-weights-iterator.result.size ≡ (plan_of p).rows = cc (c.facts_of-facts.ensures.rows) in
+    let all : c.into_iter-weights-iterator.result.rest.now ≡ weight_table (plan_of p) c.args.level = cc in
+    let K = subst IsField c.facts_of-facts.ensures.field.names (our-field c.facts_of-facts.result.field) in
+    record { can = rw size (rows-pos p k); ends = tt; size = size; walk = rw all (weights-cut p c.args.level k K c.args.stripe.now) }
 
-pub overflow_add-end : goal.overflow_add-end
-overflow_add-end c = omega (arith, (weights-end c.requires c.loop-i.invariant c.loop-i-test.true))
-
-pub slice_bounds-add_rows-end : goal.slice_bounds-add_rows-end
-slice_bounds-add_rows-end c = weights-within c.requires c.loop-i.invariant c.loop-i-test.true
+pub slice_bounds-room-end : goal.slice_bounds-room-end
+slice_bounds-room-end c = rw c.facts_of-facts.ensures.columns (columns-most c.args.plan)
 
 pub slice_bounds-total-end : goal.slice_bounds-total-end
-slice_bounds-total-end c = total-room c.requires c.loop-i.invariant c.loop-i-test.true
+slice_bounds-total-end c = sym (none-length c.args.plan c.facts_of-facts.ensures.columns)
 
-pub slice_bounds-add_rows-end-in-loop-i : goal.slice_bounds-add_rows-end-in-loop-i
-slice_bounds-add_rows-end-in-loop-i c = sym (zero-length c.requires c.loop-i.invariant c.loop-i-test.true)
-
-pub slice_bounds-vanishes-count : goal.slice_bounds-vanishes-count
-slice_bounds-vanishes-count c = totals-part c.requires c.loop-i.invariant
-
-pub slice_bounds-vanishes-start : goal.slice_bounds-vanishes-start
-slice_bounds-vanishes-start c = totals-part c.requires c.loop-i.invariant
-
-pub slice_bounds-vanishes-end : goal.slice_bounds-vanishes-end
-slice_bounds-vanishes-end c = totals-room c.requires c.loop-i.invariant
-
-pub overflow_sub-last : goal.overflow_sub-last
-overflow_sub-last c = totals-order c.requires c.loop-i.invariant
-
-pub slice_bounds-total-end-in-loop-i : goal.slice_bounds-total-end-in-loop-i
-slice_bounds-total-end-in-loop-i c = total-long c.requires c.loop-i.invariant c.loop-i-test.true c.add_rows.auto.total c.add_rows.ensures
-
-pub slice_bounds-vanishes-end-in-loop-i : goal.slice_bounds-vanishes-end-in-loop-i
-slice_bounds-vanishes-end-in-loop-i c = sym (total-length c.requires c.loop-i.invariant c.loop-i-test.true c.add_rows.auto.total c.add_rows.ensures)
-
-pub vanishes-requires : goal.vanishes-requires
-vanishes-requires c = totals-checks c.requires c.loop-i.invariant c.loop-i-test.true c.add_rows.auto.total c.add_rows.ensures
+pub add_rows-requires : goal.add_rows-requires
+add_rows-requires c =
+    rows-inside c.args.plan c.facts_of-facts.ensures (its-known c.args.plan c.args.level c.requires.above c.requires.within) _ c.requires.long
+    _ (c.in-Some.ensures.steps.1.1 ∙ c.loop-weights.invariant.size)
 
 pub returns-then-not-vanishes : goal.returns-then-not-vanishes
-returns-then-not-vanishes c = totals-fail c.requires c.loop-i.invariant c.loop-i-test.true c.add_rows.auto.total c.add_rows.ensures c.vanishes.ensures
-    c.if-not-vanishes.true
+unfolding all_give0
+returns-then-not-vanishes c =
+    let high = c.in-Some.ensures.steps.1.1 ∙ c.loop-weights.invariant.size in
+    cutting-fails c.loop-weights.invariant.walk _ _ c.in-Some.ensures.steps.1.0 high
+    (sym (c.vanishes.ensures ∙ its-total c.args.plan c.facts_of-facts.ensures (its-known c.args.plan c.args.level c.requires.above c.requires.within)
+    _ c.requires.long _ high c.add_rows.auto.total c.add_rows.ensures c.requires.above c.level_checks-checks.ensures) ∙ c.if-not-vanishes.true)
 
-pub loop-i-preserved : goal.loop-i-preserved
-loop-i-preserved c = totals-turn c.requires c.loop-i.invariant c.loop-i-test.true c.add_rows.auto.total c.add_rows.ensures c.vanishes.ensures
-    c.if-not-vanishes.false
+pub loop-weights-preserved : goal.loop-weights-preserved
+unfolding all_give0
+loop-weights-preserved c =
+    let high = c.in-Some.ensures.steps.1.1 ∙ c.loop-weights.invariant.size in
+    let size : c.next.new.self.size ≡ (plan_of c.args.plan).rows = c.in-Some.ensures.steps.0 ∙ c.loop-weights.invariant.size in
+    record {
+      can = rw size (rows-pos c.args.plan (its-known c.args.plan c.args.level c.requires.above c.requires.within));
+      ends = tt;
+      size = size;
+      walk = cutting-turns c.loop-weights.invariant.walk _ _ c.in-Some.ensures.steps.1.0 high
+          (sym (c.vanishes.ensures ∙ its-total c.args.plan c.facts_of-facts.ensures (its-known c.args.plan c.args.level c.requires.above c.requires.within)
+          _ c.requires.long _ high c.add_rows.auto.total c.add_rows.ensures c.requires.above c.level_checks-checks.ensures) ∙ c.if-not-vanishes.false);
+    }
 
 pub returns : goal.returns
-returns c = totals-end c.loop-i-test.false c.loop-i.invariant
+returns c = cutting-ends c.loop-weights.invariant.walk (omega (arith, c.in-None.ensures.steps.1.0, c.loop-weights.invariant.size))

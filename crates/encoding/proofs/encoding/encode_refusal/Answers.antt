@@ -1,30 +1,29 @@
--- The tests in their order: the first that fails answers its number.
-use mathlib.Core.Path.{sym, ◌∙◌}
+-- Each test stands behind those before it in the list, which hold there. Assumes nothing.
+use mathlib.Core.Path.{ap}
+use Rattle.std.proofs.Common.{rules}
+use Rattle.field.specs.Lists.{when◌then◌else◌}
+use Rattle.field.specs.Field.{size}
 use Rattle.field.proofs.Ring.{size-pos}
-use Rattle.plans.proofs.Refusals.{none-fails, passes, fails}
-use Rattle.codewords.proofs.Verdicts.{its-symbols}
+use Rattle.plans.specs.Answers.{refusal_number, refused_by}
+use Rattle.plans.specs.Refusal.{first_failed}
 use Rattle.encoding.specs.Data.{encode_refusal}
 use Rattle.encoding.proofs.encoding.encode_refusal.Goals as goal
 
 pub returns-then-not-is_known : goal.returns-then-not-is_known
-unfolding encode_refusal
-returns-then-not-is_known c = sym (fails 10 _ (sym c.is_known.ensures ∙ c.if-not-is_known.true))
+unfolding when◌then◌else◌ first_failed encode_refusal refusal_number refused_by
+returns-then-not-is_known c = search rules
 
 pub returns-then-not-lengths_fit : goal.returns-then-not-lengths_fit
-unfolding encode_refusal
-returns-then-not-lengths_fit c = sym (passes 10 _ (sym c.is_known.ensures ∙ c.if-not-is_known.false) ∙ fails 11 _ (sym c.lengths_fit.ensures ∙ c.if-not-lengths_fit.true))
+unfolding when◌then◌else◌ first_failed encode_refusal refusal_number refused_by
+returns-then-not-lengths_fit c = search rules
 
 pub all_below-requires : goal.all_below-requires
-all_below-requires c = rw c.facts_of-facts.ensures.field.its-size (size-pos _)
+all_below-requires c = rw c.size.ensures (size-pos _)
 
 pub returns-then-not-all_below : goal.returns-then-not-all_below
-unfolding encode_refusal
-returns-then-not-all_below c = sym
-    (passes 10 _ (sym c.is_known.ensures ∙ c.if-not-is_known.false) ∙ passes 11 _ (sym c.lengths_fit.ensures ∙ c.if-not-lengths_fit.false)
-    ∙ fails 13 _ (its-symbols c.facts_of-facts.ensures _ c.all_below.ensures c.if-not-all_below.true))
+unfolding when◌then◌else◌ first_failed encode_refusal refusal_number refused_by
+returns-then-not-all_below c = let e = ap size c.facts_of.ensures.field.names in search rules
 
 pub returns : goal.returns
-unfolding encode_refusal
-returns c = sym
-    (passes 10 _ (sym c.is_known.ensures ∙ c.if-not-is_known.false) ∙ passes 11 _ (sym c.lengths_fit.ensures ∙ c.if-not-lengths_fit.false)
-    ∙ passes 13 _ (its-symbols c.facts_of-facts.ensures _ c.all_below.ensures c.if-not-all_below.false) ∙ none-fails)
+unfolding when◌then◌else◌ first_failed encode_refusal refusal_number refused_by
+returns c = let e = ap size c.facts_of.ensures.field.names in search rules

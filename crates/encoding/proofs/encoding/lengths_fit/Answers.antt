@@ -4,6 +4,6 @@ use borrow.Author.Tests.{eq-eqb}
 use Rattle.plans.specs.Refusal.{stripe_fits}
 use Rattle.encoding.proofs.encoding.lengths_fit.Goals as goal
 
-pub returns : goal.returns
+pub returns-then-data-facts : goal.returns-then-data-facts
 unfolding stripe_fits
-returns c = rw (c.facts_of-facts.ensures.symbols, eq-eqb _ _ (c.if-data-count.false ∙ c.facts_of-facts.ensures.carried))
+returns-then-data-facts c = rw (c.facts_of-facts.ensures.symbols, eq-eqb _ _ (c.if-data-facts.true ∙ c.facts_of-facts.ensures.carried))

@@ -6,24 +6,36 @@ use Rattle.encoding.proofs.Placing.{taking-starts, taking-length, at_row, row-ta
 use Rattle.encoding.proofs.encoding.take.Goals as goal
 
 pub loop-r-init : goal.loop-r-init
-loop-r-init c = (omega arith, taking-starts)
+loop-r-init c = taking-starts
 
 pub slice_bounds-take_row-count-in-loop-r : goal.slice_bounds-take_row-count-in-loop-r
-slice_bounds-take_row-count-in-loop-r c = omega (arith, (at_row (numbers _ c.facts_of-facts.ensures) _ _ c.requires.long c.loop-r-test.true _ (taking-length c.loop-r.invariant.1 ∙ c.requires.room) c.loop-r.invariant.1.count).room)
+slice_bounds-take_row-count-in-loop-r c = omega (
+  arith,
+  (at_row (numbers _ c.facts_of-columns.ensures) _ _ c.requires.high c.requires.long c.loop-r-test.true _ (taking-length c.loop-r.invariant ∙ c.requires.room) c.loop-r.invariant.count).room,
+)
 
 pub slice_bounds-take_row-start-in-loop-r : goal.slice_bounds-take_row-start-in-loop-r
-slice_bounds-take_row-start-in-loop-r c = omega (arith, (at_row (numbers _ c.facts_of-facts.ensures) _ _ c.requires.long c.loop-r-test.true _ (taking-length c.loop-r.invariant.1 ∙ c.requires.room) c.loop-r.invariant.1.count).room)
+slice_bounds-take_row-start-in-loop-r c = omega (
+  arith,
+  (at_row (numbers _ c.facts_of-columns.ensures) _ _ c.requires.high c.requires.long c.loop-r-test.true _ (taking-length c.loop-r.invariant ∙ c.requires.room) c.loop-r.invariant.count).room,
+)
 
 pub take_row-next-requires : goal.take_row-next-requires
-take_row-next-requires c = (at_row (numbers _ c.facts_of-facts.ensures) _ _ c.requires.long c.loop-r-test.true _ (taking-length c.loop-r.invariant.1 ∙ c.requires.room) c.loop-r.invariant.1.count).lent
+take_row-next-requires c =
+    (at_row (numbers _ c.facts_of-columns.ensures) _ _ c.requires.high c.requires.long c.loop-r-test.true _ (taking-length c.loop-r.invariant ∙ c.requires.room) c.loop-r.invariant.count).lent
 
 pub overflow_add-next : goal.overflow_add-next
-overflow_add-next c = omega (arith, (at_row (numbers _ c.facts_of-facts.ensures) _ _ c.requires.long c.loop-r-test.true _ (taking-length c.loop-r.invariant.1 ∙ c.requires.room) c.loop-r.invariant.1.count).room, c.take_row-next.ensures.value, c.well_formed, taking-length c.loop-r.invariant.1)
+overflow_add-next c = omega (
+  arith,
+  (at_row (numbers _ c.facts_of-columns.ensures) _ _ c.requires.high c.requires.long c.loop-r-test.true _ (taking-length c.loop-r.invariant ∙ c.requires.room) c.loop-r.invariant.count).room,
+  c.take_row-next.ensures.value,
+  c.well_formed,
+  taking-length c.loop-r.invariant,
+)
 
 pub loop-r-preserved : goal.loop-r-preserved
 loop-r-preserved c = let got = c.take_row-next.ensures in
-    (omega arith, row-takes (numbers _ c.facts_of-facts.ensures) _ _ c.requires.long c.loop-r-test.true c.loop-r.invariant.1 got.value got.data_after)
+    row-takes (numbers _ c.facts_of-columns.ensures) _ _ c.requires.high c.requires.long c.loop-r-test.true c.loop-r.invariant got.value got.data_after
 
 pub returns : goal.returns
-returns c = rows_taken _ _ (omega (arith, c.loop-r.invariant.0, c.loop-r-test.false, c.facts_of-facts.ensures.rows))
-    c.requires.room c.loop-r.invariant.1
+returns c = rows_taken _ _ (omega (arith, c.requires.high)) c.requires.room c.loop-r.invariant

@@ -1,5 +1,4 @@
 -- `sums::across`: the sums of the rows passed are in place, and a row less is to come. Assumes nothing.
-use mathlib.Core.Path.{◌≡◌}
 use lib.ListN.{length}
 use Rattle.field.specs.Ours.{field_of}
 use Rattle.plans.specs.Tables.{row_sums}
@@ -7,4 +6,4 @@ use Rattle.plans.proofs.Copying.{Copying}
 use Rattle.levels.proofs.sums.across.Given as goal
 
 abbrev pub invariant-loop-r : goal.invariant-loop-r
-invariant-loop-r l = (l.r-end ≡ length l.initial.sums) × Copying l.initial.sums (row_sums (field_of l.q) (length l.initial.sums) l.symbols l.check) l.sums l.r
+invariant-loop-r l = Copying l.initial.sums (row_sums (field_of l.q) (length l.initial.sums) l.symbols l.check) l.sums l.r

@@ -1,25 +1,11 @@
--- The turns and ends of `lossy_word`, from its invariants.
+-- `lossy_word`: bit r is set where row r has marks. Assumes nothing.
+use Prim.Native.Nat.{◌+◌}
 use native.Mathlib.Omega.{arith}
-use Rattle.plans.proofs.Lossy.{lossy-starts, lossy-marked, lossy-unmarked, lossy-ends, lossy-small}
-use Rattle.std.proofs.Common.{rules}
+use Rattle.field.proofs.Lists.{map-up-same}
+use Rattle.fills.specs.Marks.{bits_of}
+use Rattle.std.proofs.Common.{of_calls}
 use Rattle.levels.proofs.sums.lossy_word.Goals as goal
 
-pub loop-r-init : goal.loop-r-init
-loop-r-init c = lossy-starts _ _
-
-pub overflow_mul-word : goal.overflow_mul-word
-overflow_mul-word c = omega (arith, lossy-small _ _ c.requires.few c.loop-r.invariant)
-
-pub overflow_add-word : goal.overflow_add-word
-overflow_add-word c = omega (arith, lossy-small _ _ c.requires.few c.loop-r.invariant)
-
-pub loop-r-preserved-then-marks-r-ne0 : goal.loop-r-preserved-then-marks-r-ne0
-loop-r-preserved-then-marks-r-ne0 c = lossy-marked _ _ (search rules) c.if-marks-r-ne0.true c.loop-r.invariant
-
-pub loop-r-preserved : goal.loop-r-preserved
-loop-r-preserved c = lossy-unmarked _ _ (search rules) c.if-marks-r-ne0.false c.loop-r.invariant
-
-pub returns : goal.returns
-returns c =
-    let e = lossy-ends c.args.rows c.args.marks.now (search rules) c.loop-r.invariant in
-    record { result_value = e.0; upper_bound = e.1 }
+pub returns-clause-result_value : goal.returns-clause-result_value
+unfolding bits_of
+returns-clause-result_value c = map-up-same _ _ 0 c.args.rows (λ r h. let told = c.word_of.ensures.each (0 + r) (omega arith) in search of_calls)
