@@ -1,9 +1,10 @@
 -- `reduce`, pivot by pivot: what it adds to a word and to its mask, and that the word becomes 0 at the pivots. Assumes nothing.
 use mathlib.Core.Path.{◌≡◌, sym, ap, ap₂, ◌∙◌}
-use Prim.Native.Nat.{ℕ, ◌+◌, ◌*◌, ◌^◌, ◌≤◌, ◌<◌}
+use Prim.Native.Nat.{ℕ, ◌+◌, ◌-◌, ◌*◌, ◌^◌, ◌≤◌, ◌<◌}
 use native.Mathlib.Nat.{mul-zero, mul-one, lt_of_le_of_lt}
 use native.Mathlib.Omega.{arith}
 use borrow.Author.Count.{below_more}
+use lib.Bits.{bit_and}
 use lib.Pow.{pow_pos}
 use Rattle.field.specs.Field.{◌⊕◌, gf2, mul}
 use Rattle.field.proofs.Sum.{of-bits, bit, ⊕-assoc, ⊕-self, ⊕-zero, zero-⊕, ⊕-lt}
@@ -11,8 +12,8 @@ use Rattle.field.proofs.Laws as laws
 use Rattle.field.proofs.Fields.{gf2-field}
 use Rattle.equations.specs.System.{vec}
 use Rattle.equations.specs.Words.{bit_at}
-use Rattle.equations.proofs.Bits.{bit-sum, bit-times, bit-small, times-le}
-use Rattle.basis.specs.Span.{column_bits, combined}
+use Rattle.equations.proofs.Bits.{bit-sum, bit-times, bit-small, times-le, taken_is}
+use Rattle.basis.specs.Span.{column_bits, mask_bits, combined}
 use Rattle.basis.specs.Steps.{Moved, Reducible}
 use Rattle.basis.specs.declared.Echelon.{Echelon}
 use Rattle.basis.proofs.Combined.{combined-masks, combined-zero}
@@ -65,10 +66,11 @@ module _ (e : Echelon) (word mask : ℕ) where
         added : (j : ℕ) → bit_at (left ⊕ vec e.words p * taken) (vec e.order j) ≡ bit_at left (vec e.order j) ⊕ mul gf2 taken (bit_at (vec e.words p) (vec e.order j))
         added j = bit-sum left _ (vec e.order j) ∙ ap (λ y. bit_at left (vec e.order j) ⊕ y) (bit-times (vec e.words p) _ (vec e.order j) (bit _))
 
-    pub reducing-turn : Reducing (left ⊕ vec e.words p * taken) (made ⊕ vec e.masks p * taken) (i + 1)
-    reducing-turn = record {
-      upto = omega arith;
-      small = ⊕-lt column_bits _ _ D.small (lt_of_le_of_lt (times-le (vec e.words p) _ (bit _)) (R.words-fit p));
-      moved = moved-bit left made p _ (bit _) D.moved;
-      gone = stuck-turn;
-    }
+    pub reducing-turn : Reducing (left ⊕ bit_and (vec e.words p) (taken * (2 ^ column_bits - 1))) (made ⊕ bit_and (vec e.masks p) (taken * (2 ^ mask_bits - 1))) (i + 1)
+    reducing-turn =
+        rw (taken_is column_bits (vec e.words p) taken (R.words-fit p) (bit _), taken_is mask_bits (vec e.masks p) taken (R.masks-fit p) (bit _)) record {
+          upto = omega arith;
+          small = ⊕-lt column_bits _ _ D.small (lt_of_le_of_lt (times-le (vec e.words p) _ (bit _)) (R.words-fit p));
+          moved = moved-bit left made p _ (bit _) D.moved;
+          gone = stuck-turn;
+        }

@@ -12,6 +12,11 @@ const BITS: usize = 32;
 
 const COLUMNS: usize = 64;
 
+// Every bit of a word, and of a mask.
+const WORD: u32 = 4294967295;
+
+const MASK: u64 = 18446744073709551615;
+
 // The coefficients of the m checks in column p as a word: bit i is that of check i.
 fn gather_column(checks: &[u8], m: usize, n: usize, p: usize) -> u32
     requires { Column checks.now m n p }
@@ -49,8 +54,9 @@ impl Echelon {
         for pivot in &self.order[..self.count] {
             let p = *pivot as usize;
             let taken = (left >> p) % 2;
-            left ^= self.words[p] * taken;
-            made ^= self.masks[p] * taken as u64;
+            // masks in place of products or branches: each turn waits for the one before
+            left ^= self.words[p] & taken * WORD;
+            made ^= self.masks[p] & taken as u64 * MASK;
         }
         Rest {
             word: left,

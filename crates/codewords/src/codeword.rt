@@ -63,7 +63,12 @@ fn weighted(q: Gf, weight: u8, symbol: u8) -> u8
     ensures { result ≡ mul (field_of q) weight symbol }
 {
     if weight == 1 {
-        symbol & (q.size() - 1) as u8
+        let bits = match q {
+            Gf::Two => 1,
+            Gf::Sixteen => 15,
+            Gf::Bytes => 255,
+        };
+        symbol & bits
     } else {
         q.product(weight, symbol)
     }

@@ -2,12 +2,12 @@
 use mathlib.Core.Path.{◌≡◌, refl, sym, ap, ap₂, ◌∙◌, subst}
 use mathlib.Core.Logic.{◌≢◌}
 use Prim.Native.Nat.{ℕ, zero, suc, ◌+◌, ◌-◌, ◌*◌, ◌/◌, ◌%◌, ◌^◌, ◌≤◌, ◌<◌}
-use native.Mathlib.Nat.{zero-add, zero-div, div-one, mod-one, div-eq_of_lt, lt_of_lt_of_le, div_self, one-mul, mul-zero, mul-one}
+use native.Mathlib.Nat.{zero-add, zero-div, div-one, mod-one, div-eq_of_lt, lt_of_lt_of_le, div_self, one-mul, zero-mul, mul-zero, mul-one, mod-eq_of_lt}
 use native.Mathlib.Numerals.{add-one, one-add}
 use native.Mathlib.Decide.{dec_lt}
 use native.Mathlib.Omega.{arith}
 use lib.Arith.{lt-one}
-use lib.Bits.{shifted_even, bit_and, and_mask}
+use lib.Bits.{shifted_even, bit_and, and_mask, and_zero_r}
 use lib.Count.{ones, ones_step, count_trailing_zeros, under}
 use lib.Dec.{lit<}
 use lib.Pow.{pow_mono, pow_pos, pow-add, shl-shr, shl_exact, shr-shr, shr_lt, mod-pow-add, field, mod-mod-pow}
@@ -73,6 +73,12 @@ bit-times x b j l =
 
 pub times-le : (x b : ℕ) → b < 2 → x * b ≤ x
 times-le x b l = of-bits (λ b. x * b ≤ x) (omega (arith, mul-zero x)) (omega (arith, mul-one x)) b l
+
+-- a word of k bits, or none of it
+pub taken_is : (k w b : ℕ) → w < 2 ^ k → b < 2 → bit_and w (b * (2 ^ k - 1)) ≡ w * b
+taken_is k w b h l =
+    of-bits (λ b. bit_and w (b * (2 ^ k - 1)) ≡ w * b) (ap (bit_and w) (zero-mul _) ∙ and_zero_r w ∙ sym (mul-zero w))
+    (ap (bit_and w) (one-mul _) ∙ and_mask w k ∙ mod-eq_of_lt h ∙ sym (mul-one w)) b l
 
 -- ---- words that agree in their low bits
 

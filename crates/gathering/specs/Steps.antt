@@ -43,7 +43,7 @@ pub record Listed (marks k : ℕ) (at : ℕ → ℕ) : Type 0 where
 pub record Showable (marks : ℕ) (v shown : List ℕ) : Type 0 where
   pub narrow : length v ≤ most_columns
   pub within : marks < 2 ^ length v
-  pub room : length shown ≡ length v
+  pub room : length v ≤ length shown
 
 -- `places` lists the marked columns of v, and `shown` is v with 0 there
 pub record Shown (marks : ℕ) (v shown places : List ℕ) : Type 0 where

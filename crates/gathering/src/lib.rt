@@ -50,14 +50,14 @@ pub fn spread(word: u64, bits: &mut [u8])
     }
 }
 
-// Lists the marked columns and gives how many there are; copies v to `shown`, with 0 under the marks.
+// Lists the marked columns and gives how many there are; copies v to the front of `shown`, with 0 under the marks.
 pub fn show(marks: u64, v: &[u8], places: &mut [u8; COLUMNS], shown: &mut [u8]) -> usize
     requires { Showable marks v.now shown.old }
     ensures few { result ≤ length v.now }
-    ensures shown { Shown marks v.now shown.new (take result places.new) }
+    ensures shown { Shown marks v.now (take (length v.now) shown.new) (take result places.new) }
 {
     let k = list_places(marks, places);
-    shown.copy_from_slice(v);
+    shown[..v.len()].copy_from_slice(v);
     for place in &places[..k] {
         shown[*place as usize] = 0;
     }

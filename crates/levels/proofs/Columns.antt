@@ -17,12 +17,12 @@ use Rattle.linear.specs.Answer.{Fillable, fill_of, answer_of, vector_of}
 use Rattle.linear.specs.declared.FillAnswer.{FillAnswer}
 use Rattle.fills.specs.Fill.{fill}
 use Rattle.plans.specs.Plan.{plan_of, level_of, row_at, across}
-use Rattle.plans.specs.Rooms.{symbol_room, total_room}
+use Rattle.plans.specs.Rooms.{total_room}
 use Rattle.plans.specs.Tables.{check_table, row_sums}
 use Rattle.plans.specs.declared.Bench.{Bench}
 use Rattle.levels.specs.Learned.{column_of, column_fill, ColumnReady}
 use Rattle.plans.proofs.Parts.{part}
-use Rattle.plans.proofs.Plans.{rows-most, symbols-most}
+use Rattle.plans.proofs.Plans.{rows-most}
 use Rattle.plans.proofs.Sizes.{totals-most, weights-length}
 use Rattle.plans.proofs.Tables.{weights-lt}
 use Rattle.plans.proofs.Summing.{row-sums-length}
@@ -61,8 +61,8 @@ module _ (b : Bench) {q : Gf} {rows n totals : ℕ} {weights : List ℕ} (w : We
     wide : length (part (j * n) n checks) ≡ (plan_of b.plan).columns
     wide = check-length w.is table (suc b.level) asked.check ∙ w.is.wide
 
-    pub across-fits : length column * length (part (j * n) n checks) ≤ symbol_room
-    across-fits = rw (asked.places, wide) (symbols-most b.plan)
+    pub across-fits : length column * length (part (j * n) n checks) ≤ length b.symbols
+    across-fits = rw (asked.places, wide) asked.symbols
 
     module _ {made : List ℕ} (e : made ≡ row_sums (field_of q) (length column) b.symbols (part (j * n) n checks)) where
       made-is : made ≡ column_of b j

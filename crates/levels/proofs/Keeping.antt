@@ -5,8 +5,8 @@ use Prim.Native.Nat.{ℕ, suc, ◌+◌, ◌*◌, ◌-◌, ◌≤◌, ◌<◌}
 use native.Mathlib.Nat.{suc-mul}
 use native.Mathlib.Numerals.{add-one}
 use native.Mathlib.Omega.{arith}
-use lib.ListN.{length, get_or, set, take, drop, length-map, length-set, length-take, take-append-drop}
-use lib.Seq.{sets, take-add, drop-drop}
+use lib.ListN.{length, get_or, set, take, drop, length-map, length-set, length-take, length-drop, take-append-drop}
+use lib.Seq.{sets, take-add, drop-drop, take-append-le, drop-append-le}
 use Rattle.field.specs.Lists.{up_from}
 use Rattle.plans.specs.Rooms.{sum_room}
 use Rattle.steps.specs.Steps.{new_sums, keep_sums}
@@ -95,3 +95,16 @@ module _ (at : ℕ) (cs : List (List ℕ)) (c : List ℕ) where
       ap₂ (λ a b. sets a (at + length cs) (new_sums (c ∷ []) r) ++ keep_sums (at + length cs) more b)
       (keep-here at (new_sums cs r) old l) (keep-behind at (new_sums cs r) old l)
       ∙ ap₂ ◌++◌ (new-last r (take sum_room l)) (keep-last rs (drop sum_room l))
+
+-- ---- the places of a plan's rows alone
+
+-- what stands behind the rows' places stays as it was
+pub keep-front : (n : ℕ) (news : List (List ℕ)) (front back : List ℕ) → length news * sum_room ≤ length front
+    → keep_sums n news (front ++ back) ≡ keep_sums n news front ++ back
+unfolding keep_sums
+keep-front n [] front back h = refl
+keep-front n (new ∷ news) front back h =
+    let fits : length news * sum_room + sum_room ≤ length front = omega (arith, h, suc-mul (length news) sum_room) in
+    ap₂ (λ a b. sets a n new ++ keep_sums n news b) (take-append-le sum_room front back (omega (arith, fits))) (drop-append-le sum_room front back (omega (arith, fits)))
+    ∙ ap (λ l. sets (take sum_room front) n new ++ l) (keep-front n news (drop sum_room front) back (simp length-drop (omega (arith, fits))))
+    ∙ sym (append_assoc (sets (take sum_room front) n new) (keep_sums n news (drop sum_room front)) back)

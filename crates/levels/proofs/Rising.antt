@@ -3,15 +3,17 @@ use mathlib.Core.Path.{◌≡◌, refl, sym, ap, ap₂, ◌∙◌, subst}
 use mathlib.Core.Bool.{Bool}
 use mathlib.Core.List.Memᴰ
 use mathlib.Core.List.{List, [], ◌∷◌, ◌++◌, map}
-use Prim.Native.Nat.{ℕ, suc, ◌+◌, ◌^◌, ◌≤◌, ◌<◌}
+use Prim.Native.Nat.{ℕ, suc, ◌+◌, ◌*◌, ◌^◌, ◌≤◌, ◌<◌}
 use native.Mathlib.Numerals.{add-one}
 use native.Mathlib.Omega.{arith}
 use borrow.Author.Tests.{le-ltb, lt-ltb}
 use lib.Count.{ones}
 use lib.Dec.{ltb}
-use lib.ListN.{length}
+use lib.ListN.{length, take, drop, length-map, take-append-drop}
+use lib.Seq.{length-take-le}
 use Rattle.std.specs.Prelude.{Ok, Err}
 use Rattle.field.specs.Lists.{when◌then◌else◌, up_from}
+use Rattle.field.proofs.Lists.{length_up}
 use Rattle.fills.specs.Marks.{bits_of}
 use Rattle.linear.specs.Answer.{answer_of, vector_of}
 use Rattle.fills.specs.Fill.{Fill, none, tied, one, vector_in}
@@ -24,7 +26,8 @@ use Rattle.plans.specs.Plan.{Plan, plan_of, level_of, checks_to}
 use Rattle.steps.specs.Steps.{lossy, check_fill, Learned, failing, blocked, learned, level_fill, new_sums, keep_sums, raise, Stepped, stepped, level_step_by, level_step}
 use Rattle.plans.specs.Refusal.{unasked, bench_refusal}
 use Rattle.plans.specs.Tables.{check_table}
-use Rattle.levels.specs.Learned.{column_of, column_fill, learning_of}
+use Rattle.plans.specs.Rooms.{sum_room}
+use Rattle.levels.specs.Learned.{column_of, column_fill, learning_of, Learns as LearnsTo}
 use Rattle.steps.specs.Parts.{bench_of}
 use Rattle.plans.specs.declared.Bench.{Bench}
 use Rattle.plans.specs.declared.Refusal.{Refusal}
@@ -36,7 +39,7 @@ use Rattle.plans.proofs.Flat.{row_in}
 use Rattle.plans.proofs.Refusals.{accepted, its-number, refused}
 use Rattle.plans.proofs.Plans.{some-check}
 use Rattle.plans.proofs.Tables.{level-checks-in, sums-more}
-use Rattle.levels.proofs.Keeping.{keep-none, keep-last}
+use Rattle.levels.proofs.Keeping.{keep-none, keep-last, keep-front}
 use Rattle.plans.proofs.Lossy.{lossy_from}
 use Rattle.steps.proofs.Passing.{Ones, ends-failing, ones-map, Passed, passed_none, passed-one, passed-all, ones-learned}
 use Rattle.steps.proofs.Sums.{keep-length}
@@ -79,6 +82,15 @@ unfolding learning_of
 learning-learned failing e = cc
 learning-learned blocked e = cc
 learning-learned (learned cs) e = (cs, refl)
+
+-- a column is filled by plan, level and symbols alone
+pub column-parts : (b : Bench) (ms : List Bool) (j : ℕ) → column_fill (bench_of b.plan b.level b.symbols [] []) ms j ≡ column_fill b ms j
+unfolding column_of column_fill
+column-parts b ms j = refl
+
+pub sums-parts : (b : Bench) (j : ℕ) → column_of (bench_of b.plan b.level b.symbols [] []) j ≡ column_of b j
+unfolding column_of
+sums-parts b j = refl
 
 -- ---- how the level ends, by the checks as they stand in the table, from k on
 
@@ -204,6 +216,71 @@ module _ {b : Bench} {rows last word j : ℕ} {kept : List ℕ} (s : LearnedTo b
                 ∙ ap (λ i. keep_sums i (map (new_sums (column ∷ [])) rs) (keep_sums at (map (new_sums s.columns) rs) b.sums)) (sym s.passed.count)
                 ∙ keep-last at s.columns column rs b.sums;
           }
+
+-- ---- by a bench's parts
+
+-- what learning answers, and the sums that it leaves
+abbrev pub Leaves : Bench → Learning → (after : List ℕ) → Type 0
+Leaves b r after = (r ≡ learning_of (level_fill b)) × (after ≡ (level_step_by b (level_fill b)).bench.sums)
+
+module _ (p t : ℕ) (symbols marks sums : List ℕ) where
+  -- the bench of the first n sums alone: learning looks at no sums
+  abbrev of_front : ℕ → Bench
+  of_front n = bench_of p t symbols marks (take n sums)
+
+  same-fill : (n : ℕ) → level_fill (of_front n) ≡ level_fill (bench_of p t symbols marks sums)
+  unfolding level_fill check_fill
+  same-fill n = refl
+
+  pub leaves-failing : (n : ℕ) {c : Bench} → Learns (of_front n) Failing c → Leaves (bench_of p t symbols marks sums) Failing sums
+  unfolding learning_of level_step_by stepped
+  leaves-failing n w = rw (sym (same-fill n) ∙ learning-failing _ (sym w.0)) (refl, refl)
+
+  pub leaves-blocked : (n : ℕ) {c : Bench} → Learns (of_front n) Blocked c → Leaves (bench_of p t symbols marks sums) Blocked sums
+  unfolding learning_of level_step_by stepped
+  leaves-blocked n w = rw (sym (same-fill n) ∙ learning-blocked _ (sym w.0)) (refl, refl)
+
+  -- the rows' places are written, and what stands behind them stays
+  pub leaves-learned : {n : ℕ} {kept : List ℕ} → n ≡ (plan_of p).rows * sum_room → n ≤ length sums
+      → Learns (of_front n) AllLearned (bench_of p (t + 1) symbols marks kept)
+      → Leaves (bench_of p t symbols marks sums) AllLearned (kept ++ drop n sums)
+  unfolding learning_of level_step_by stepped raise
+  leaves-learned {n} {kept} size room w =
+      let told = learning-learned _ (sym w.0) in
+      let k = length (checks_to (plan_of p) t) in
+      let news = map (new_sums told.0) (up_from 0 (plan_of p).rows) in
+      let made : kept ≡ keep_sums k news (take n sums) =
+      ap (λ (c : Bench). c.sums) w.1 ∙ ap (λ f. (level_step_by (of_front n) f).bench.sums) told.1 in
+      let fits : length news * sum_room ≤ length (take n sums) =
+      rw (length-map (up_from 0 (plan_of p).rows) (new_sums told.0), length_up 0 (plan_of p).rows, length-take-le n sums room) (omega (arith, size)) in
+      let whole : kept ++ drop n sums ≡ keep_sums k news sums =
+      ap (λ l. l ++ drop n sums) made ∙ sym (keep-front k news (take n sums) (drop n sums) fits) ∙ ap (keep_sums k news) (take-append-drop n sums) in
+      rw (sym (same-fill n) ∙ told.1) (refl, whole)
+
+module _ (b : Bench) {r : Learning} {after : List ℕ} (left : Leaves b r after) where
+  -- the bench of these sums is the level step's: its level is one higher where they are learned
+  pub learns-failed : r ≡ Failing → Learns b r (bench_of b.plan b.level b.symbols b.marks after)
+  unfolding level_step_by stepped
+  learns-failed e =
+      let q = learning-failing _ (sym left.0 ∙ e) in
+      (left.0, rw (left.1, q) refl)
+
+  pub learns-stuck : r ≡ Blocked → Learns b r (bench_of b.plan b.level b.symbols b.marks after)
+  unfolding level_step_by stepped
+  learns-stuck e =
+      let q = learning-blocked _ (sym left.0 ∙ e) in
+      (left.0, rw (left.1, q) refl)
+
+  pub learns-raised : r ≡ AllLearned → Learns b r (bench_of b.plan (b.level + 1) b.symbols b.marks after)
+  unfolding level_step_by stepped raise
+  learns-raised e =
+      let told = learning-learned _ (sym left.0 ∙ e) in
+      (left.0, rw (left.1, told.1, add-one b.level) refl)
+
+  -- where all are learned they are those of the level raised
+  pub leaves-raised : LearnsTo b r after
+  unfolding level_step_by stepped
+  leaves-raised = record { answer = left.0; sums = λ cs e. left.1 ∙ ap (λ f. (level_step_by b f).bench.sums) e }
 
 -- ---- the level step
 

@@ -91,7 +91,7 @@ fn solve_words(
     if answer.dependency.is_some() {
         return FillAnswer::Tied;
     }
-    gathering::spread(word, solution);
+    gathering::spread(word, &mut solution[..places.len()]);
     FillAnswer::One
 }
 
@@ -113,6 +113,25 @@ fn solve(
     }
 }
 
+// Fills the marked places by the system of the marked columns. Apart from `fill`, whose stack need not be set to zeros where nothing is marked.
+fn fill_marked(q: Gf, checks: &[u8], target: &[u8], v: &mut [u8], marks: u64) -> FillAnswer
+    requires { Fillable q checks.now target.now v.old marks }
+    ensures value { result ≡ answer_of (fill_of q checks.now target.now v.old marks) }
+    ensures v_after { v.new ≡ vector_of (fill_of q checks.now target.now v.old marks) v.old }
+{
+    let mut places = [0; COLUMNS];
+    let mut shown = [0; COLUMNS];
+    let k = gathering::show(marks, v, &mut places, &mut shown);
+    let places = &places[..k];
+    let shown = &shown[..v.len()];
+    let mut solution = [0; COLUMNS];
+    let answer = solve(q, checks, target, shown, places, &mut solution);
+    if answer == FillAnswer::One {
+        gathering::scatter(v, places, &solution);
+    }
+    answer
+}
+
 // Fills the marked places of v, in field `q`, so that its sums are the target: for each sum `checks` has a row of coefficients, as
 // many as v has symbols, and bit c of `marks` marks column c. v changes only where the answer is `One`, and no answer depends on
 // what stands under a mark. Where nothing is marked the sums are compared; else the system of the marked columns is solved, over GF(2)
@@ -122,22 +141,12 @@ pub fn fill(q: Gf, checks: &[u8], target: &[u8], v: &mut [u8], marks: u64) -> Fi
     ensures value { result ≡ answer_of (fill_of q checks.now target.now v.old marks) }
     ensures v_after { v.new ≡ vector_of (fill_of q checks.now target.now v.old marks) v.old }
 {
-    if marks == 0 {
-        return if has_sums(q, checks, target, v) {
-            FillAnswer::One
-        } else {
-            FillAnswer::None
-        };
+    if marks != 0 {
+        return fill_marked(q, checks, target, v, marks);
     }
-    let mut places = [0; COLUMNS];
-    let mut shown = [0; COLUMNS];
-    let shown = &mut shown[..v.len()];
-    let k = gathering::show(marks, v, &mut places, shown);
-    let places = &places[..k];
-    let mut solution = [0; COLUMNS];
-    let answer = solve(q, checks, target, shown, places, &mut solution);
-    if answer == FillAnswer::One {
-        gathering::scatter(v, places, &solution);
+    if has_sums(q, checks, target, v) {
+        FillAnswer::One
+    } else {
+        FillAnswer::None
     }
-    answer
 }

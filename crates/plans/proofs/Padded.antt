@@ -11,6 +11,11 @@ use Rattle.std.proofs.lemmas.List.{drop-replicate}
 use Rattle.words.specs.Written.{Put}
 use Rattle.plans.specs.Tables.{padded}
 
+pub length-padded : (n : ℕ) (xs : List ℕ) → length xs ≤ n → length (padded n xs) ≡ n
+unfolding padded
+length-padded n xs h =
+    length-append xs (replicate (n - length xs) 0) ∙ ap (λ k. length xs + k) (length-replicate (n - length xs) 0) ∙ add-sub_of_le h
+
 -- the first zero gives way to x
 put : (n : ℕ) (front : List ℕ) (x : ℕ) (left : ℕ) → n - length front ≡ suc left → n - length (front ++ (x ∷ [])) ≡ left
     → set (padded n front) (length front) x ≡ padded n (front ++ (x ∷ []))

@@ -1,5 +1,5 @@
 -- Mending in one call, by how its rounds ended. Assumes nothing.
-use mathlib.Core.Path.{◌≡◌, refl, sym, ap, ◌∙◌, subst}
+use mathlib.Core.Path.{◌≡◌, refl, sym, ap, ◌∙◌, subst, subst₂}
 use mathlib.Core.Bool.{Bool, true, false, not}
 use mathlib.Core.List.{List, []}
 use Prim.Native.Nat.{ℕ, suc, ◌+◌, ◌*◌, ◌-◌, ◌<◌, ◌≤◌}
@@ -17,7 +17,7 @@ use Rattle.fills.specs.Lists.{only}
 use Rattle.plans.specs.Answers.{refusal_number, numbered, refused_by}
 use Rattle.plans.specs.Plan.{Plan, plan_of, checks_to}
 use Rattle.plans.specs.Refusal.{lent_refusal}
-use Rattle.plans.specs.Rooms.{row_room, symbol_room, learned_room}
+use Rattle.plans.specs.Rooms.{row_room, symbol_room}
 use Rattle.plans.specs.Tables.{padded}
 use Rattle.steps.specs.Steps.{fresh, lossy}
 use Rattle.steps.specs.Parts.{bench_of, standing_of, Ready}
@@ -25,8 +25,7 @@ use Rattle.steps.specs.Rounds.{Turn, on, end, clash, turns}
 use Rattle.walks.specs.Walk.{over_marked}
 use Rattle.rounds.specs.Reports.{rounds_on, rows_left, end_report, bare}
 use Rattle.repair.specs.Mending.{mended, turn_report, turn_stripe, turn_marks, mend_report, mend_stripe, mend_marks}
-use Rattle.rounds.specs.Ended.{RoundsReady, Ended}
-use Rattle.plans.specs.declared.Bench.{Bench}
+use Rattle.rounds.specs.Ended.{start_of, Ended}
 use Rattle.plans.specs.declared.Place.{Place}
 use Rattle.plans.specs.declared.Report.{Report}
 use Rattle.plans.specs.declared.Refusal.{Refusal}
@@ -107,26 +106,23 @@ module _ (p : ℕ) (stripe marks : List ℕ) (e : refused_by (Ok tt) ≡ lent_re
         report_of : (left : ℕ) → Report
         report_of left = record { answer = when eqb left 0 then Restored else Stuck; level = 1; rows = replicate 3 0; left = left }
 
-  -- ---- the rounds, on a bench that is made of what is lent
+  -- ---- the rounds, on a bench of the code's arrays: what is lent, and zeros behind it
 
-  module _ {b : Bench} (made : b ≡ fresh p stripe marks) where
-    pub start-ready : RoundsReady b
-    unfolding fresh
-    start-ready = record {
-      ready = subst Ready (sym made) (ready_of (sound-fresh p stripe marks z));
-      first = ap (λ (b : Bench). b.level) made;
-    }
+  module _ {symbols words : List ℕ} (es : symbols ≡ padded symbol_room stripe) (em : words ≡ padded row_room marks) where
+    pub start-ready : Ready (start_of p symbols words)
+    unfolding fresh padded
+    start-ready = rw (es, em) (ready_of (sound-fresh p stripe marks z))
 
-    module _ (r : Report) (c : Bench) (o : Ended (rounds_on b.plan b) r c) where
-      ended-lent : Ended (mended p stripe marks) r c
-      unfolding mended fresh
-      ended-lent = subst (λ b. Ended (rounds_on b.plan b) r c) made o
+    module _ (r : Report) (symbols' words' : List ℕ) (o : Ended (rounds_on p (start_of p symbols words)) r symbols' words') where
+      ended-lent : Ended (mended p stripe marks) r symbols' words'
+      unfolding mended fresh padded
+      ended-lent = subst₂ (λ s w. Ended (rounds_on p (start_of p s w)) r symbols' words') es em o
 
       pub mends-clash : {place : Place} → r.answer ≡ Clash place → Mends p stripe marks (Ok r) stripe marks
       unfolding turn_report turn_stripe turn_marks end_report when◌then◌else◌
       mends-clash {place} h = go (mended p stripe marks) refl ended-lent
         where
-          go : (t : Turn) → mended p stripe marks ≡ t → Ended t r c → Mends p stripe marks (Ok r) stripe marks
+          go : (t : Turn) → mended p stripe marks ≡ t → Ended t r symbols' words' → Mends p stripe marks (Ok r) stripe marks
           go (on m) q w = absurd w
           go (end m) q w = absurd (never (eqb (rows_left m.bench) 0) (ap (λ (r : Report). r.answer) (sym w.0) ∙ h))
             where
@@ -135,13 +131,12 @@ module _ (p : ℕ) (stripe marks : List ℕ) (e : refused_by (Ok tt) ≡ lent_re
               never false g = let z : ◌≡◌ {A = ℕ} 0 1 = cc in omega arith
           go (clash place) q w = mends-by (clash place) q r stripe marks w refl refl
 
-      pub mends-end : ((place : Place) → r.answer ≡ Clash place → ⊥) → {s m : List ℕ} → s ≡ take (length stripe) c.symbols → m ≡ take (length marks) c.marks
+      pub mends-end : ((place : Place) → r.answer ≡ Clash place → ⊥) → {s m : List ℕ} → s ≡ take (length stripe) symbols' → m ≡ take (length marks) words'
           → Mends p stripe marks (Ok r) s m
       unfolding bare turn_report turn_stripe turn_marks
       mends-end h {s} {m} e f = go (mended p stripe marks) refl ended-lent
         where
-          go : (t : Turn) → mended p stripe marks ≡ t → Ended t r c → Mends p stripe marks (Ok r) s m
+          go : (t : Turn) → mended p stripe marks ≡ t → Ended t r symbols' words' → Mends p stripe marks (Ok r) s m
           go (on m) q w = absurd w
-          go (end n) q w =
-              mends-by (end n) q r s m w.0 (e ∙ ap (λ (c : Bench). take (length stripe) c.symbols) w.1) (f ∙ ap (λ (c : Bench). take (length marks) c.marks) w.1)
+          go (end n) q w = mends-by (end n) q r s m w.0 (e ∙ ap (take (length stripe)) w.1) (f ∙ ap (take (length marks)) w.2)
           go (clash place) q w = absurd (h place (ap (λ (r : Report). r.answer) w))

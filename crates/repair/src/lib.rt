@@ -11,7 +11,7 @@ pub use codewords::is_codeword;
 pub use encoding::extract;
 pub use interleaved::is_interleaved;
 pub use levels::level_step;
-use plans::ROWS;
+use plans::{ROWS, SYMBOLS};
 pub use plans::{Answer, Bench, Place, Refusal, Report, Step};
 pub use rows::row_step;
 pub use steps::start;
@@ -28,14 +28,16 @@ pub fn mend(plan: usize, stripe: &mut [u8], marks: &mut [u64]) -> Result<Report,
     if walks::over_marked(plan, marks) {
         return Ok(rounds::end_report(plan, 1, [0; 3], marks));
     }
-    let mut bench = Bench::EMPTY;
-    steps::make_fresh(plan, stripe, marks, &mut bench);
-    let report = rounds::rounds(&mut bench);
+    let mut symbols = [0u8; SYMBOLS];
+    let mut words = [0u64; ROWS];
+    symbols[..stripe.len()].copy_from_slice(stripe);
+    words[..marks.len()].copy_from_slice(marks);
+    let report = rounds::rounds(plan, &mut symbols, &mut words);
     if let Answer::Clash(_) = report.answer {
         return Ok(report);
     }
-    stripe.copy_from_slice(&bench.symbols[..stripe.len()]);
-    marks.copy_from_slice(&bench.marks[..marks.len()]);
+    stripe.copy_from_slice(&symbols[..stripe.len()]);
+    marks.copy_from_slice(&words[..marks.len()]);
     Ok(report)
 }
 

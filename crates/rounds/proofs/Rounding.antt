@@ -14,11 +14,11 @@ use Rattle.plans.specs.Plan.{Plan, plan_of}
 use Rattle.steps.specs.Steps.{learned, level_fill, raise, level_step_by, stepped}
 use Rattle.steps.specs.Rounds.{Turn, end, more, turns}
 use Rattle.rounds.specs.Reports.{rounds_on, rows_left, end_report, bare}
-use Rattle.steps.specs.Parts.{bench_of, standing_of}
-use Rattle.levels.specs.Learned.{learning_of}
-use Rattle.levels.proofs.Rising.{learning-failing, learning-blocked, learning-learned}
+use Rattle.steps.specs.Parts.{bench_of, standing_of, Ready}
+use Rattle.levels.specs.Learned.{LearnReady}
+use Rattle.levels.proofs.Rising.{Leaves, learns-raised, learning-failing, learning-blocked, learning-learned}
 use Rattle.walks.specs.Walk.{Settled, WalkedAll, WalkEnd, Walked, WalkReady}
-use Rattle.rounds.specs.Ended.{RoundsReady, Ended}
+use Rattle.rounds.specs.Ended.{Ended}
 use Rattle.plans.specs.declared.Bench.{Bench}
 use Rattle.plans.specs.declared.Report.{Report}
 use Rattle.plans.specs.declared.Place.TheVariants.{Row, Across}
@@ -46,17 +46,17 @@ pub record Rounding (first b : Bench) (restored : List ℕ) : Type 0 where
   pub turned : rounds_on first.plan first
       ≡ turns (suc (length (plan_of first.plan).levels - b.level) * suc (plan_of first.plan).rows) (standing_of b 0 restored)
 
-pub rounding-starts : (b : Bench) → RoundsReady b → Rounding b b (replicate 3 0)
+pub rounding-starts : (b : Bench) → Ready b → b.level ≡ 1 → Rounding b b (replicate 3 0)
 unfolding all
-rounding-starts b r =
-    let s = sound-of r.ready in
-    let all-levels : length (plan_of b.plan).levels ≡ suc (length (plan_of b.plan).levels - b.level) = omega (arith, s.fit.level-le, r.first) in
+rounding-starts b r first =
+    let s = sound-of r in
+    let all-levels : length (plan_of b.plan).levels ≡ suc (length (plan_of b.plan).levels - b.level) = omega (arith, s.fit.level-le, first) in
     record {
       plan = refl;
-      low = omega (arith, r.first);
+      low = omega (arith, first);
       high = s.fit.level-le;
       sound = s;
-      settled = λ above. absurd (above r.first);
+      settled = λ above. absurd (above first);
       three = refl;
       none_yet = λ i h. eqb→eq (get_or (replicate 3 0) i 0) 0 (all_get_d (λ x. eqb x 0) 0 tt (replicate 3 0) tt i);
       turned = ap (λ n. turns (n * suc (plan_of b.plan).rows) (standing_of b 0 (replicate 3 0))) all-levels;
@@ -96,17 +96,14 @@ module _ {first b : Bench} {restored : List ℕ} (R : Rounding first b restored)
 
   -- up to a Clash
   pub rounded-clash : (c : Bench) (failed : Option ℕ) (row filled : ℕ) → Walked b c failed filled → failed ≡ Some row
-      → (r : Report) → r ≡ bare (Clash (Row row b.level)) → Ended whole r c
+      → (r : Report) → r ≡ bare (Clash (Row row b.level)) → Ended whole r c.symbols c.marks
   rounded-clash c failed row filled w e r q =
-      subst (λ t. Ended t r c) (sym (walks ∙ (subst (λ f. WalkEnd b c f filled) e w.ends).turned (suc rest) restored room)) q
+      subst (λ t. Ended t r c.symbols c.marks) (sym (walks ∙ (subst (λ f. WalkEnd b c f filled) e w.ends).turned (suc rest) restored room)) q
 
   -- or all of them
   module _ (c : Bench) (failed : Option ℕ) (filled : ℕ) (w : Walked b c failed filled) (passed : failed ≡ None) where
     W : WalkedAll b c filled
     W = subst (λ f. WalkEnd b c f filled) passed w.ends
-
-    pub plan_kept : {d : Bench} → d ≡ c → d.plan ≡ first.plan
-    plan_kept same = ap (λ (d : Bench). d.plan) same ∙ w.plan ∙ R.plan
 
     -- the rows restored now
     abbrev now : List ℕ
@@ -128,60 +125,49 @@ module _ {first b : Bench} {restored : List ℕ} (R : Rounding first b restored)
     sound = sound-of w.ready
 
     -- the report of the end, as the code makes it
-    abbrev Reported : Report → Bench → Type 0
-    Reported r d = r ≡ end_report (standing_of (bench_of d.plan d.level [] d.marks []) 0 now)
+    abbrev Reported : Report → Type 0
+    Reported r = r ≡ end_report (standing_of (bench_of c.plan c.level [] c.marks []) 0 now)
 
-    out : whole ≡ end (standing_of c (plan_of c.plan).rows now) → {d : Bench} → d ≡ c → (r : Report) → Reported r d → Ended whole r d
+    out : whole ≡ end (standing_of c (plan_of c.plan).rows now) → (r : Report) → Reported r → Ended whole r c.symbols c.marks
     unfolding end_report rows_left
-    out e same r q = subst (Ended whole r) (sym same) (subst (λ t. Ended t r c) (sym e) (subst (Reported r) same q, refl))
+    out e r q = subst (λ t. Ended t r c.symbols c.marks) (sym e) (q, refl, refl)
 
-    pub rounded-top : b.level ≡ length P.levels → {d : Bench} → d ≡ c → (r : Report) → Reported r d → Ended whole r d
+    pub rounded-top : b.level ≡ length P.levels → (r : Report) → Reported r → Ended whole r c.symbols c.marks
     rounded-top e =
         out (onward ∙ turn-top c sound.fit (w.level ∙ e ∙ ap (λ p. length (plan_of p).levels) (sym (w.plan ∙ R.plan))) rest now)
 
     -- it has a mark word for each row
-    pub words-there : {d : Bench} → d ≡ c → (plan_of d.plan).rows ≤ length d.marks
-    words-there same = subst (λ d. (plan_of d.plan).rows ≤ length d.marks) (sym same) w.ready.room.stripe.rows
+    pub words-there : (plan_of c.plan).rows ≤ length c.marks
+    words-there = w.ready.room.stripe.rows
 
     -- ---- the level
 
     module _ (ne : b.level ≡ length P.levels → ⊥) where
-      pub low : c.level < length (plan_of c.plan).levels
+      low : c.level < length (plan_of c.plan).levels
       low = rw (w.level, w.plan, R.plan) (omega (arith, R.high, ne))
 
-      module _ {a : Learning} {d : Bench} (answer : a ≡ learning_of (level_fill c)) (leaves : d ≡ (level_step_by c (level_fill c)).bench) where
-        pub blocked-stays : a ≡ Blocked → d ≡ c
-        unfolding level_step_by stepped
-        blocked-stays k = leaves ∙ ap (λ f. (level_step_by c f).bench) (learning-blocked (level_fill c) (sym answer ∙ k))
+      pub learn-ready : LearnReady c
+      learn-ready = record { level = low; room = w.ready.room }
 
-        pub rounded-blocked : a ≡ Blocked → {j : Bench} → j ≡ d → (r : Report) → Reported r j → Ended whole r j
-        rounded-blocked k same =
-            out (onward ∙ turn-blocked c sound.fit low (learning-blocked (level_fill c) (sym answer ∙ k)) rest now) (same ∙ blocked-stays k)
+      module _ {a : Learning} {after : List ℕ} (left : Leaves c a after) where
+        pub rounded-blocked : a ≡ Blocked → (r : Report) → Reported r → Ended whole r c.symbols c.marks
+        rounded-blocked k = out (onward ∙ turn-blocked c sound.fit low (learning-blocked (level_fill c) (sym left.0 ∙ k)) rest now)
 
-        pub failing-stays : a ≡ Failing → d ≡ c
-        unfolding level_step_by stepped
-        failing-stays k = leaves ∙ ap (λ f. (level_step_by c f).bench) (learning-failing (level_fill c) (sym answer ∙ k))
-
-        pub rounded-failing : a ≡ Failing → (r : Report) → r ≡ bare (Clash (Across (b.level + 1))) → Ended whole r d
+        pub rounded-failing : a ≡ Failing → (r : Report) → r ≡ bare (Clash (Across (b.level + 1))) → Ended whole r c.symbols c.marks
         rounded-failing k r q =
-            subst (λ t. Ended t r d)
-            (sym (onward ∙ turn-failing c sound.fit low (learning-failing (level_fill c) (sym answer ∙ k)) rest now))
+            subst (λ t. Ended t r c.symbols c.marks)
+            (sym (onward ∙ turn-failing c sound.fit low (learning-failing (level_fill c) (sym left.0 ∙ k)) rest now))
             (q ∙ ap (λ n. bare (Clash (Across n))) (add-one b.level ∙ ap suc (sym w.level)))
 
         module _ (k : a ≡ AllLearned) where
           told : (cs : List (List ℕ)) × (level_fill c ≡ learned cs)
-          told = learning-learned (level_fill c) (sym answer ∙ k)
+          told = learning-learned (level_fill c) (sym left.0 ∙ k)
 
-          raised : d ≡ raise c told.0
+          raised : bench_of c.plan (c.level + 1) c.symbols c.marks after ≡ raise c told.0
           unfolding level_step_by stepped
-          raised = leaves ∙ ap (λ f. (level_step_by c f).bench) told.1
+          raised = (learns-raised c left k).1 ∙ ap (λ f. (level_step_by c f).bench) told.1
 
-          -- the next round is a level higher
-          pub level-rises : d.level ≡ suc b.level
-          unfolding raise
-          level-rises = ap (λ (d : Bench). d.level) raised ∙ ap suc w.level
-
-          pub rounding-turns : Rounding first d now
+          pub rounding-turns : Rounding first (bench_of c.plan (c.level + 1) c.symbols c.marks after) now
           unfolding raise
           rounding-turns =
               let levels-left : length P.levels - b.level ≡ suc (length P.levels - suc c.level) = omega (arith, R.high, ne, w.level) in

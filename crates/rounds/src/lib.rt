@@ -4,12 +4,12 @@
 ghost use Rattle.std.specs.Prelude.{◌≡◌, [], ◌≤◌, length};
 ghost use Rattle.std.specs.List.{filter};
 ghost use Rattle.plans.specs.Plan.{plan_of};
-ghost use Rattle.steps.specs.Parts.{bench_of, standing_of};
+ghost use Rattle.steps.specs.Parts.{bench_of, standing_of, Ready};
 ghost use Rattle.rounds.specs.Reports.{rounds_on, bare, end_report};
-ghost use Rattle.rounds.specs.Ended.{Ended, RoundsReady, has_marks};
+ghost use Rattle.rounds.specs.Ended.{start_of, Ended, has_marks};
 
 use levels::Learning;
-use plans::{Answer, Bench, Place, Report};
+use plans::{Answer, LEARNED, Place, Report};
 
 // How many of the rows have marks.
 fn rows_left(marks: &[u64]) -> usize
@@ -51,18 +51,19 @@ pub fn end_report(plan: usize, level: usize, restored: [usize; 3], marks: &[u64]
     }
 }
 
-// Rounds on a bench at level 1 until they stop; the bench becomes the one where they end.
-pub fn rounds(bench: &mut Bench) -> Report
-    requires { RoundsReady bench.old }
-    ensures ended { Ended (rounds_on bench.old.plan bench.old) result bench.new }
-    ensures plan { bench.new.plan ≡ bench.old.plan }
+// Rounds on a bench at level 1 of these symbols and marks, all sums zero, until they stop. Symbols and marks become those of the bench
+// where the rounds end.
+pub fn rounds(plan: usize, symbols: &mut [u8], marks: &mut [u64]) -> Report
+    requires { Ready (start_of plan symbols.old marks.old) }
+    ensures { Ended (rounds_on plan (start_of plan symbols.old marks.old)) result symbols.new marks.new }
 {
-    let levels = tables::facts_of(bench.plan).levels;
+    let levels = tables::facts_of(plan).levels;
+    let mut sums = [0u8; LEARNED];
     let mut restored = [0usize; 3];
-    // the bench's level counts the rounds
+    let mut level = 1;
+    // the level counts the rounds
     loop {
-        let level = bench.level;
-        let walk = walks::walk_rows(bench);
+        let walk = walks::walk_rows(plan, level, symbols, marks, &sums);
         if let Some(row) = walk.clash {
             return bare_report(Answer::Clash(Place::Row { row, level }));
         }
@@ -70,13 +71,13 @@ pub fn rounds(bench: &mut Bench) -> Report
         if level == levels {
             break;
         }
-        match levels::learn(bench) {
+        match levels::learn(plan, level, symbols, marks, &mut sums) {
             Learning::Failing => {
                 return bare_report(Answer::Clash(Place::Across { level: level + 1 }));
             }
             Learning::Blocked => break,
-            Learning::Learned => {}
+            Learning::Learned => level += 1,
         }
     }
-    end_report(bench.plan, bench.level, restored, &bench.marks)
+    end_report(plan, level, restored, marks)
 }

@@ -3,66 +3,33 @@ use mathlib.Core.Path.{◌≡◌, refl, sym, ap, ap₂, ◌∙◌}
 use mathlib.Core.Logic.{◌≢◌, ◌⊎◌, inl, inr}
 use mathlib.Core.Bool.{Bool, true, false}
 use mathlib.Core.List.{List, [], ◌∷◌, ◌++◌, map, flat_map, append_assoc, append-nil}
-use Prim.Native.Nat.{ℕ, zero, suc, ◌+◌, ◌*◌, ◌-◌, ◌/◌, ◌%◌, ◌^◌, ◌≤◌, ◌<◌, min}
-use native.Mathlib.Nat.{add_comm, zero-mul, suc-mul}
+use Prim.Native.Nat.{ℕ, zero, suc, ◌+◌, ◌*◌, ◌/◌, ◌%◌, ◌^◌, ◌≤◌, ◌<◌, min}
+use native.Mathlib.Nat.{add-zero, zero-mul, suc-mul, le_trans, mod-eq_of_lt}
 use native.Mathlib.Numerals.{add-one}
 use native.Mathlib.Omega.{arith}
 use borrow.Author.Tests.{lt-ltb, le-ltb, le-leb, lt-leb}
-use lib.Dec.{T, eqb, leb, leb→le, lit<}
-use lib.ListN.{length, take, drop, get_or, replicate, length-append, length-replicate}
-use lib.Seq.{drop-cons, drop-drop, drop-length, drop_at, length-take-le, take-suc, take_at}
+use lib.Dec.{T, eqb, leb, ltb, leb→le, ltb→lt, lit<}
+use lib.ListN.{length, take, drop, get_or, length-append, length-replicate}
+use lib.Seq.{drop-cons, drop-drop, drop-length, drop_at, length-take-le, take_at}
 use Rattle.field.specs.Lists.{when◌then◌else◌, up_from}
 use Rattle.field.specs.Field.{size, gf2, gf16, gf32, gf64, gf256}
+use Rattle.field.proofs.Test.{both_left, both_right}
 use Rattle.field.proofs.Words.{◌&◌}
-use Rattle.fills.specs.Lists.{all, beside}
+use Rattle.fills.specs.Lists.{all, first, rest, beside}
 use Rattle.fills.specs.Marks.{bits_of}
 use Rattle.fills.proofs.Beside.{drop-rest, first-drop}
 use Rattle.plans.specs.Plan.{Plan, binary_plan, plan1, plan2, plan3, plan4, plan5, no_plan, plan_of, known, row_at, marks_at}
+use Rattle.plans.specs.Refusal.{unmarked_below}
 use Rattle.plans.specs.Answers.{place_values, end_values}
 use Rattle.plans.specs.declared.Report.{Report}
 use Rattle.plans.specs.declared.Place.{Place}
 use Rattle.plans.specs.declared.Place.TheVariants.{Row, Across}
 use Rattle.plans.proofs.Flat.{flat-length}
 use Rattle.plans.proofs.Plans.{all-plans, of-known, shape}
-use Rattle.words.proofs.Stores.{flat_append}
-use Rattle.texts.specs.Text.{text_room, bytes, digits_in, decimal, hex, hexes, item, line_end, symbol_digits, symbol_text, shown, grid, captioned, end_text, place_text}
+use Rattle.words.specs.Written.{Put}
+use Rattle.words.proofs.Writing.{put-length, put_then, put_is}
+use Rattle.texts.specs.Text.{bytes, digits_in, decimal, hex, hexes, item, line_end, symbol_digits, symbol_text, shown, grid, captioned, end_text, place_text}
 use Rattle.texts.specs.Parts.{grid_room, Digits, Grid}
-
--- ---- what stands behind a text
-
-pub behind : {text next : List ℕ} (old xs ys : List ℕ) → text ≡ old ++ xs → next ≡ text ++ ys → next ≡ old ++ (xs ++ ys)
-behind old xs ys e f = f ∙ ap (λ l. l ++ ys) e ∙ append_assoc old xs ys
-
-pub longer : {text : List ℕ} (old xs : List ℕ) → text ≡ old ++ xs → length text ≡ length old + length xs
-longer old xs e = ap length e ∙ length-append old xs
-
--- ---- a loop that writes one text a turn
-
--- what stands behind the texts of all turns so far
-module _ (f : ℕ → List ℕ) (old : List ℕ) where
-  up-next : (k n : ℕ) → flat_map f (up_from k (suc n)) ≡ flat_map f (up_from k n) ++ f (k + n)
-  unfolding up_from flat_map
-  up-next k zero = append-nil (f k) ∙ ap f (omega arith)
-  up-next k (suc n) =
-      ap (λ l. f k ++ l) (up-next (suc k) n)
-      ∙ sym (append_assoc (f k) (flat_map f (up_from (suc k) n)) (f (suc k + n)))
-      ∙ ap (λ i. (f k ++ flat_map f (up_from (suc k) n)) ++ f i) (omega arith)
-
-  -- a turn for each number
-  pub next_number : (k : ℕ) → (old ++ flat_map f (up_from 0 k)) ++ f k ≡ old ++ flat_map f (up_from 0 (k + 1))
-  next_number k =
-      append_assoc old (flat_map f (up_from 0 k)) (f k)
-      ∙ ap (λ l. old ++ l) (ap (λ i. flat_map f (up_from 0 k) ++ f i) (omega arith) ∙ sym (up-next 0 k) ∙ ap (λ n. flat_map f (up_from 0 n)) (sym (add-one k)))
-
-  -- a turn for each member of a list
-  pub next_member : (xs : List ℕ) (k : ℕ) → k < length xs
-      → (old ++ flat_map f (take k xs)) ++ f (get_or xs k 0) ≡ old ++ flat_map f (take (k + 1) xs)
-  unfolding flat_map
-  next_member xs k h =
-      append_assoc old (flat_map f (take k xs)) (f (get_or xs k 0))
-      ∙ ap (λ l. old ++ l)
-      (sym (flat_append f (take k xs) (get_or xs k 0 ∷ []) ∙ ap (λ l. flat_map f (take k xs) ++ l) (append-nil (f (get_or xs k 0))))
-      ∙ ap (flat_map f) (sym (take-suc xs k 0 h) ∙ ap (λ n. take n xs) (sym (add-one k))))
 
 -- ---- numbers below 100
 
@@ -169,6 +136,23 @@ module _ {n : ℕ} (m : Bool) (x : ℕ) where
       go true = refl
       go false = refl
 
+-- ---- a digit a symbol, as it is in every field of up to 16
+
+pub one-hex : (x : ℕ) → x < 16 → hexes 1 x ≡ hex x ∷ []
+unfolding hexes
+one-hex x l = ap (λ y. hex y ∷ []) (mod-eq_of_lt l)
+
+-- a row of such symbols has a character for each
+pub row-by-digits : (q : ℕ) → q ≤ 16 → (ms : List Bool) (xs : List ℕ) → T (unmarked_below q ms xs)
+    → shown 1 ms xs ≡ beside (λ m x. when m then 63 else hex x) ms xs
+unfolding when◌then◌else◌ all beside flat_map unmarked_below symbol_text shown
+row-by-digits q h [] xs t = refl
+row-by-digits q h (true ∷ ms) xs t = ap (λ l. 63 ∷ l) (row-by-digits q h ms (rest xs) t)
+row-by-digits q h (false ∷ ms) xs t =
+    let low = ltb (first xs) q in
+    let more = unmarked_below q ms (rest xs) in
+    ap₂ ◌++◌ (one-hex (first xs) (le_trans (ltb→lt (first xs) q (both_left low more t)) h)) (row-by-digits q h ms (rest xs) (both_right low more t))
+
 -- ---- rows
 
 -- lists for marks and symbols, one behind the other, place by place
@@ -190,19 +174,13 @@ module _ (n word : ℕ) (row : List ℕ) where
   unfolding bits_of shown
   row-shown = flat-beside (symbol_text n) (λ c. eqb (word / 2 ^ c % 2) 1) row 0 (length row)
 
-  -- the first k of them, behind a text
-  length-symbols : (k : ℕ) → length (flat_map symbol_at (up_from 0 k)) ≡ k * n
-  length-symbols k = flat-length symbol_at n 0 k (λ c l. length-symbol n _ (get_or row c 0))
-
-  pub line-long : {text : List ℕ} (old : List ℕ) (k : ℕ) → text ≡ old ++ flat_map symbol_at (up_from 0 k) → length text ≡ length old + k * n
-  line-long old k e = longer old (flat_map symbol_at (up_from 0 k)) e ∙ ap (λ i. length old + i) (length-symbols k)
-
   -- and a line feed
   pub length-line : (k : ℕ) → length row ≡ k → length (shown n (bits_of k word) row ++ line_end) ≡ k * n + 1
   unfolding line_end
   length-line k wide =
       rw (← wide)
-      (length-append (shown n (bits_of (length row) word) row) line_end ∙ ap (λ k. k + 1) (ap length row-shown ∙ length-symbols (length row)))
+      (length-append (shown n (bits_of (length row) word) row) line_end
+      ∙ ap (λ k. k + 1) (ap length row-shown ∙ flat-length symbol_at n 0 (length row) (λ c l. length-symbol n _ (get_or row c 0))))
 
 -- ---- all rows, of k columns each, their symbols of n digits
 
@@ -225,40 +203,44 @@ module _ (n k : ℕ) where
       ∙ ap (λ l. lines l (drop (suc r) marks)) (ap (λ i. drop i stripe) (omega (arith, suc-mul r k)) ∙ sym (drop-drop k (r * k) stripe)))
       ∙ ap (lines (drop (r * k) stripe)) (sym (drop-cons marks r 0 (omega arith)))
 
-  -- what is written of a text and what is still to be written make it whole, and have room
-  pub record Printing (all text stripe marks : List ℕ) : Type 0 where
+  -- what is written from `at` on up to `next` and what is still to be written make it whole, and have room
+  pub record Printing (old : List ℕ) (at : ℕ) (all stripe marks out : List ℕ) (next : ℕ) : Type 0 where
+    pub done : List ℕ
+    pub put : Put old at done next out
     pub paired : length stripe ≡ length marks * k
-    pub whole : text ++ lines stripe marks ≡ all
-    pub room : length text + length marks * (k * n + 1) ≤ text_room
+    pub whole : done ++ lines stripe marks ≡ all
+    pub room : next + length marks * (k * n + 1) ≤ length out
 
-  module _ {all text stripe marks more : List ℕ} {word : ℕ} (p : Printing all text stripe marks) (e : marks ≡ word ∷ more) where
+  module _ {old all stripe marks out more : List ℕ} {at next word : ℕ} (p : Printing old at all stripe marks out next) (e : marks ≡ word ∷ more) where
     -- the first of the rows that are left
     pub row-long : (row : List ℕ) → length row ≡ min k (length stripe) → length row ≡ k
     row-long row wide = omega (arith, wide, p.paired, ap (λ l. length l * k) e, suc-mul (length more) k)
 
-    pub row-room : (row : List ℕ) → length row ≡ k → length text + length row * n + 1 ≤ text_room
+    pub row-room : (row : List ℕ) → length row ≡ k → next + length row * n + 1 ≤ length out
     row-room row wide =
         omega (arith, ap (λ i. i * n) wide, p.room, ap (λ l. length l * (k * n + 1)) e, suc-mul (length more) (k * n + 1))
 
-    pub printing-turns : {text' left : List ℕ} (row : List ℕ) → stripe ≡ row ++ left → length row ≡ k
-        → text' ≡ text ++ (shown n (bits_of (length row) word) row ++ line_end) → Printing all text' left more
+    pub printing-turns : {out' left : List ℕ} {next' : ℕ} (row : List ℕ) → stripe ≡ row ++ left → length row ≡ k
+        → Put out next (shown n (bits_of (length row) word) row ++ line_end) next' out' → Printing old at all left more out' next'
     unfolding lines
-    printing-turns {text'} {left} row f wide g =
+    printing-turns {left = left} row f wide g =
         let line = shown n (bits_of k word) row ++ line_end in
-        let here : text' ≡ text ++ line = g ∙ ap (λ i. text ++ (shown n (bits_of i word) row ++ line_end)) wide in
+        let here = put_is (ap (λ i. shown n (bits_of i word) row ++ line_end) (sym wide)) g in
         record {
-          paired = omega (arith, longer row left f, wide, p.paired, ap (λ l. length l * k) e, suc-mul (length more) k);
+          done = p.done ++ line;
+          put = put_then p.put here;
+          paired = omega (arith, ap length f, length-append row left, wide, p.paired, ap (λ l. length l * k) e, suc-mul (length more) k);
           whole =
-              ap (λ l. l ++ lines left more) here ∙ append_assoc text line (lines left more)
-              ∙ ap (λ l. text ++ l) (ap₂ (λ a b. (shown n (bits_of k word) a ++ line_end) ++ lines b more)
+              append_assoc p.done line (lines left more)
+              ∙ ap (λ l. p.done ++ l) (ap₂ (λ a b. (shown n (bits_of k word) a ++ line_end) ++ lines b more)
               (sym (take_at row left k wide) ∙ ap (take k) (sym f)) (sym (drop_at row left k wide) ∙ ap (drop k) (sym f))
               ∙ ap (lines stripe) (sym e))
               ∙ p.whole;
           room =
-              omega (arith, longer text line here, length-line n word row k wide, p.room, ap (λ l. length l * (k * n + 1)) e, suc-mul (length more) (k * n + 1));
+              omega (arith, here.reached, put-length here, length-line n word row k wide, p.room, ap (λ l. length l * (k * n + 1)) e, suc-mul (length more) (k * n + 1));
         }
 
-  module _ {all text stripe marks : List ℕ} (p : Printing all text stripe marks) where
+  module _ {old all stripe marks out : List ℕ} {at next : ℕ} (p : Printing old at all stripe marks out next) where
     -- no symbols are left where no mark words are, and none of these where no symbols are
     pub none-left : 0 < k → (length stripe ≡ 0) ⊎ (length marks ≡ 0) → length marks ≡ 0
     none-left h (inr e) = e
@@ -268,12 +250,12 @@ module _ (n k : ℕ) where
         go [] f = refl
         go (word ∷ more) f = absurd (omega (arith, e, f, suc-mul (length more) k))
 
-    pub printing-ends : length marks ≡ 0 → text ≡ all
+    pub printing-ends : length marks ≡ 0 → Put old at all next out
     unfolding lines
-    printing-ends e = go marks e p.whole
+    printing-ends e = put_is (go marks e p.whole) p.put
       where
-        go : (marks : List ℕ) → length marks ≡ 0 → text ++ lines stripe marks ≡ all → text ≡ all
-        go [] e f = sym (append-nil text) ∙ f
+        go : (marks : List ℕ) → length marks ≡ 0 → p.done ++ lines stripe marks ≡ all → all ≡ p.done
+        go [] e f = sym f ∙ append-nil p.done
         go (word ∷ more) e f = absurd (omega arith)
 
 module _ (P : Plan) (stripe marks : List ℕ) where
@@ -284,10 +266,13 @@ module _ (P : Plan) (stripe marks : List ℕ) where
       ∙ ap (λ i. lines (symbol_digits P) P.columns (drop i stripe) marks) (zero-mul P.columns)
 
 -- there is room for all lines
-lines-room : (p : ℕ) → (plan_of p).rows * ((plan_of p).columns * symbol_digits (plan_of p) + 1) ≤ grid_room
+abbrev pub line_size : Plan → ℕ
+line_size P = P.columns * symbol_digits P + 1
+
+pub lines-room : (p : ℕ) → (plan_of p).rows * line_size (plan_of p) ≤ grid_room
 lines-room p =
     unfold when◌then◌else◌ size gf2 gf16 gf32 gf64 gf256 all binary_plan plan1 plan2 plan3 plan4 plan5 no_plan symbol_digits in
-    leb→le _ grid_room (all-plans (λ P. leb (P.rows * (P.columns * symbol_digits P + 1)) grid_room) tt p)
+    leb→le _ grid_room (all-plans (λ P. leb (P.rows * line_size P) grid_room) tt p)
 
 -- each has symbols
 pub columns-pos : (p : ℕ) → T (known p) → 0 < (plan_of p).columns
@@ -295,13 +280,15 @@ unfolding up_from size gf32 gf64 binary_plan plan1 plan2 plan3 plan4 plan5 plan_
 columns-pos = of-known (λ p. 0 < (plan_of p).columns) (lit< tt & lit< tt & lit< tt & lit< tt & lit< tt & tt)
 
 -- before the first line
-pub printing-starts : {p : ℕ} {stripe marks text s m : List ℕ} → Grid p stripe marks text → s ≡ stripe → m ≡ marks
-    → Printing (symbol_digits (plan_of p)) (plan_of p).columns (text ++ grid (plan_of p) stripe marks) text s m
-printing-starts {p} {stripe} {marks} {text} ask e f =
+pub printing-starts : {p : ℕ} {stripe marks out : List ℕ} {at : ℕ} {s m : List ℕ} → Grid p stripe marks out at → s ≡ stripe → m ≡ marks
+    → Printing (symbol_digits (plan_of p)) (plan_of p).columns out at (grid (plan_of p) stripe marks) s m out at
+printing-starts {p} {stripe} {marks} {out} {at} ask e f =
     let P = plan_of p in
     let words = ask.sized.words in
     rw (e, f) record {
+      done = [];
+      put = record { reached = sym (add-zero at); inside = omega (arith, ask.room); written = refl };
       paired = ask.sized.long ∙ ap (λ n. n * P.columns) (sym words);
-      whole = ap (λ l. text ++ l) (sym (grid-lines P stripe marks words));
-      room = omega (arith, ap (λ n. n * (P.columns * symbol_digits P + 1)) words, lines-room p, ask.room);
+      whole = sym (grid-lines P stripe marks words);
+      room = omega (arith, ap (λ n. n * line_size P) words, lines-room p, ask.room);
     }

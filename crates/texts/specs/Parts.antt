@@ -7,8 +7,8 @@ use Rattle.plans.specs.Refusal.{all_below}
 use Rattle.plans.specs.declared.Place.{Place}
 use Rattle.plans.specs.declared.Report.{Report}
 use Rattle.words.specs.Words.{word_bits}
+use Rattle.words.specs.Written.{Put}
 use Rattle.files.specs.Parts.{Symbols}
-use Rattle.texts.specs.Text.{text_room}
 
 -- ---- rooms
 
@@ -19,8 +19,8 @@ numbers = 100
 abbrev pub digit_room : ℕ
 digit_room = 2
 
--- the most bytes of a number, of a count, of level, rows left and counts, of a Clash's place, and of all rows: 24 symbols of two digits and
--- a line feed for each of 12
+-- the most bytes of a number, of a count, of level, rows left and counts, of a Clash's place, and of all rows: 24 symbols of two digits
+-- and a line feed for each of 12
 abbrev pub number_room : ℕ
 number_room = 2
 
@@ -36,12 +36,17 @@ place_room = 22
 abbrev pub grid_room : ℕ
 grid_room = row_room * (24 * digit_room + 1)
 
--- ---- what is asked, of a text that is written so far
+-- the bytes xs were written, no more than there is room for
+pub record Within (room : ℕ) (old : List ℕ) (at : ℕ) (xs : List ℕ) (next : ℕ) (new : List ℕ) : Type 0 where
+  pub put : Put old at xs next new
+  pub most : next ≤ at + room
+
+-- ---- what is asked
 
 -- a number behind k bytes
-pub record Item (k n : ℕ) (text : List ℕ) : Type 0 where
+pub record Item (k n : ℕ) (out : List ℕ) (at : ℕ) : Type 0 where
   pub small : n < numbers
-  pub room : length text + k + number_room ≤ text_room
+  pub room : at + k + number_room ≤ length out
 
 -- a symbol has a digit, or two
 pub record Digits (n : ℕ) : Type 0 where
@@ -49,32 +54,32 @@ pub record Digits (n : ℕ) : Type 0 where
   pub few : n ≤ digit_room
 
 -- a symbol of so many digits
-pub record SymbolPut (n : ℕ) (text : List ℕ) : Type 0 where
+pub record SymbolPut (n : ℕ) (out : List ℕ) (at : ℕ) : Type 0 where
   pub digits : Digits n
-  pub room : length text + n ≤ text_room
+  pub room : at + n ≤ length out
 
 -- a row of such symbols
-pub record Line (n : ℕ) (row text : List ℕ) : Type 0 where
+pub record Line (n : ℕ) (row out : List ℕ) (at : ℕ) : Type 0 where
   pub digits : Digits n
   pub narrow : length row ≤ word_bits
-  pub room : length text + length row * n + 1 ≤ text_room
+  pub room : at + length row * n + 1 ≤ length out
 
 -- a stripe and marks
-pub record Grid (p : ℕ) (stripe marks text : List ℕ) : Type 0 where
+pub record Grid (p : ℕ) (stripe marks out : List ℕ) (at : ℕ) : Type 0 where
   pub sized : Symbols p stripe marks
-  pub room : length text + grid_room ≤ text_room
+  pub room : at + grid_room ≤ length out
 
-pub record Counts (counts text : List ℕ) : Type 0 where
+pub record Counts (counts out : List ℕ) (at : ℕ) : Type 0 where
   pub small : T (all_below numbers counts)
-  pub room : length text + count_room * length counts ≤ text_room
+  pub room : at + count_room * length counts ≤ length out
 
 -- the values of Restored and of Stuck
-pub record Summary (p : ℕ) (report : Report) (text : List ℕ) : Type 0 where
+pub record Summary (p : ℕ) (report : Report) (out : List ℕ) (at : ℕ) : Type 0 where
   pub plan-known : T (known p)
   pub small : T (all_below numbers (end_values (plan_of p) report))
-  pub room : length text + summary_room ≤ text_room
+  pub room : at + summary_room ≤ length out
 
 -- those of a Clash
-pub record PlacePut (place : Place) (text : List ℕ) : Type 0 where
+pub record PlacePut (place : Place) (out : List ℕ) (at : ℕ) : Type 0 where
   pub small : T (all_below numbers (place_values place))
-  pub room : length text + place_room ≤ text_room
+  pub room : at + place_room ≤ length out

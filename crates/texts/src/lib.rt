@@ -1,82 +1,64 @@
 // What is printed: a text, and its parts: numbers, rows, and what stands in its first line.
 #![tactic(auto)]
 
-ghost use Rattle.std.specs.Prelude.{◌≡◌, ◌+◌, ◌*◌, ◌%◌, ◌≤◌, ◌<◌, ℕ, List, [], ◌∷◌, length, take};
+ghost use Rattle.std.specs.Prelude.{◌≡◌, ◌+◌, ◌*◌, ◌%◌, ◌≤◌, ◌<◌, [], ◌∷◌, length, replicate};
 ghost use mathlib.Core.List.{◌++◌, flat_map};
 ghost use Rattle.field.specs.Lists.{when◌then◌else◌};
 ghost use Rattle.fills.specs.Marks.{bits_of};
 ghost use Rattle.plans.specs.Plan.{plan_of};
 ghost use Rattle.plans.specs.Answers.{place_values, end_values};
-ghost use Rattle.plans.specs.Tables.{padded};
-ghost use Rattle.texts.specs.Text.{text_room, decimal, hex, «item» as item_of, line_end, symbol_digits, symbol_text, shown, «grid» as grid_of, end_text, place_text};
-ghost use Rattle.texts.specs.Parts.{number_room, count_room, summary_room, place_room, Item, SymbolPut, Line, Grid, Counts, Summary, PlacePut};
+ghost use Rattle.words.specs.Written.{Put};
+ghost use Rattle.texts.specs.Text.{decimal, hex, «item» as item_of, line_end, symbol_digits, symbol_text, shown, «grid» as grid_of, end_text, place_text};
+ghost use Rattle.texts.specs.Parts.{number_room, count_room, summary_room, place_room, Within, Item, SymbolPut, Line, Grid, Counts, Summary, PlacePut};
 
 use plans::{Place, Report};
-use std::marker::Model;
 
 // How many bytes a text has room for.
 pub const ROOM: usize = 640;
 
-// A text, as far as it is written. Its parts are no `Display`: each byte of them is promised, and of what `fmt` writes a proof learns nothing.
+// A buffer that a text is written into: what stands before `at` is written, and what follows is room. Its parts are no `Display`: each byte of
+// them is promised, and of what `fmt` writes a proof learns nothing.
 #[derive(Drop)]
-pub struct Text {
-    room: [u8; ROOM],
-    size: usize,
+pub struct Text<'a> {
+    pub out: &'a mut [u8],
+    pub at: usize,
 }
 
-impl Model for Text {
-    ghost Value = { List ℕ };
-
-    ghost view = { λ text. take text.size text.room };
-
-    ghost invariant = { λ text. text.size ≤ text_room };
-}
-
-impl Text {
-    pub fn new() -> Text
-        ensures { result ≡ [] }
+impl<'a> Text<'a> {
+    // An empty text, and zeros for all that is not written.
+    pub fn new(out: &'a mut [u8]) -> Text<'a>
+        ensures same_buffer { result.out.ghost_name ≡ out.entry.ghost_name }
+        ensures zeros { result.out.now ≡ replicate (length out.old) 0 }
+        ensures empty { result.at ≡ 0 }
     {
-        Text {
-            room: [0; ROOM],
-            size: 0,
-        }
-    }
-
-    // Copies the text to the front of `out`, zeros behind it, and gives its length.
-    pub fn copy_to(&self, out: &mut [u8; ROOM]) -> usize
-        ensures value { result ≡ length self.now }
-        ensures out_after { out.new ≡ padded text_room self.now }
-    {
-        let mut copy = [0u8; ROOM];
-        words::put(&self.room[..self.size], &mut copy, 0);
-        *out = copy;
-        self.size
+        out.fill(0);
+        Text { out, at: 0 }
     }
 
     // ---- bytes and numbers
 
     fn push(&mut self, byte: u8)
-        requires { length self.old < text_room }
-        ensures { self.new ≡ self.old ++ byte ∷ [] }
+        requires { self.old.at < length self.old.out.now }
+        ensures same_buffer { self.new.out.ghost_name ≡ self.old.out.ghost_name }
+        ensures written { Put self.old.out.now self.old.at (byte ∷ []) self.new.at self.new.out.now }
     {
-        self.room[self.size] = byte;
-        self.size += 1;
+        self.out[self.at] = byte;
+        self.at += 1;
     }
 
     pub fn put(&mut self, bytes: &[u8])
-        requires { length self.old + length bytes.now ≤ text_room }
-        ensures { self.new ≡ self.old ++ bytes.now }
+        requires { self.old.at + length bytes.now ≤ length self.old.out.now }
+        ensures same_buffer { self.new.out.ghost_name ≡ self.old.out.ghost_name }
+        ensures written { Put self.old.out.now self.old.at bytes.now self.new.at self.new.out.now }
     {
-        let end = self.size + bytes.len();
-        self.room[self.size..end].copy_from_slice(bytes);
-        self.size = end;
+        self.at = words::put(bytes, self.out, self.at);
     }
 
     // A number below 100 in decimal, without leading zeros.
     fn put_number(&mut self, n: usize)
-        requires { Item 0 n self.old }
-        ensures after { self.new ≡ self.old ++ decimal n }
-        ensures most { length self.new ≤ length self.old + number_room }
+        requires { Item 0 n self.old.out.now self.old.at }
+        ensures same_buffer { self.new.out.ghost_name ≡ self.old.out.ghost_name }
+        ensures written { Within number_room self.old.out.now self.old.at (decimal n) self.new.at self.new.out.now }
     {
         let ones = b'0' + (n % 10) as u8;
         if n < 10 {
@@ -88,9 +70,9 @@ impl Text {
 
     // A word and a number below 100.
     pub fn put_item(&mut self, word: &[u8], n: usize)
-        requires { Item (length word.now) n self.old }
-        ensures after { self.new ≡ self.old ++ (word.now ++ decimal n) }
-        ensures most { length self.new ≤ length self.old + (length word.now + number_room) }
+        requires { Item (length word.now) n self.old.out.now self.old.at }
+        ensures same_buffer { self.new.out.ghost_name ≡ self.old.out.ghost_name }
+        ensures written { Within (length word.now + number_room) self.old.out.now self.old.at (word.now ++ decimal n) self.new.at self.new.out.now }
     {
         self.put(word);
         self.put_number(n);
@@ -100,11 +82,13 @@ impl Text {
 
     // A symbol of one digit, or of two, the high one first.
     fn put_symbol(&mut self, digits: usize, marked: bool, symbol: u8)
-        requires { SymbolPut digits self.old }
-        ensures { self.new ≡ self.old ++ symbol_text digits marked symbol }
+        requires { SymbolPut digits self.old.out.now self.old.at }
+        ensures same_buffer { self.new.out.ghost_name ≡ self.old.out.ghost_name }
+        ensures written { Put self.old.out.now self.old.at (symbol_text digits marked symbol) self.new.at self.new.out.now }
     {
         let low = digit(marked, symbol);
-        if digits == 1 {
+        let is_alone = digits == 1;
+        if is_alone {
             self.push(low);
         } else {
             self.put(&[digit(marked, symbol / 16), low]);
@@ -113,8 +97,9 @@ impl Text {
 
     // A row, its symbols of so many digits, and a line feed.
     fn put_line(&mut self, digits: usize, word: u64, row: &[u8])
-        requires { Line digits row.now self.old }
-        ensures { self.new ≡ self.old ++ (shown digits (bits_of (length row.now) word) row.now ++ line_end) }
+        requires { Line digits row.now self.old.out.now self.old.at }
+        ensures same_buffer { self.new.out.ghost_name ≡ self.old.out.ghost_name }
+        ensures written { Put self.old.out.now self.old.at (shown digits (bits_of (length row.now) word) row.now ++ line_end) self.new.at self.new.out.now }
     {
         for (column, symbol) in row.iter().enumerate() {
             let marked = words::is_marked(word, column);
@@ -125,8 +110,9 @@ impl Text {
 
     // All rows, a line each.
     pub fn put_grid(&mut self, plan: usize, stripe: &[u8], marks: &[u64])
-        requires { Grid plan stripe.now marks.now self.old }
-        ensures { self.new ≡ self.old ++ grid_of (plan_of plan) stripe.now marks.now }
+        requires { Grid plan stripe.now marks.now self.old.out.now self.old.at }
+        ensures same_buffer { self.new.out.ghost_name ≡ self.old.out.ghost_name }
+        ensures written { Put self.old.out.now self.old.at (grid_of (plan_of plan) stripe.now marks.now) self.new.at self.new.out.now }
     {
         let columns = tables::facts_of(plan).columns;
         let digits = symbol_digits(plan);
@@ -139,9 +125,9 @@ impl Text {
 
     // Counts, up to 3, a space before each.
     fn put_counts(&mut self, counts: &[usize])
-        requires { Counts counts.now self.old }
-        ensures after { self.new ≡ self.old ++ flat_map (item_of " ") counts.now }
-        ensures most { length self.new ≤ length self.old + count_room * length counts.now }
+        requires { Counts counts.now self.old.out.now self.old.at }
+        ensures same_buffer { self.new.out.ghost_name ≡ self.old.out.ghost_name }
+        ensures written { Within (count_room * length counts.now) self.old.out.now self.old.at (flat_map (item_of " ") counts.now) self.new.at self.new.out.now }
     {
         for count in counts {
             self.put_item(b" ", *count);
@@ -150,9 +136,9 @@ impl Text {
 
     // Level, rows left, and rows restored at each level of the plan.
     pub fn put_summary(&mut self, plan: usize, report: Report)
-        requires { Summary plan report self.old }
-        ensures after { self.new ≡ self.old ++ (end_text (end_values (plan_of plan) report) ++ line_end) }
-        ensures most { length self.new ≤ length self.old + summary_room }
+        requires { Summary plan report self.old.out.now self.old.at }
+        ensures same_buffer { self.new.out.ghost_name ≡ self.old.out.ghost_name }
+        ensures written { Within summary_room self.old.out.now self.old.at (end_text (end_values (plan_of plan) report) ++ line_end) self.new.at self.new.out.now }
     {
         let rows = report.rows;
         let levels = tables::facts_of(plan).levels;
@@ -165,9 +151,9 @@ impl Text {
 
     // The place of a Clash.
     pub fn put_place(&mut self, place: Place)
-        requires { PlacePut place self.old }
-        ensures after { self.new ≡ self.old ++ place_text place (place_values place) }
-        ensures most { length self.new ≤ length self.old + place_room }
+        requires { PlacePut place self.old.out.now self.old.at }
+        ensures same_buffer { self.new.out.ghost_name ≡ self.old.out.ghost_name }
+        ensures written { Within place_room self.old.out.now self.old.at (place_text place (place_values place)) self.new.at self.new.out.now }
     {
         match place {
             Place::Row { row, level } => {
@@ -186,11 +172,8 @@ impl Text {
 fn symbol_digits(plan: usize) -> usize
     ensures { result ≡ symbol_digits (plan_of plan) }
 {
-    if tables::facts_of(plan).field.size() <= 16 {
-        1
-    } else {
-        2
-    }
+    let is_small = tables::facts_of(plan).field.size() <= 16;
+    if is_small { 1 } else { 2 }
 }
 
 // What is shown for the low hex digit of a number: the digit, lowercase, or `?` where it is marked.

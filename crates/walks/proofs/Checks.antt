@@ -2,8 +2,6 @@
 use mathlib.Core.Path.{◌≡◌, sym, ap, ◌∙◌}
 use mathlib.Core.List.{List, []}
 use Prim.Native.Nat.{ℕ, ◌+◌, ◌*◌, ◌<◌, ◌≤◌}
-use native.Mathlib.Nat.{lt_of_lt_of_le}
-use native.Mathlib.Omega.{arith}
 use lib.ListN.{length, take, drop, get_or, get_or-map}
 use Rattle.field.specs.Field.{dot}
 use Rattle.field.specs.Ours.{field_of}
@@ -14,12 +12,8 @@ use Rattle.plans.specs.Tables.{check_table}
 use Rattle.tables.specs.Tables.{FactsOf}
 use Rattle.tables.specs.declared.Facts.{Facts}
 use Rattle.plans.proofs.Flat.{row_in}
-use Rattle.plans.proofs.Rows.{row-end}
-use Rattle.plans.proofs.Tables.{checks-in, sums-most}
+use Rattle.plans.proofs.Tables.{checks-in}
 use Rattle.tables.proofs.Numbers.{numbers, row_within, check-within}
-use Rattle.plans.specs.declared.Bench.{Bench}
-use Rattle.plans.proofs.Plans.{columns-most, symbols-most}
-use Rattle.plans.specs.Rooms.{column_room, symbol_room, sum_room}
 use Rattle.plans.proofs.Parts.{part, part_of}
 
 module _ (p t j : ℕ) (h : j < length (checks_to (plan_of p) t)) where
@@ -37,20 +31,21 @@ module _ (p t j : ℕ) (h : j < length (checks_to (plan_of p) t)) where
 
 -- ---- by the code's numbers
 
-module _ (b : Bench) {f : Facts} (is : FactsOf (plan_of b.plan) f) {checks : List ℕ} (table : checks ≡ check_table (plan_of b.plan)) where
+module _ (p t : ℕ) {f : Facts} (is : FactsOf (plan_of p) f) {checks : List ℕ} (table : checks ≡ check_table (plan_of p)) where
   -- the check stands in the table
-  pub check-place : {j : ℕ} → j < length (checks_to (plan_of b.plan) b.level) → j * f.columns + f.columns ≤ length checks
-  check-place = check-within (numbers b.plan is) table b.level
+  pub check-place : {j : ℕ} → j < length (checks_to (plan_of p) t) → j * f.columns + f.columns ≤ length checks
+  check-place = check-within (numbers p is) table t
 
-  -- and the row among the symbols
-  pub row-place : {r : ℕ} → r < (plan_of b.plan).rows → r * f.columns + f.columns ≤ symbol_room
-  row-place inside = row_within (numbers b.plan is) (symbols-most b.plan) (rw is.rows inside)
+  module _ (symbols : List ℕ) where
+    -- and the row among the symbols
+    pub row-place : {r : ℕ} → (plan_of p).rows * (plan_of p).columns ≤ length symbols → r < (plan_of p).rows → r * f.columns + f.columns ≤ length symbols
+    row-place room inside = row_within (numbers p is) room (rw is.rows inside)
 
-  -- the sum of the two parts, as the code takes them
-  pub sum-of-parts : (r : ℕ) {j : ℕ} → j < length (checks_to (plan_of b.plan) b.level)
-      → dot (field_of f.field) (part (j * f.columns) f.columns checks) (part (r * f.columns) f.columns b.symbols)
-      ≡ get_or (sums_of (plan_of b.plan).field (checks_to (plan_of b.plan) b.level) (row_at (plan_of b.plan) b.symbols r)) j 0
-  unfolding row_at
-  sum-of-parts r {j} below =
-      rw (part_of (j * f.columns) f.columns checks, part_of (r * f.columns) f.columns b.symbols, is.field.names, is.columns, table)
-      (sum-under b.plan b.level j below (row_at (plan_of b.plan) b.symbols r))
+    -- the sum of the two parts, as the code takes them
+    pub sum-of-parts : (r : ℕ) {j : ℕ} → j < length (checks_to (plan_of p) t)
+        → dot (field_of f.field) (part (j * f.columns) f.columns checks) (part (r * f.columns) f.columns symbols)
+        ≡ get_or (sums_of (plan_of p).field (checks_to (plan_of p) t) (row_at (plan_of p) symbols r)) j 0
+    unfolding row_at
+    sum-of-parts r {j} below =
+        rw (part_of (j * f.columns) f.columns checks, part_of (r * f.columns) f.columns symbols, is.field.names, is.columns, table)
+        (sum-under p t j below (row_at (plan_of p) symbols r))

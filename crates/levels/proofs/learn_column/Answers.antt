@@ -1,6 +1,8 @@
 -- `learn_column`: the rows' sums under the check, filled by the weights of the next level, are the definition's. Assumes nothing.
 use mathlib.Core.Path.{sym}
+use mathlib.Core.List.{[]}
 use native.Mathlib.Omega.{arith}
+use Rattle.steps.specs.Parts.{bench_of}
 use Rattle.tables.proofs.Numbers.{weighing}
 use Rattle.levels.proofs.Columns.{few-totals, target-length, check-place, across-fits, column_fits, column-filled}
 use Rattle.levels.proofs.learn_column.Goals as goal
@@ -19,10 +21,10 @@ across-requires c =
     omega (arith, across-fits _ (weighing _ _ c.facts_of-facts.ensures c.weights-weights.ensures c.totals-totals.ensures) c.checks-checks.ensures c.requires)
 
 pub slice_bounds-target-end : goal.slice_bounds-target-end
-slice_bounds-target-end c = few-totals c.args.bench.now (weighing _ _ c.facts_of-facts.ensures c.weights-weights.ensures c.totals-totals.ensures)
+slice_bounds-target-end c = few-totals (bench_of c.args.plan c.args.level c.args.symbols.now [] []) (weighing _ _ c.facts_of-facts.ensures c.weights-weights.ensures c.totals-totals.ensures)
 
 pub slice_bounds-fill-end : goal.slice_bounds-fill-end
-slice_bounds-fill-end c = sym (target-length c.args.bench.now (weighing _ _ c.facts_of-facts.ensures c.weights-weights.ensures c.totals-totals.ensures))
+slice_bounds-fill-end c = sym (target-length (bench_of c.args.plan c.args.level c.args.symbols.now [] []) (weighing _ _ c.facts_of-facts.ensures c.weights-weights.ensures c.totals-totals.ensures))
 
 pub fill-requires : goal.fill-requires
 fill-requires c = column_fits _ (weighing _ _ c.facts_of-facts.ensures c.weights-weights.ensures c.totals-totals.ensures) c.checks-checks.ensures c.requires c.across.ensures

@@ -1,6 +1,8 @@
 -- `solve_words`: what the answer for the columns, each a word, says of them is what `fill` answers. Assumes nothing.
-use mathlib.Core.Path.{sym, ◌∙◌}
+use mathlib.Core.Path.{◌≡◌, sym, ◌∙◌}
 use native.Mathlib.Omega.{arith}
+use lib.ListN.{length, take, get_or-append}
+use Rattle.std.proofs.Common.{length-take}
 use Rattle.field.specs.Ours.{field_of}
 use Rattle.linear.proofs.Gathering.{words-none, words-tied, words-one}
 use Rattle.linear.proofs.solve_words.Goals as goal
@@ -29,8 +31,12 @@ returns-then-is_some c =
     words-tied _ _ _ _ _ _ _ c.requires.coefficients c.gather_need-need.ensures c.span-answer.ensures _ c.in-Some.is
     (sym c.is_some.ensures ∙ c.if-is_some.true) _
 
+-- the bits go to the front of the room, one to a place
 pub returns : goal.returns
 unfolding field_of
 returns c =
+    let k = length c.args.places.now in
+    let long : length (take k c.args.solution.now) ≡ k = omega (arith, length-take k c.args.solution.now, c.requires.narrow, c.told-solution) in
     words-one _ _ _ _ _ _ _ c.requires.coefficients c.gather_need-need.ensures c.span-answer.ensures _ c.in-Some.is
-    (sym c.is_some.ensures ∙ c.if-is_some.false) _ (λ t l. c.spread.ensures t (omega (arith, c.requires.narrow, c.told-solution)))
+    (sym c.is_some.ensures ∙ c.if-is_some.false) _
+    (λ t l. get_or-append c.spread.new.bits _ 0 t (omega (arith, l, c.spread.auto.bits, long)) ∙ c.spread.ensures t (omega (arith, l, long)))

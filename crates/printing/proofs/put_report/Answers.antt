@@ -1,7 +1,7 @@
 -- By the answer: once it is known, so are its values and its text. Assumes nothing.
 use mathlib.Core.List.{List, ◌++◌}
 use mathlib.Core.Logic.{◌⊎◌, inl, inr}
-use mathlib.Core.Path.{◌≡◌, sym, ap, subst, ◌∙◌}
+use mathlib.Core.Path.{◌≡◌, sym, ap, subst}
 use Prim.Native.Nat.{ℕ}
 use native.Mathlib.Omega.{arith}
 use lib.Dec.{T}
@@ -14,7 +14,7 @@ use Rattle.plans.specs.declared.Place.{Place}
 use Rattle.plans.specs.declared.Report.{Report}
 use Rattle.texts.specs.Text.{line_end, grid, answer_text, end_text, place_text}
 use Rattle.texts.specs.Parts.{numbers}
-use Rattle.texts.proofs.Texts.{behind, longer}
+use Rattle.words.proofs.Writing.{put-length, put_then, put_is}
 use Rattle.printing.proofs.put_report.Goals as goal
 
 -- what is known of the values of a report of plan p and of its text before all rows, once its answer is known
@@ -54,15 +54,25 @@ pub put_place-requires : goal.put_place-requires
 put_place-requires c =
     record { small = place_small c.args.plan c.args.report c.in-Clash.is c.requires.printable.values; room = omega (arith, c.requires.room) }
 
-pub returns-in-Restored : goal.returns-in-Restored
-returns-in-Restored c =
-    let a = c.args in
-    let rows = grid (plan_of a.plan) a.stripe.now a.marks.now in
-    behind a.text.now _ rows c.put_summary.ensures.after c.put_grid.ensures ∙ ap (λ l. a.text.now ++ l) (end-follows a.plan a.report rows c.in-Restored.is)
+pub put_grid-requires : goal.put_grid-requires
+put_grid-requires c =
+    let summary = c.put_summary.ensures.written in
+    record { sized = c.requires.printable.sized; room = omega (arith, c.requires.room, summary.most, put-length summary.put) }
 
-pub returns-in-Clash : goal.returns-in-Clash
-unfolding line_end
-returns-in-Clash c =
+pub put-requires : goal.put-requires
+put-requires c =
+    let place = c.put_place.ensures.written in
+    omega (arith, c.requires.room, place.most, put-length place.put)
+
+pub returns-in-Restored-clause-written : goal.returns-in-Restored-clause-written
+returns-in-Restored-clause-written c =
     let a = c.args in
     let rows = grid (plan_of a.plan) a.stripe.now a.marks.now in
-    behind a.text.now _ line_end c.put_place.ensures.after c.put.ensures ∙ ap (λ l. a.text.now ++ l) (place-follows a.plan a.report rows c.in-Clash.is)
+    put_is (sym (end-follows a.plan a.report rows c.in-Restored.is)) (put_then c.put_summary.ensures.written.put c.put_grid.ensures.written)
+
+pub returns-in-Clash-clause-written : goal.returns-in-Clash-clause-written
+unfolding line_end
+returns-in-Clash-clause-written c =
+    let a = c.args in
+    let rows = grid (plan_of a.plan) a.stripe.now a.marks.now in
+    put_is (sym (place-follows a.plan a.report rows c.in-Clash.is)) (put_then c.put_place.ensures.written.put c.put.ensures.written)

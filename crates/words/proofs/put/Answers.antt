@@ -1,13 +1,8 @@
--- `put`: what search leaves open, by the lemmas of Stores. Assumes nothing.
-use mathlib.Core.Path.{refl, ap, ◌∙◌}
-use lib.ListN.{length}
-use lib.Seq.{sets}
-use Rattle.words.proofs.Stores.{part-written}
+-- `put`: what search leaves open, by the lemmas of Writing.
+use mathlib.Core.Path.{refl}
+use native.Mathlib.Omega.{arith}
+use Rattle.words.proofs.Writing.{writing-turns}
 use Rattle.words.proofs.put.Goals as goal
 
-pub returns : goal.returns
-returns c = let a = c.args in record {
-  reached = refl;
-  inside = c.requires;
-  written = part-written a.at _ _ a.out.now (ap length c.copy_from_slice.ensures.after) c.requires ∙ ap (sets a.out.now a.at) c.copy_from_slice.ensures.after;
-}
+pub loop-i-preserved : goal.loop-i-preserved
+loop-i-preserved c = writing-turns _ _ _ c.loop-i.invariant (omega arith) refl refl

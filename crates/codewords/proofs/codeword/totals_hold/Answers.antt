@@ -1,9 +1,11 @@
 -- The goals of `totals_hold` that the search leaves open.
-use mathlib.Core.Path.{◌≡◌, sym, subst, ◌∙◌}
+use mathlib.Core.Path.{◌≡◌, sym, ap, subst, ◌∙◌}
 use Prim.Native.Nat.{ℕ, ◌-◌, ◌≤◌}
 use native.Mathlib.Omega.{arith}
 use lib.Dec.{T}
+use Rattle.std.specs.declared.slice.ChunksExact.{ChunksExact}
 use lib.ListN.{length}
+use Rattle.std.proofs.Common.{rules}
 use Rattle.field.proofs.Laws.{IsField}
 use Rattle.field.proofs.Fields.{our-field}
 use Rattle.plans.specs.Plan.{known, plan_of}
@@ -25,7 +27,7 @@ loop-weights-init c =
     let p = c.args.plan in
     let k = its-known p c.args.level c.requires.above c.requires.within in
     let size : c.into_iter-weights-iterator.result.size ≡ (plan_of p).rows = cc (c.facts_of-facts.ensures.rows) in
-    let all : c.into_iter-weights-iterator.result.rest.now ≡ weight_table (plan_of p) c.args.level = cc in
+    let all : c.into_iter-weights-iterator.result.rest.now ≡ weight_table (plan_of p) c.args.level = ap (λ (i : ChunksExact ℕ). i.rest.now) c.into_iter-weights-iterator.ensures.into_iter_gives ∙ c.chunks_exact-weights-items.ensures.rest ∙ c.weights.ensures in
     let K = subst IsField c.facts_of-facts.ensures.field.names (our-field c.facts_of-facts.result.field) in
     record { can = rw size (rows-pos p k); ends = tt; size = size; walk = rw all (weights-cut p c.args.level k K c.args.stripe.now) }
 

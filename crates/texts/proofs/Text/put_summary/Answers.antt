@@ -1,6 +1,6 @@
 -- Level, rows left and the counts stand one behind the other, and a line feed behind them. Assumes nothing.
-use mathlib.Core.List.{◌++◌, flat_map}
-use mathlib.Core.Path.{◌≡◌, sym, ap, ◌∙◌, subst}
+use mathlib.Core.List.{flat_map}
+use mathlib.Core.Path.{◌≡◌, sym, ap, subst}
 use Prim.Native.Nat.{ℕ, ◌≤◌}
 use native.Mathlib.Omega.{arith}
 use lib.Dec.{T}
@@ -11,9 +11,10 @@ use Rattle.plans.specs.Refusal.{all_below}
 use Rattle.plans.specs.declared.Report.{Report}
 use Rattle.plans.proofs.Plans.{levels-most}
 use Rattle.numbers.proofs.Values.{end_below}
+use Rattle.words.proofs.Writing.{put-length, put_then, put_is}
 use Rattle.texts.specs.Text.{bytes, item, line_end}
 use Rattle.texts.specs.Parts.{numbers}
-use Rattle.texts.proofs.Texts.{behind, longer, end-text}
+use Rattle.texts.proofs.Texts.{end-text}
 use Rattle.texts.proofs.Text.put_summary.Goals as goal
 
 -- there are counts, up to 3
@@ -26,7 +27,17 @@ put_item-requires c =
 
 pub put_item-requires-2 : goal.put_item-requires-2
 put_item-requires-2 c =
-    record { small = (end_below numbers (plan_of c.args.plan) c.args.report c.requires.small).1; room = omega (arith, c.requires.room, c.put_item.ensures.most) }
+    let level = c.put_item.ensures.written in
+    record {
+      small = (end_below numbers (plan_of c.args.plan) c.args.report c.requires.small).1;
+      room = omega (arith, c.requires.room, level.most, put-length level.put);
+    }
+
+pub put-requires : goal.put-requires
+put-requires c =
+    let level = c.put_item.ensures.written in
+    let left = c.put_item-2.ensures.written in
+    omega (arith, c.requires.room, level.most, put-length level.put, left.most, put-length left.put)
 
 pub slice_bounds-rows-end : goal.slice_bounds-rows-end
 slice_bounds-rows-end c = omega (arith, counts c.args.plan c.args.report (omega arith) c.facts_of-levels.ensures.levels)
@@ -35,34 +46,42 @@ pub slice_bounds-put_counts-end : goal.slice_bounds-put_counts-end
 slice_bounds-put_counts-end c = sym (counts c.args.plan c.args.report (omega arith) c.facts_of-levels.ensures.levels).0
 
 pub put_counts-requires : goal.put_counts-requires
-unfolding bytes
 put_counts-requires c =
     let levels = c.facts_of-levels.ensures.levels in
     let some = counts c.args.plan c.args.report (omega arith) levels in
+    let level = c.put_item.ensures.written in
+    let left = c.put_item-2.ensures.written in
+    let rows = c.put.ensures.written in
     record {
       small =
           subst (λ n. T (all_below numbers (take n c.args.report.rows))) (sym levels)
           (end_below numbers (plan_of c.args.plan) c.args.report c.requires.small).2;
-      room = omega (arith, c.requires.room, c.put_item.ensures.most, c.put_item-2.ensures.most, longer c.put_item-2.new.self (bytes " rows") c.put.ensures, some);
+      room =
+          omega (arith, c.requires.room, level.most, put-length level.put, left.most, put-length left.put, rows.reached, put-length rows, some);
     }
 
-pub returns : goal.returns
+pub put-requires-2 : goal.put-requires-2
+put-requires-2 c =
+    let some = counts c.args.plan c.args.report (omega arith) c.facts_of-levels.ensures.levels in
+    let level = c.put_item.ensures.written in
+    let left = c.put_item-2.ensures.written in
+    let rows = c.put.ensures.written in
+    let each = c.put_counts.ensures.written in
+    omega (arith, c.requires.room, level.most, put-length level.put, left.most, put-length left.put, rows.reached, put-length rows, each.most, put-length each.put, some)
+
+pub returns-clause-written : goal.returns-clause-written
 unfolding bytes item line_end
-returns c =
-    let text = c.args.self.now in
+returns-clause-written c =
     let r = c.args.report in
-    let level = item " level " r.level in
-    let left = item " left " r.left in
-    let rows = flat_map (item " ") (take c.facts_of-levels.result.levels r.rows) in
     let levels = c.facts_of-levels.ensures.levels in
     let some = counts c.args.plan r (omega arith) levels in
-    let front = behind text level left c.put_item.ensures.after c.put_item-2.ensures.after in
-    let counted = behind text (level ++ left ++ bytes " rows") rows (behind text (level ++ left) (bytes " rows") front c.put.ensures) c.put_counts.ensures.after in
-    let values =
-    ap (λ n. level ++ left ++ bytes " rows" ++ flat_map (item " ") (take n r.rows)) levels
-    ∙ sym (end-text c.args.plan c.requires.plan-known r (omega arith)) in
+    let level = c.put_item.ensures.written in
+    let left = c.put_item-2.ensures.written in
+    let rows = c.put.ensures.written in
+    let each = c.put_counts.ensures.written in
+    let front = put_then (put_then level.put left.put) rows in
+    let counted = put_is (ap (λ n. flat_map (item " ") (take n r.rows)) (sym levels)) each.put in
     record {
-      after = behind text _ line_end (counted ∙ ap (λ l. text ++ l) values) c.put-2.ensures;
-      most =
-          omega (arith, c.put_item.ensures.most, c.put_item-2.ensures.most, longer c.put_item-2.new.self (bytes " rows") c.put.ensures, c.put_counts.ensures.most, some, longer c.put_counts.new.self line_end c.put-2.ensures);
+      put = put_then (put_is (end-text c.args.plan c.requires.plan-known r (omega arith)) (put_then front counted)) c.put-2.ensures.written;
+      most = omega (arith, level.most, left.most, rows.reached, each.most, some, c.put-2.ensures.written.reached);
     }

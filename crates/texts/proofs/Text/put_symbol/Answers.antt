@@ -1,15 +1,19 @@
 -- One digit, or two. Assumes nothing.
-use mathlib.Core.List.{◌++◌}
-use mathlib.Core.Path.{sym, ap, ◌∙◌}
+use mathlib.Core.Logic.{◌≢◌}
+use mathlib.Core.Path.{◌≡◌}
+use native.Mathlib.Omega.{arith}
+use Rattle.words.proofs.Writing.{put_is}
 use Rattle.texts.proofs.Texts.{one-shown, two-shown}
 use Rattle.texts.proofs.Text.put_symbol.Goals as goal
 
-pub returns-then-digits-eq1 : goal.returns-then-digits-eq1
-returns-then-digits-eq1 c =
+pub returns-then-is_alone-clause-written : goal.returns-then-is_alone-clause-written
+returns-then-is_alone-clause-written c =
     let a = c.args in
-    c.push.ensures ∙ ap (λ l. a.self.now ++ l) (sym (one-shown a.marked a.symbol c.if-digits-eq1.true c.digit-low.ensures))
+    let one : a.digits ≡ 1 = omega (arith, c.requires.digits.some, c.if-is_alone.true) in
+    put_is (one-shown a.marked a.symbol one c.digit-low.ensures) c.push.ensures.written
 
-pub returns-else-digits-eq1 : goal.returns-else-digits-eq1
-returns-else-digits-eq1 c =
+pub returns-else-is_alone-clause-written : goal.returns-else-is_alone-clause-written
+returns-else-is_alone-clause-written c =
     let a = c.args in
-    c.put.ensures ∙ ap (λ l. a.self.now ++ l) (sym (two-shown a.marked a.symbol c.requires.digits c.if-digits-eq1.false c.digit.ensures c.digit-low.ensures))
+    let more : a.digits ≢ 1 = λ e. omega (arith, e, c.if-is_alone.false) in
+    put_is (two-shown a.marked a.symbol c.requires.digits more c.digit.ensures c.digit-low.ensures) c.put.ensures.written

@@ -11,8 +11,9 @@ use Rattle.plans.specs.Rooms.{row_room, symbol_room}
 use Rattle.plans.proofs.Plans.{Shape, shape}
 use Rattle.files.specs.File.{plan_in, symbols_in, marks_in, file_refusal}
 use Rattle.files.proofs.Files.{file-fit}
+use Rattle.words.proofs.Writing.{put_is}
 use Rattle.texts.specs.Text.{mend_text}
-use Rattle.printing.proofs.loaded_text.Goals as goal
+use Rattle.printing.proofs.put_loaded.Goals as goal
 
 -- a plan p that is the file's
 module _ (file : List ℕ) (ask : file_refusal file unasked ≡ 0) {p : ℕ} (e : p ≡ plan_in file) where
@@ -42,20 +43,20 @@ module _ (file : List ℕ) (ask : file_refusal file unasked ≡ 0) {p : ℕ} (e 
     rows-lent = length-take-le n (replicate row_room 0) rows-le
 
 pub slice_bounds-stripe-end : goal.slice_bounds-stripe-end
-slice_bounds-stripe-end c = symbols-le c.args.file.now c.requires c.plan_in-plan.ensures c.facts_of-facts.ensures.symbols
+slice_bounds-stripe-end c = symbols-le c.args.file.now c.requires.fit c.plan_in-plan.ensures c.facts_of-facts.ensures.symbols
 
-pub slice_bounds-mended_text-end : goal.slice_bounds-mended_text-end
-slice_bounds-mended_text-end c = sym (symbols-lent c.args.file.now c.requires c.plan_in-plan.ensures c.facts_of-facts.ensures.symbols)
+pub slice_bounds-put_mended-end : goal.slice_bounds-put_mended-end
+slice_bounds-put_mended-end c = sym (symbols-lent c.args.file.now c.requires.fit c.plan_in-plan.ensures c.facts_of-facts.ensures.symbols)
 
 pub slice_bounds-marks-end : goal.slice_bounds-marks-end
-slice_bounds-marks-end c = rows-le c.args.file.now c.requires c.plan_in-plan.ensures c.facts_of-facts.ensures.rows
+slice_bounds-marks-end c = rows-le c.args.file.now c.requires.fit c.plan_in-plan.ensures c.facts_of-facts.ensures.rows
 
-pub slice_bounds-mended_text-end-2 : goal.slice_bounds-mended_text-end-2
-slice_bounds-mended_text-end-2 c = sym (rows-lent c.args.file.now c.requires c.plan_in-plan.ensures c.facts_of-facts.ensures.rows)
+pub slice_bounds-put_mended-end-2 : goal.slice_bounds-put_mended-end-2
+slice_bounds-put_mended-end-2 c = sym (rows-lent c.args.file.now c.requires.fit c.plan_in-plan.ensures c.facts_of-facts.ensures.rows)
 
-pub mended_text-requires : goal.mended_text-requires
-mended_text-requires c =
-    let ask = c.requires in
+pub put_mended-requires : goal.put_mended-requires
+put_mended-requires c =
+    let ask = c.requires.fit in
     let e = c.plan_in-plan.ensures in
     let facts = c.facts_of-facts.ensures in
     record {
@@ -65,9 +66,10 @@ mended_text-requires c =
         long = symbols-lent c.args.file.now ask e facts.symbols ∙ symbols c.args.file.now ask e facts.symbols;
         words = rows-lent c.args.file.now ask e facts.rows ∙ rows c.args.file.now ask e facts.rows;
       };
+      room = c.requires.room;
     }
 
-pub returns : goal.returns
-returns c =
+pub returns-clause-written : goal.returns-clause-written
+returns-clause-written c =
     let file = c.args.file.now in
-    c.mended_text.ensures ∙ ap (λ k. mend_text k (symbols_in file) (marks_in file)) c.plan_in-plan.ensures
+    put_is (ap (λ k. mend_text k (symbols_in file) (marks_in file)) (sym c.plan_in-plan.ensures)) c.put_mended.ensures.written
