@@ -61,8 +61,9 @@ module _ (b : Bench) {q : Gf} {rows n totals : ℕ} {weights : List ℕ} (w : We
     wide : length (part (j * n) n checks) ≡ (plan_of b.plan).columns
     wide = check-length w.is table (suc b.level) asked.check ∙ w.is.wide
 
-    pub across-fits : length column * length (part (j * n) n checks) ≤ length b.symbols
-    across-fits = rw (asked.places, wide) asked.symbols
+    -- what has room for the plan's symbols has it for the rows that are summed
+    pub across-fits : {room : ℕ} → (plan_of b.plan).rows * (plan_of b.plan).columns ≤ room → length column * length (part (j * n) n checks) ≤ room
+    across-fits fits = rw (asked.places, wide) fits
 
     module _ {made : List ℕ} (e : made ≡ row_sums (field_of q) (length column) b.symbols (part (j * n) n checks)) where
       made-is : made ≡ column_of b j

@@ -45,13 +45,17 @@ pub record KeepReady (at : ℕ) (column learned : List ℕ) : Type 0 where
   pub place : at < sum_room
   pub sums : length column * sum_room ≤ length learned
 
--- room for the plan's symbols, check j of the next level, rows as they are lossy, a place for each row's sum
+-- check j of the next level, rows as they are lossy, a place for each row's sum
 pub record ColumnReady (b : Bench) (lossy j : ℕ) (column : List ℕ) : Type 0 where
-  pub symbols : (plan_of b.plan).rows * (plan_of b.plan).columns ≤ length b.symbols
   pub level : b.level < length (plan_of b.plan).levels
   pub check : j < length (checks_to (plan_of b.plan) (suc b.level))
   pub rows : lossy < 2 ^ (plan_of b.plan).rows
   pub places : length column ≡ (plan_of b.plan).rows
+
+-- the same, and room for the plan's symbols
+pub record ColumnLent (b : Bench) (lossy j : ℕ) (column : List ℕ) : Type 0 where
+  pub symbols : (plan_of b.plan).rows * (plan_of b.plan).columns ≤ length b.symbols
+  pub ready : ColumnReady b lossy j column
 
 -- a level below the last, and lists with room for the plan
 pub record LearnReady (b : Bench) : Type 0 where

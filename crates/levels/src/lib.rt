@@ -11,7 +11,7 @@ ghost use Rattle.plans.specs.Answers.{numbered};
 ghost use Rattle.plans.specs.Plan.{plan_of};
 ghost use Rattle.steps.specs.Steps.{stepped, new_sums, keep_sums, level_fill, level_step_by, level_step};
 ghost use Rattle.steps.specs.Parts.{bench_of};
-ghost use Rattle.levels.specs.Learned.{column_of, column_fill, learning_of, KeepReady, ColumnReady, LearnReady};
+ghost use Rattle.levels.specs.Learned.{column_of, column_fill, learning_of, KeepReady, ColumnLent, LearnReady};
 
 use linear::FillAnswer;
 use plans::{Bench, LEARNED, ROWS, Refusal, SUMS, Step, TOTALS};
@@ -45,7 +45,7 @@ fn learn_column(
     j: usize,
     column: &mut [u8],
 ) -> FillAnswer
-    requires { ColumnReady (bench_of plan level symbols.now [] []) lossy j column.old }
+    requires { ColumnLent (bench_of plan level symbols.now [] []) lossy j column.old }
     ensures value { result ≡ answer_of (column_fill (bench_of plan level symbols.now [] []) (bits_of (plan_of plan).rows lossy) j) }
     ensures column_after { column.new
         ≡ vector_of (column_fill (bench_of plan level symbols.now [] []) (bits_of (plan_of plan).rows lossy) j)

@@ -76,10 +76,7 @@ learn_column-requires c =
     let s = c.loop-j.invariant in
     record {
       symbols = c.requires.room.stripe.size;
-      level = c.requires.level;
-      check = learned-here s c.loop-j-test.true;
-      rows = s.small;
-      places = column-long c.args.plan s.high ∙ s.high;
+      ready = record { level = c.requires.level; check = learned-here s c.loop-j-test.true; rows = s.small; places = column-long c.args.plan s.high ∙ s.high };
     }
 
 pub returns-in-None : goal.returns-in-None
